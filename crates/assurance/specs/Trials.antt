@@ -1,0 +1,124 @@
+-- The starred trial sheets of document 01, K1 to K8, as one statement about the definitions, which compute them.
+use Prim.Native.Nat.{ℕ}
+use mathlib.Core.Bool.{Bool, false}
+use mathlib.Core.Path.{_≡_, refl}
+use mathlib.Core.List.{List, [], _∷_, _++_}
+use Rattle.folds.specs.Folds.{all, any, sum, greatest, first, leading, least, listed, gather}
+use Rattle.folds.specs.Answers.{Answer, value, refused, andThen}
+use Rattle.numbers.specs.Number.{numberAt}
+use Rattle.commands.specs.Commands.{judge, readFrom, readAll}
+use Rattle.sheet.specs.Sheet.{Sheet, Task, Link, taskCount, linkCount, workOf, storeOf, sourceOf, targetOf, costOf, bytesOf}
+use Rattle.sheet.specs.Format.{joinsBy, joins, readForm}
+use Rattle.sheet.specs.Writing.{sheetBytes}
+use Rattle.graph.specs.Graph.{reachesBy, reaches, onCircle, circle, levelBy, levelWithin, level, readSheet}
+use Rattle.bundle.specs.Bundle.{Command, run, send, receive, Bundle, programmeCount, programmeOf}
+use Rattle.bundle.specs.Format.{readBundle}
+use Rattle.bundle.specs.Format as bundles
+use Rattle.sheet.specs.Format as sheets
+use Rattle.bundle.specs.Writing.{bundleBytes}
+use Rattle.messages.specs.Counting.{weigh, wholeOf, whole, is}
+use Rattle.messages.specs.Messages.{notOnce, holds, home, before, insideOk, acrossOk, wrongMessage, overStore, at26, at27, at28}
+use Rattle.machine.specs.Machine.{processorOf, stampOf, next, step, canStep}
+use Rattle.machine.specs.Runs.{clockOf, latest, settle, settled}
+use Rattle.checker.specs.Checker.{unfinished, at29, at30, closing, checked, check}
+use Rattle.planner.specs.Schedule.{Schedule, placeOf, startOf, finishOf, placed, stands}
+use Rattle.planner.specs.Placing.{comes, lacks, satisfied, ready, partlyReady, arrivalBy, arrival, priority, ahead, firstReady, firstPartlyReady, endBy, endOf, startBy, startFrom, startOn, storeBy, bytesBy, storeOn, fits, holdsBy, holdsPredecessor, startWith, bestStart, endsWith, delays, barred, followsBy, follows, spentBy, spent}
+use Rattle.planner.specs.Planner.{mayJoin, join, mayTake, idle, another, lastResort, choice, turn, turns, plannedBy, planned, brings, takesAway, receiveOf, sendOf, blockOf, blocks, programme, claimOf, bundleOf, plan}
+use Rattle.listing.specs.Listing.{decimalWithin, decimal, planLine, taskLine, refusalLine, scheduleLines, listing}
+
+abbrev task : ℕ → ℕ → Task
+task w s = record { work = w; store = s }
+
+abbrev link : ℕ → ℕ → ℕ → ℕ → Link
+link a b c d = record { source = a; target = b; cost = c; bytes = d }
+
+-- K1's graph on p processors of store limit m, with work w for task 2
+abbrev pub sheetK : ℕ → ℕ → ℕ → Sheet
+sheetK p m w =
+    record { processors = p; limit = m; tasks = task 1 10 ∷ task 3 10 ∷ task w 10 ∷ task 2 10 ∷ []; links = link 3 2 1 4 ∷ link 3 1 2 4 ∷ link 0 1 1 4 ∷ [] }
+
+abbrev pub k1 : Sheet
+k1 = sheetK 3 100 2
+
+-- K1's bundle with this claim
+abbrev pub bundleK : ℕ → List ℕ
+bundleK c =
+    0x50 ∷ 0x00 ∷ 0x52 ∷ 0x03 ∷ 0x53 ∷ 0x00 ∷ 0x00 ∷ 0x56 ∷ 0x02 ∷ 0x00 ∷ 0x52 ∷ 0x01 ∷
+    0x50 ∷ 0x01 ∷ 0x52 ∷ 0x00 ∷ 0x53 ∷ 0x02 ∷ 0x00 ∷ 0x56 ∷ 0x00 ∷ 0x00 ∷ 0x52 ∷ 0x02 ∷
+    0x5A ∷ c ∷ 0x00 ∷ 0x00 ∷ 0x00 ∷ []
+
+-- "PLAN 2 5", "0 1 0 1", "1 0 2 5", "2 1 3 5", "3 0 0 2"
+abbrev pub listingK : List ℕ
+listingK =
+    0x50 ∷ 0x4C ∷ 0x41 ∷ 0x4E ∷ 0x20 ∷ 0x32 ∷ 0x20 ∷ 0x35 ∷ 0x0A ∷
+    0x30 ∷ 0x20 ∷ 0x31 ∷ 0x20 ∷ 0x30 ∷ 0x20 ∷ 0x31 ∷ 0x0A ∷
+    0x31 ∷ 0x20 ∷ 0x30 ∷ 0x20 ∷ 0x32 ∷ 0x20 ∷ 0x35 ∷ 0x0A ∷
+    0x32 ∷ 0x20 ∷ 0x31 ∷ 0x20 ∷ 0x33 ∷ 0x20 ∷ 0x35 ∷ 0x0A ∷
+    0x33 ∷ 0x20 ∷ 0x30 ∷ 0x20 ∷ 0x30 ∷ 0x20 ∷ 0x32 ∷ 0x0A ∷ []
+
+-- the claim of a schedule
+abbrev claimed : Sheet → Answer Schedule → Answer ℕ
+claimed s a = andThen a (λ σ. value (claimOf s σ))
+
+abbrev unguarded : Schedule → ℕ → ℕ → Bool
+unguarded σ t k = false
+
+abbrev pub k5 : Sheet
+k5 = record { processors = 2; limit = 6; tasks = task 1 3 ∷ task 1 3 ∷ task 1 2 ∷ task 1 2 ∷ task 1 2 ∷ []; links = [] }
+
+abbrev pub bundleK5 : Bundle
+bundleK5 = record { programmes = (run 0 ∷ run 1 ∷ []) ∷ (run 2 ∷ run 3 ∷ run 4 ∷ []) ∷ []; claim = 3 }
+
+abbrev pub k6 : Sheet
+k6 = record { processors = 2; limit = 0; tasks = task 1 0 ∷ task 1 0 ∷ task 1 0 ∷ task 1 0 ∷ []; links = link 0 1 0 0 ∷ link 2 3 0 0 ∷ [] }
+
+abbrev pub bundleK6 : Bundle
+bundleK6 =
+    record { programmes = (receive 1 ∷ run 3 ∷ run 0 ∷ send 0 ∷ []) ∷ (receive 0 ∷ run 1 ∷ run 2 ∷ send 1 ∷ []) ∷ []; claim = 3 }
+
+abbrev pub k8 : List Link → Sheet
+k8 ls = record { processors = 2; limit = 0; tasks = task 1 0 ∷ task 1 0 ∷ task 1 0 ∷ []; links = ls }
+
+pub record Trials : Type 0 where
+  pub k1-read : readSheet (sheetBytes k1) ≡ value k1
+  pub k1-levels : level k1 0 ∷ level k1 1 ∷ level k1 2 ∷ level k1 3 ∷ [] ≡ 5 ∷ 3 ∷ 2 ∷ 7 ∷ []
+  pub k1-bundle : plan (sheetBytes k1) ≡ value (bundleK 5)
+  pub k1-listing : listing (sheetBytes k1) ≡ listingK
+  pub k2 : planned (sheetK 1 100 2) ≡ value (record { on = 0 ∷ 0 ∷ 0 ∷ 0 ∷ []; start = 2 ∷ 3 ∷ 6 ∷ 0 ∷ []; finish = 3 ∷ 6 ∷ 8 ∷ 2 ∷ []; order = 3 ∷ 0 ∷ 1 ∷ 2 ∷ []; opened = 1 })
+  pub k2-claim : claimed (sheetK 1 100 2) (planned (sheetK 1 100 2)) ≡ value 8
+  pub k3 : planned (sheetK 3 100 3) ≡ value (record { on = 2 ∷ 0 ∷ 1 ∷ 0 ∷ []; start = 0 ∷ 2 ∷ 3 ∷ 0 ∷ []; finish = 1 ∷ 5 ∷ 6 ∷ 2 ∷ []; order = 3 ∷ 2 ∷ 0 ∷ 1 ∷ []; opened = 3 })
+  pub k3-claim : claimed (sheetK 3 100 3) (planned (sheetK 3 100 3)) ≡ value 6
+  pub k3-unguarded : claimed (sheetK 3 100 3) (plannedBy (sheetK 3 100 3) unguarded) ≡ value 7
+  pub k4-24 : plan (sheetBytes (sheetK 3 24 2)) ≡ value (bundleK 5)
+  pub k4-23 : planned (sheetK 3 23 2) ≡ value (record { on = 1 ∷ 2 ∷ 0 ∷ 0 ∷ []; start = 0 ∷ 4 ∷ 2 ∷ 0 ∷ []; finish = 1 ∷ 7 ∷ 4 ∷ 2 ∷ []; order = 3 ∷ 0 ∷ 1 ∷ 2 ∷ []; opened = 3 })
+  pub k4-23-claim : claimed (sheetK 3 23 2) (planned (sheetK 3 23 2)) ≡ value 7
+  pub k5-refused : plan (sheetBytes k5) ≡ refused 11 4
+  pub k5-accepted : check (sheetBytes k5) (bundleBytes bundleK5) ≡ value bundleK5
+  pub k6-stuck : check (sheetBytes k6) (bundleBytes bundleK6) ≡ refused 29 0
+  pub k7-claim : check (sheetBytes k1) (bundleK 6) ≡ refused 30 5
+  pub k8-self : readSheet (sheetBytes (k8 (link 0 0 0 0 ∷ []))) ≡ refused 10 0
+  pub k8-circle : readSheet (sheetBytes (k8 (link 0 1 0 0 ∷ link 1 2 0 0 ∷ link 2 1 0 0 ∷ []))) ≡ refused 10 1
+
+pub trials : Trials
+unfolding all any sum greatest first leading least listed gather numberAt judge readFrom readAll taskCount linkCount workOf storeOf sourceOf targetOf costOf bytesOf joinsBy joins readForm sheetBytes reachesBy reaches onCircle circle levelBy levelWithin level readSheet programmeCount programmeOf readBundle bundleBytes weigh wholeOf whole is notOnce holds home before insideOk acrossOk wrongMessage overStore at26 at27 at28 processorOf stampOf next step canStep clockOf latest settle settled unfinished at29 at30 closing checked check placeOf startOf finishOf placed stands comes lacks satisfied ready partlyReady arrivalBy arrival priority ahead firstReady firstPartlyReady endBy endOf startBy startFrom startOn storeBy bytesBy storeOn fits holdsBy holdsPredecessor startWith bestStart endsWith delays barred followsBy follows spentBy spent mayJoin join mayTake idle another lastResort choice turn turns plannedBy planned brings takesAway receiveOf sendOf blockOf blocks programme claimOf bundleOf plan decimalWithin decimal planLine taskLine refusalLine scheduleLines listing sheets.fault sheets.ended bundles.fault bundles.ended
+trials =
+    record {
+      k1-read = refl;
+      k1-levels = refl;
+      k1-bundle = refl;
+      k1-listing = refl;
+      k2 = refl;
+      k2-claim = refl;
+      k3 = refl;
+      k3-claim = refl;
+      k3-unguarded = refl;
+      k4-24 = refl;
+      k4-23 = refl;
+      k4-23-claim = refl;
+      k5-refused = refl;
+      k5-accepted = refl;
+      k6-stuck = refl;
+      k7-claim = refl;
+      k8-self = refl;
+      k8-circle = refl;
+    }

@@ -1,0 +1,3 @@
+pub mod Bundle
+pub mod Format
+pub mod Writing

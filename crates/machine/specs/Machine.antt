@@ -1,0 +1,73 @@
+-- The machine: processors with a clock, a position and a store in use, the stamps of the messages sent, and one step.
+use Prim.Native.Nat.{ℕ, suc, _+_, max}
+use mathlib.Core.Bool.{Bool, true, false}
+use mathlib.Core.Option.{Option, none, some}
+use mathlib.Core.List.{List}
+use lib.ListN.{getD, set, replicate, getElem?}
+use Rattle.folds.specs.Folds.{then}
+use Rattle.sheet.specs.Sheet.{Sheet, workOf, costOf, linkCount}
+use Rattle.bundle.specs.Bundle.{Command, run, send, receive, Bundle, programmeCount, programmeOf}
+use Rattle.messages.specs.Counting.{need}
+
+pub record Processor : Type 0 where
+  pub clock : ℕ
+  pub position : ℕ
+  pub store : ℕ
+
+pub record State : Type 0 where
+  pub processors : List Processor
+  pub stamps : List (Option ℕ)
+
+abbrev pub freshProcessor : Processor
+freshProcessor = record { clock = 0; position = 0; store = 0 }
+
+-- "every programme at its first command, clocks and stores in use 0, nothing sent"
+abbrev pub freshState : Sheet → Bundle → State
+freshState s b = record { processors = replicate (programmeCount b) freshProcessor; stamps = replicate (linkCount s) none }
+
+unfoldable pub processorOf : State → ℕ → Processor
+processorOf σ k = getD (σ .processors) k freshProcessor
+
+unfoldable pub stampOf : State → ℕ → Option ℕ
+stampOf σ l = getD (σ .stamps) l none
+
+-- the next command of processor k
+unfoldable pub next : Bundle → State → ℕ → Option Command
+next b σ k = getElem? (programmeOf b k) (processorOf σ k .position)
+
+-- the time that a command waits for: its message's stamp at a receive, none while that is not sent; 0 at the others
+abbrev pub waits : State → Command → Option ℕ
+waits σ (run t) = some 0
+waits σ (send l) = some 0
+waits σ (receive l) = stampOf σ l
+
+-- what a command adds to the clock
+abbrev pub takes : Sheet → Command → ℕ
+takes s (run t) = workOf s t
+takes s (send l) = 0
+takes s (receive l) = 0
+
+-- the processor p after the command c, which waited for the time w
+abbrev pub after : Sheet → Command → ℕ → Processor → Processor
+after s c w p = record { clock = max (p .clock) w + takes s c; position = suc (p .position); store = p .store + need s c }
+
+-- the stamps after the command c at the clock t: "send stamps the message with clock + cost"
+abbrev pub posted : Sheet → Command → ℕ → List (Option ℕ) → List (Option ℕ)
+posted s (run u) t m = m
+posted s (send l) t m = set m l (some (t + costOf s l))
+posted s (receive l) t m = m
+
+abbrev pub moved : Sheet → State → ℕ → Command → ℕ → State
+moved s σ k c w =
+    record { processors = set (σ .processors) k (after s c w (processorOf σ k)); stamps = posted s c (processorOf σ k .clock) (σ .stamps) }
+
+-- the state after one command of processor k; none where it cannot step, or names no programme
+unfoldable pub step : Sheet → Bundle → State → ℕ → Option State
+step s b σ k = then (next b σ k) (λ c. then (waits σ c) (λ w. some (moved s σ k c w)))
+
+abbrev pub holdsSome : {X : Type 0} → Option X → Bool
+holdsSome none = false
+holdsSome (some x) = true
+
+unfoldable pub canStep : Sheet → Bundle → State → ℕ → Bool
+canStep s b σ k = holdsSome (step s b σ k)

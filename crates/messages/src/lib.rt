@@ -1,0 +1,1 @@
+// What stands where in a bundle: run counts, messages and store.

@@ -1,0 +1,35 @@
+// Unsigned numbers of 16 and 32 bits in a slice of bytes, lowest byte first.
+ghost use mathlib.Core.Path.{_≡_};
+ghost use Prim.Native.Nat.{_+_, _≤_};
+ghost use lib.ListN.{length};
+ghost use Rattle.numbers.specs.Number.{numberAt, numberBytes, stored};
+
+pub fn get16(s: &[u8], at: usize) -> u16
+    requires { ⌜ at + 2 ≤ length (now s) ⌝ }
+    ensures { λ r. ⌜ r ≡ numberAt 2 (now (s .entry)) at ⌝ }
+{
+    (s[at] as u16) + 256 * (s[at + 1] as u16)
+}
+
+pub fn get32(s: &[u8], at: usize) -> u32
+    requires { ⌜ at + 4 ≤ length (now s) ⌝ }
+    ensures { λ r. ⌜ r ≡ numberAt 4 (now (s .entry)) at ⌝ }
+{
+    (get16(s, at) as u32) + 65536 * (get16(s, at + 2) as u32)
+}
+
+pub fn put16(s: &mut [u8], at: usize, v: u16)
+    requires { ⌜ at + 2 ≤ length (now s) ⌝ }
+    ensures { λ _. ⌜ now (s .exit) ≡ stored (now (s .entry)) at (numberBytes 2 v) ⌝ }
+{
+    s[at] = (v % 256) as u8;
+    s[at + 1] = (v / 256 % 256) as u8;
+}
+
+pub fn put32(s: &mut [u8], at: usize, v: u32)
+    requires { ⌜ at + 4 ≤ length (now s) ⌝ }
+    ensures { λ _. ⌜ now (s .exit) ≡ stored (now (s .entry)) at (numberBytes 4 v) ⌝ }
+{
+    put16(s, at, (v % 65536) as u16);
+    put16(s, at + 2, (v / 65536) as u16);
+}

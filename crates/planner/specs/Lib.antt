@@ -1,0 +1,3 @@
+pub mod Schedule
+pub mod Placing
+pub mod Planner

@@ -1,0 +1,131 @@
+-- What a turn of placing asks: who is ready, who goes first, where a task fits and starts, and what the guard bars.
+-- The term of each fold has a name of its own, which the loops of the code cite.
+use Prim.Native.Nat.{ℕ, _+_, max}
+use mathlib.Core.Bool.{Bool, false, not}
+use mathlib.Core.Option.{Option, none, some}
+use lib.Dec.{ltb, leb, eqb}
+use Rattle.folds.specs.Folds.{pick, both, either, any, all, sum, greatest, leading, least}
+use Rattle.sheet.specs.Sheet.{Sheet, taskCount, linkCount, workOf, storeOf, sourceOf, targetOf, costOf, bytesOf}
+use Rattle.graph.specs.Graph.{level}
+use Rattle.planner.specs.Schedule.{Schedule, finishOf, placed, stands, put}
+
+module _ (s : Sheet) where
+  -- link l leads to t from a placed task; from one that is not placed; it leads elsewhere, or from a placed task
+  unfoldable pub comes : Schedule → ℕ → ℕ → Bool
+  comes σ t l = both (eqb (targetOf s l) t) (placed σ (sourceOf s l))
+
+  unfoldable pub lacks : Schedule → ℕ → ℕ → Bool
+  lacks σ t l = both (eqb (targetOf s l) t) (not (placed σ (sourceOf s l)))
+
+  unfoldable pub satisfied : Schedule → ℕ → ℕ → Bool
+  satisfied σ t l = either (not (eqb (targetOf s l) t)) (placed σ (sourceOf s l))
+
+  -- "ready when it is unplaced and all its predecessors are placed"
+  unfoldable pub ready : Schedule → ℕ → Bool
+  ready σ t = both (not (placed σ t)) (all (linkCount s) (satisfied σ t))
+
+  -- "partly ready when some are placed and some not"
+  unfoldable pub partlyReady : Schedule → ℕ → Bool
+  partlyReady σ t = both (not (placed σ t)) (both (any (linkCount s) (comes σ t)) (any (linkCount s) (lacks σ t)))
+
+  unfoldable pub arrivalBy : Schedule → ℕ → ℕ → ℕ
+  arrivalBy σ t l = pick (comes σ t l) (finishOf σ (sourceOf s l) + costOf s l) 0
+
+  -- "the greatest of (predecessor's finish + link cost), 0 without predecessors", over the placed ones
+  unfoldable pub arrival : Schedule → ℕ → ℕ
+  arrival σ t = greatest (linkCount s) (arrivalBy σ t)
+
+  unfoldable pub priority : Schedule → ℕ → ℕ
+  priority σ t = arrival σ t + level s t
+
+  -- "highest goes first; on a tie the greater b-level, then the lower task number"
+  unfoldable pub ahead : Schedule → ℕ → ℕ → Bool
+  ahead σ a b = either (ltb (priority σ b) (priority σ a)) (both (eqb (priority σ b) (priority σ a)) (ltb (level s b) (level s a)))
+
+  unfoldable pub firstReady : Schedule → Option ℕ
+  firstReady σ = leading (taskCount s) (ready σ) (ahead σ)
+
+  unfoldable pub firstPartlyReady : Schedule → Option ℕ
+  firstPartlyReady σ = leading (taskCount s) (partlyReady σ) (ahead σ)
+
+  unfoldable pub endBy : Schedule → ℕ → ℕ → ℕ
+  endBy σ k u = pick (stands σ u k) (finishOf σ u) 0
+
+  -- k's end time
+  unfoldable pub endOf : Schedule → ℕ → ℕ
+  endOf σ k = greatest (taskCount s) (endBy σ k)
+
+  -- "finish + (0 if on k, else cost)"
+  unfoldable pub startBy : Schedule → ℕ → ℕ → ℕ → ℕ
+  startBy σ t k l = pick (comes σ t l) (finishOf σ (sourceOf s l) + pick (stands σ (sourceOf s l) k) 0 (costOf s l)) 0
+
+  -- the start of t on k, whose end is e, by its placed predecessors
+  unfoldable pub startFrom : Schedule → ℕ → ℕ → ℕ → ℕ
+  startFrom σ t k e = max e (greatest (linkCount s) (startBy σ t k))
+
+  unfoldable pub startOn : Schedule → ℕ → ℕ → ℕ
+  startOn σ t k = startFrom σ t k (endOf σ k)
+
+  -- the store of u, if it stands on k; the bytes of link l, if it leads to k from another processor
+  unfoldable pub storeBy : Schedule → ℕ → ℕ → ℕ
+  storeBy σ k u = pick (stands σ u k) (storeOf s u) 0
+
+  unfoldable pub bytesBy : Schedule → ℕ → ℕ → ℕ
+  bytesBy σ k l = pick (both (stands σ (targetOf s l) k) (not (stands σ (sourceOf s l) k))) (bytesOf s l) 0
+
+  unfoldable pub storeOn : Schedule → ℕ → ℕ
+  storeOn σ k = sum (taskCount s) (storeBy σ k) + sum (linkCount s) (bytesBy σ k)
+
+  -- "t fits k when the stores of the tasks on k and t, plus the bytes of links into any of them from other processors, come to at most M"
+  unfoldable pub fits : Schedule → ℕ → ℕ → Bool
+  fits σ t k = leb (storeOn (put σ t k 0 0) k) (s .limit)
+
+  unfoldable pub holdsBy : Schedule → ℕ → ℕ → ℕ → Bool
+  holdsBy σ t k l = both (eqb (targetOf s l) t) (stands σ (sourceOf s l) k)
+
+  -- k holds a predecessor of t
+  unfoldable pub holdsPredecessor : Schedule → ℕ → ℕ → Bool
+  holdsPredecessor σ t k = any (linkCount s) (holdsBy σ t k)
+
+  -- the start of u by its placed predecessors, where processor k ends at `ends k`
+  unfoldable pub startWith : Schedule → (ℕ → ℕ) → ℕ → ℕ → ℕ
+  startWith σ ends u k = startFrom σ u k (ends k)
+
+  abbrev pub startAt : Schedule → (ℕ → ℕ) → ℕ → Option ℕ → ℕ
+  startAt σ ends u none = 0
+  startAt σ ends u (some k) = startWith σ ends u k
+
+  -- "the least, over open processors holding a placed predecessor of u, of its start there"
+  unfoldable pub bestStart : Schedule → (ℕ → ℕ) → ℕ → ℕ
+  bestStart σ ends u = startAt σ ends u (least (σ .opened) (holdsPredecessor σ u) (startWith σ ends u))
+
+  -- the processors' ends, with t on k
+  unfoldable pub endsWith : Schedule → ℕ → ℕ → ℕ → ℕ
+  endsWith σ t k j = pick (eqb j k) (startOn σ t k + workOf s t) (endOf σ j)
+
+  -- "that best is below u's arrival, and putting t on k would raise that best"
+  unfoldable pub delays : Schedule → ℕ → ℕ → ℕ → Bool
+  delays σ t u k =
+      both (ltb (bestStart σ (endOf σ) u) (arrival σ u)) (ltb (bestStart σ (endOf σ) u) (bestStart σ (endsWith σ t k) u))
+
+  -- "the guard applies if the first partly ready task u has a strictly higher priority than t"
+  abbrev pub barredFor : Schedule → ℕ → ℕ → Option ℕ → Bool
+  barredFor σ t k none = false
+  barredFor σ t k (some u) = both (ltb (priority σ t) (priority σ u)) (delays σ t u k)
+
+  unfoldable pub barred : Schedule → ℕ → ℕ → Bool
+  barred σ t k = barredFor σ t k (firstPartlyReady σ)
+
+  unfoldable pub followsBy : ℕ → ℕ → ℕ → Bool
+  followsBy u t l = both (eqb (sourceOf s l) t) (eqb (targetOf s l) u)
+
+  -- u is a successor of t
+  unfoldable pub follows : ℕ → ℕ → Bool
+  follows u t = any (linkCount s) (followsBy u t)
+
+  unfoldable pub spentBy : Schedule → ℕ → ℕ → ℕ → Bool
+  spentBy σ t k l = either (not (stands σ (sourceOf s l) k)) (either (placed σ (targetOf s l)) (follows (targetOf s l) t))
+
+  -- "each successor of each task on k is placed or is a successor of t"
+  unfoldable pub spent : Schedule → ℕ → ℕ → Bool
+  spent σ t k = all (linkCount s) (spentBy σ t k)

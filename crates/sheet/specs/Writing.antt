@@ -1,0 +1,52 @@
+-- A sheet's bytes, and the bytes of a sheet that is given by its values.
+use Prim.Native.Nat.{ℕ, _+_, _*_, _/_, _%_}
+use mathlib.Core.List.{List, [], _∷_, _++_}
+use lib.ListN.{length, getD}
+use lib.Dec.{eqb}
+use Rattle.folds.specs.Folds.{pick, listed}
+use Rattle.numbers.specs.Number.{numberBytes}
+use Rattle.sheet.specs.Sheet.{Sheet, Task, Link}
+
+abbrev pub boardBytes : ℕ → ℕ → List ℕ
+boardBytes processors limit = 0x4D ∷ processors ∷ numberBytes 4 limit
+
+abbrev pub taskBytes : List Task → List ℕ
+taskBytes [] = []
+taskBytes (t ∷ ts) = 0x54 ∷ (numberBytes 2 (t .work) ++ (numberBytes 2 (t .store) ++ taskBytes ts))
+
+abbrev pub linkBytes : List Link → List ℕ
+linkBytes [] = []
+linkBytes (l ∷ ls) = 0x45 ∷ l .source ∷ l .target ∷ (numberBytes 2 (l .cost) ++ (numberBytes 2 (l .bytes) ++ linkBytes ls))
+
+unfoldable pub sheetBytes : Sheet → List ℕ
+sheetBytes s = boardBytes (s .processors) (s .limit) ++ (taskBytes (s .tasks) ++ (linkBytes (s .links) ++ 0x51 ∷ []))
+
+-- task i of two values a task (work, store), link j of four values a link (source, target, cost, bytes)
+abbrev pub taskValue : List ℕ → ℕ → Task
+taskValue v i = record { work = getD v (2 * i) 0; store = getD v (2 * i + 1) 0 }
+
+abbrev pub linkValue : List ℕ → ℕ → Link
+linkValue v j = record { source = getD v (4 * j) 0; target = getD v (4 * j + 1) 0; cost = getD v (4 * j + 2) 0; bytes = getD v (4 * j + 3) 0 }
+
+-- the sheet of these values
+unfoldable pub sheetOfValues : ℕ → ℕ → List ℕ → List ℕ → Sheet
+sheetOfValues processors limit tasks links =
+    record { processors = processors; limit = limit; tasks = listed (length tasks / 2) (taskValue tasks); links = listed (length links / 4) (linkValue links) }
+
+-- the bytes of these values: a list that stops inside a record stands for a command that is cut there
+unfoldable pub valueBytes : ℕ → ℕ → List ℕ → List ℕ → List ℕ
+valueBytes processors limit tasks links =
+    boardBytes processors limit
+    ++ (taskBytes (listed (length tasks / 2) (taskValue tasks))
+    ++ pick (eqb (length tasks % 2) 0)
+    (linkBytes (listed (length links / 4) (linkValue links)) ++ pick (eqb (length links % 4) 0) (0x51 ∷ []) (0x45 ∷ []))
+    (0x54 ∷ []))
+
+-- the values of a sheet
+abbrev pub taskValues : List Task → List ℕ
+taskValues [] = []
+taskValues (t ∷ ts) = t .work ∷ t .store ∷ taskValues ts
+
+abbrev pub linkValues : List Link → List ℕ
+linkValues [] = []
+linkValues (l ∷ ls) = l .source ∷ l .target ∷ l .cost ∷ l .bytes ∷ linkValues ls
