@@ -1,3 +1,6 @@
 pub mod Sheet
 pub mod Format
 pub mod Writing
+pub mod Tables
+pub mod Faults
+pub mod Answers

@@ -1,1 +1,10 @@
-// Reads and writes task sheets.
+// A task sheet: read from any bytes or from its values into the tables of the work area, and written from its values.
+pub mod tables;
+pub mod pairs;
+pub mod reader;
+
+// A sheet was read, or refused with a number and a place.
+pub enum Reading {
+    Read,
+    Refused(u8, usize),
+}

@@ -1,0 +1,12 @@
+use borrow.Author.Needs.{needs}
+use native.Mathlib.Omega.{arith}
+use Rattle.sheet.specs.Tables.{sheetIn}
+use Rattle.sheet.proofs.tables.processors.Statement.{statement}
+use Rattle.sheet.proofs.tables.processors.Tie as tie
+
+returns : tie.Need-returns
+unfolding sheetIn
+returns c = (c .word .ensures .0, omega (arith, c .word .ensures .0, c .before .before .pre .processors))
+
+pub processors-spec : {M : Type 1} → statement M
+processors-spec = tie.close (tie.spec (λ c κs. search needs) returns)
