@@ -2,3 +2,5 @@ pub mod Rows
 pub mod Bits
 pub mod Fills
 pub mod Joins
+pub mod Judging
+pub mod Scans

@@ -1,4 +1,19 @@
-// Reads a sheet from any bytes, command by command.
+// Reads a sheet from any bytes, command by command, into the tables of the work area.
+ghost use mathlib.Core.Path.{_≡_};
+ghost use mathlib.Core.Option.{some};
+ghost use Prim.Native.Nat.{_+_, _*_, _≤_, _<_};
+ghost use lib.ListN.{length, getD, drop};
+ghost use Rattle.numbers.specs.Number.{numberAt};
+ghost use Rattle.commands.specs.Commands.{judge, judgeKind, go};
+ghost use Rattle.workspace.specs.Area.{fixed};
+ghost use Rattle.sheet.specs.Sheet.{taskCount, linkCount};
+ghost use Rattle.sheet.specs.Format.{task, link, board, end, sheetFormat, fresh, readForm};
+ghost use Rattle.sheet.specs.Tables.{sheetIn, Filling, taskWords, linkWords, pairWords};
+ghost use Rattle.sheet.specs.Faults.{begun, taskFault, linkFault, numbered};
+ghost use Rattle.sheet.specs.Answers.{outcomeOf, openingOf, ReadIs};
+use crate::pairs;
+use crate::tables;
+use crate::Reading;
 
 // The next command behind the board command: its kind, or the number that refuses it.
 pub enum Next {
@@ -6,4 +21,144 @@ pub enum Next {
     Link,
     End,
     No(u8),
+}
+
+// The number that refuses a task of this work behind so many others, or 0.
+pub fn task_fault(tasks: usize, work: u16) -> u8
+    ensures { λ r. ⌜ numbered r ≡ taskFault tasks work ⌝ }
+{
+    if 256 <= tasks {
+        return 5;
+    }
+    if work == 0 {
+        return 6;
+    }
+    0
+}
+
+// The number that refuses a link between these tasks, or 0.
+pub fn link_fault(w: &[u32], tasks: usize, links: usize, source: usize, target: usize) -> u8
+    requires { ⌜ Filling (now w) ⌝ }
+    requires { ⌜ (tasks ≡ getD (now w) 0 0) × (links ≡ getD (now w) 1 0) ⌝ }
+    ensures { λ r. ⌜ numbered r ≡ linkFault (sheetIn (now (w .entry))) source target ⌝ }
+{
+    if 1024 <= links {
+        return 5;
+    }
+    if tasks <= source {
+        return 7;
+    }
+    if tasks <= target {
+        return 7;
+    }
+    if pairs::joined(w, source, target) {
+        return 8;
+    }
+    0
+}
+
+// The task command at `at`.
+fn task_at(bytes: &[u8], at: usize, w: &[u32], tasks: usize, links: usize) -> Next
+    requires { ⌜ Filling (now w) ⌝ }
+    requires { ⌜ (tasks ≡ getD (now w) 0 0) × (links ≡ getD (now w) 1 0) × (at < length (now bytes)) ⌝ }
+    ensures { λ r. ⌜ outcomeOf r ≡ judgeKind sheetFormat (begun (sheetIn (now (w .entry)))) (some task) (drop (at + 1) (now (bytes .entry))) ⌝ }
+{
+    if links != 0 {
+        return Next::No(3);
+    }
+    if bytes.len() - (at + 1) < 4 {
+        return Next::No(1);
+    }
+    let fault = task_fault(tasks, numbers::get16(bytes, at + 1));
+    if fault != 0 {
+        return Next::No(fault);
+    }
+    Next::Task
+}
+
+// The link command at `at`.
+fn link_at(bytes: &[u8], at: usize, w: &[u32], tasks: usize, links: usize) -> Next
+    requires { ⌜ Filling (now w) ⌝ }
+    requires { ⌜ (tasks ≡ getD (now w) 0 0) × (links ≡ getD (now w) 1 0) × (at < length (now bytes)) ⌝ }
+    ensures { λ r. ⌜ outcomeOf r ≡ judgeKind sheetFormat (begun (sheetIn (now (w .entry)))) (some link) (drop (at + 1) (now (bytes .entry))) ⌝ }
+{
+    if bytes.len() - (at + 1) < 6 {
+        return Next::No(1);
+    }
+    let fault = link_fault(w, tasks, links, numbers::get8(bytes, at + 1), numbers::get8(bytes, at + 2));
+    if fault != 0 {
+        return Next::No(fault);
+    }
+    Next::Link
+}
+
+// The command at `at`, behind the board command.
+fn next_at(bytes: &[u8], at: usize, w: &[u32], tasks: usize, links: usize) -> Next
+    requires { ⌜ Filling (now w) ⌝ }
+    requires { ⌜ (tasks ≡ getD (now w) 0 0) × (links ≡ getD (now w) 1 0) × (at ≤ length (now bytes)) ⌝ }
+    ensures { λ r. ⌜ outcomeOf r ≡ judge sheetFormat (begun (sheetIn (now (w .entry)))) (drop at (now (bytes .entry))) ⌝ }
+{
+    if bytes.len() <= at {
+        return Next::No(1);
+    }
+    let c = bytes[at];
+    if c == 0x54 {
+        return task_at(bytes, at, w, tasks, links);
+    }
+    if c == 0x45 {
+        return link_at(bytes, at, w, tasks, links);
+    }
+    if c == 0x51 {
+        return Next::End;
+    }
+    if c == 0x4D {
+        return Next::No(3);
+    }
+    Next::No(2)
+}
+
+// The board command at the head: 0, or the number that refuses it.
+fn opening(bytes: &[u8]) -> u8
+    ensures { λ r. ⌜ openingOf r ≡ judge sheetFormat fresh (now (bytes .entry)) ⌝ }
+{
+    if bytes.len() == 0 {
+        return 1;
+    }
+    let c = bytes[0];
+    if c == 0x54 {
+        return 3;
+    }
+    if c == 0x45 {
+        return 3;
+    }
+    if c == 0x51 {
+        return 3;
+    }
+    if c != 0x4D {
+        return 2;
+    }
+    if bytes.len() - 1 < 5 {
+        return 1;
+    }
+    let processors = bytes[1];
+    if processors < 1 {
+        return 6;
+    }
+    if 16 < processors {
+        return 6;
+    }
+    0
+}
+
+// Puts the task at `at` into the tables.
+fn add_task(bytes: &[u8], at: usize, w: &mut [u32], tasks: usize)
+    requires { ⌜ (at + 5 ≤ length (now bytes)) × (fixed ≤ length (now w)) × (tasks < 256) ⌝ }
+    ensures { λ _. ⌜ now (w .exit) ≡ taskWords (now (w .entry)) tasks (numberAt 2 (now (bytes .entry)) (at + 1)) (numberAt 2 (now (bytes .entry)) (at + 3)) ⌝ }
+{
+    tables::put_task(
+        w,
+        tasks,
+        numbers::get16(bytes, at + 1),
+        numbers::get16(bytes, at + 3),
+    );
 }
