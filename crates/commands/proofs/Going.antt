@@ -9,6 +9,7 @@ use native.Mathlib.Numerals.{add-one}
 use lib.ListN.{length, getD, drop, length-drop, drop-of-length-le}
 use lib.Seq.{drop-cons}
 use Rattle.folds.specs.Answers.{Answer, value, refused}
+use Rattle.commands.specs.Reading.{Going}
 use Rattle.commands.specs.Commands.{Format, Outcome, refuse, go, verdict, judgeKind, judge, onward, follow, readFrom, readAll}
 
 -- a command of kind k comes next: its first byte says so, and nothing refuses it
@@ -44,18 +45,13 @@ module _ {P K A : Type 0} (F : Format P K A) where
       let g = kind-go p (F .kindOf c) b k e in
       record { more = omega arith; kind = g .0; clear = g .1 }
 
-  pub record Going (w : Answer A) (p : P) (e : ℕ) (b : List ℕ) : Type 0 where
-    pub fuel : ℕ
-    pub enough : length b < fuel
-    pub same : readFrom F fuel p e b ≡ w
-
-  pub starts : (p : P) (b : List ℕ) → Going (readAll F p b) p 0 b
+  pub starts : (p : P) (b : List ℕ) → Going F (readAll F p b) p 0 b
   unfolding readAll
   starts p b = record { fuel = suc (length b); enough = omega arith; same = refl }
 
   module _ (w : Answer A) (p : P) (e : ℕ) (b : List ℕ) where
     goes-by : (f : ℕ) → length b < f → readFrom F f p e b ≡ w → (k : K) → F .closes k ≡ false → judge F p b ≡ go k
-        → Going w (F .after p k (drop 1 b)) (e + (1 + F .width k)) (drop (1 + F .width k) b)
+        → Going F w (F .after p k (drop 1 b)) (e + (1 + F .width k)) (drop (1 + F .width k) b)
     unfolding readFrom
     goes-by zero l h k c j = absurd (omega arith)
     goes-by (suc f) l h k c j =
@@ -71,12 +67,12 @@ module _ {P K A : Type 0} (F : Format P K A) where
     ends-by zero l h k c j = absurd (omega arith)
     ends-by (suc f) l h k c j = sym h ∙ rw (j, c)
 
-  pub goes : {w : Answer A} {p : P} {e : ℕ} {b : List ℕ} → Going w p e b → (k : K) → F .closes k ≡ false → judge F p b ≡ go k
-      → Going w (F .after p k (drop 1 b)) (e + (1 + F .width k)) (drop (1 + F .width k) b)
+  pub goes : {w : Answer A} {p : P} {e : ℕ} {b : List ℕ} → Going F w p e b → (k : K) → F .closes k ≡ false → judge F p b ≡ go k
+      → Going F w (F .after p k (drop 1 b)) (e + (1 + F .width k)) (drop (1 + F .width k) b)
   goes {w} {p} {e} {b} g = goes-by w p e b (g .fuel) (g .enough) (g .same)
 
-  pub refuses : {w : Answer A} {p : P} {e : ℕ} {b : List ℕ} → Going w p e b → (r : ℕ) → judge F p b ≡ refuse r → w ≡ refused r e
+  pub refuses : {w : Answer A} {p : P} {e : ℕ} {b : List ℕ} → Going F w p e b → (r : ℕ) → judge F p b ≡ refuse r → w ≡ refused r e
   refuses {w} {p} {e} {b} g = refuses-by w p e b (g .fuel) (g .enough) (g .same)
 
-  pub ends : {w : Answer A} {p : P} {e : ℕ} {b : List ℕ} → Going w p e b → (k : K) → F .closes k ≡ true → judge F p b ≡ go k → w ≡ F .ended p e (drop 1 b)
+  pub ends : {w : Answer A} {p : P} {e : ℕ} {b : List ℕ} → Going F w p e b → (k : K) → F .closes k ≡ true → judge F p b ≡ go k → w ≡ F .ended p e (drop 1 b)
   ends {w} {p} {e} {b} g = ends-by w p e b (g .fuel) (g .enough) (g .same)

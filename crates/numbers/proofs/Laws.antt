@@ -124,3 +124,9 @@ stored-lent b last v i l e =
     let post : postOf i (length b - i) b ≡ [] = drop-of-length-le (drop i b) {i = length b - i} (omega (arith, length-drop i b)) in
     let same : last ≡ stored (drop i b) 0 v = e ∙ ap (λ (x : List ℕ). stored x 0 v) mid in
     rw (post, append-nil, same) (stored-part b i v)
+
+-- a number in bytes fits its width
+pub number-lt : (w : ℕ) (b : List ℕ) (i : ℕ) → ((k : ℕ) → getD b k 0 < 256) → numberAt w b i < 256 ^ w
+unfolding numberAt
+number-lt zero b i small = omega arith
+number-lt (suc w) b i small = omega (arith, number-lt w b (suc i) small, small i, pow-suc 256 w)

@@ -17,7 +17,7 @@ use Rattle.folds.proofs.Lists.{listed-cong}
 use Rattle.workspace.specs.Area.{fixed}
 use Rattle.sheet.specs.Sheet.{Sheet, Task, Link, taskCount, linkCount, sourceOf, targetOf}
 use Rattle.sheet.specs.Format.{joins, joinsBy}
-use Rattle.sheet.specs.Tables.{taskIn, linkIn, sheetIn, Loaded, bitAt, pairIn, Filling, taskWords, linkWords, pairWords, boardWords}
+use Rattle.sheet.specs.Tables.{taskIn, linkIn, sheetIn, Loaded, bitAt, pairIn, Filling, taskWords, linkWords, pairWords, boardWords, Blanked, FillingOf}
 use Rattle.sheet.proofs.Rows.{tasks-in, links-in, source-in, target-in, sheet-frame, loaded-frame}
 use Rattle.sheet.proofs.Bits.{bit-set, bit-other, bit-room, bit-none, bit-le}
 
@@ -216,3 +216,29 @@ module _ (w : List ℕ) (m a b c d : ℕ) (long : fixed ≤ length w) (m-small :
       let p : getD (linkWords w m a b c d) 2 0 ≡ getD w 2 0 = link-low 2 (omega arith) (λ q. omega arith) in
       let q : getD (linkWords w m a b c d) 3 0 ≡ getD w 3 0 = link-low 3 (omega arith) (λ q. omega arith) in
       λ x. record { processors = p x; limit = q x; tasks = tasks x; links = links x }
+
+-- pair words that are blanked one by one
+pub blanked-none : (w : List ℕ) → Blanked 18432 w w
+blanked-none w = record { long = refl; low = λ i h. refl; zeros = λ i h k. absurd (omega arith) }
+
+pub blanked-more : (n : ℕ) (w v : List ℕ) → fixed ≤ length w → 18432 ≤ n → n < 20480 → Blanked n w v → Blanked (n + 1) w (set v n 0)
+blanked-more n w v long h k b =
+    record {
+      long = length-set v n 0 ∙ b .long;
+      low = λ i l. getD-set-other v n i 0 0 (λ q. omega arith) ∙ b .low i l;
+      zeros =
+          λ i l m.
+            ⊎-elim (λ (q : i ≡ n). rw q (getD-set-same v n 0 0 (omega (arith, b .long))))
+            (λ (q : i ≢ n). getD-set-other v n i 0 0 q ∙ b .zeros i l (omega arith))
+            (equal-or i n);
+    }
+
+pub blanked-all : {n : ℕ} {w v : List ℕ} → Blanked n w v → n ≡ 20480 → Blanked 20480 w v
+blanked-all {n} {w} {v} b e = subst (λ (k : ℕ). Blanked k w v) e b
+
+-- a link added by a store of its bit and then of its numbers
+pub added-by : (w : List ℕ) (m : ℕ) (mid : List ℕ) {x y c d x′ y′ c′ d′ : ℕ} → mid ≡ pairWords w x y → x ≡ x′ → y ≡ y′ → c ≡ c′ → d ≡ d′
+    → linkWords mid m x y c d ≡ linkWords (pairWords w x′ y′) m x′ y′ c′ d′
+added-by w m mid {x} {y} {c} {d} {x′} {y′} e p q r s =
+    ap (λ (v : List ℕ). linkWords v m x y c d) e
+    ∙ ap₂ (λ (a b : ℕ). linkWords (pairWords w a b) m a b c d) p q ∙ ap₂ (λ (a b : ℕ). linkWords (pairWords w x′ y′) m x′ y′ a b) r s

@@ -8,18 +8,19 @@ use native.Mathlib.Omega.{arith}
 use native.Mathlib.Numerals.{add-one}
 use native.Mathlib.Decide.{ℕ-discrete}
 use borrow.Author.Tests.{eq-eqb, ne-eqb}
-use lib.ListN.{length, getD, set, length-append, List·getD-append}
-use lib.Seq.{getD-at}
+use lib.ListN.{length, getD, set, length-set, length-append, List·getD-append}
+use lib.Seq.{getD-at, getD-set-same, getD-set-other}
 use lib.Dec.{eqb}
-use Rattle.folds.specs.Folds.{both, either, any}
+use Rattle.folds.specs.Folds.{both, either, any, listed}
 use Rattle.folds.proofs.Tests.{equal-or, both-false, either-true, below-suc}
-use Rattle.folds.proofs.Loops.{any-one, any-zero}
+use Rattle.folds.proofs.Loops.{any-one, any-zero, listed-zero}
 use Rattle.folds.proofs.Laws.{any-cong}
 use Rattle.workspace.specs.Area.{fixed}
 use Rattle.sheet.specs.Sheet.{Sheet, Task, Link, noLink, taskCount, linkCount, sourceOf, targetOf}
 use Rattle.sheet.specs.Format.{joins, joinsBy}
-use Rattle.sheet.specs.Tables.{taskIn, linkIn, sheetIn, Loaded, bitAt, pairIn, Filling, taskWords, linkWords, pairWords, boardWords}
+use Rattle.sheet.specs.Tables.{taskIn, linkIn, sheetIn, Loaded, bitAt, pairIn, Filling, taskWords, linkWords, pairWords, boardWords, Blanked, FillingOf}
 use Rattle.sheet.proofs.Rows.{sheet-frame, loaded-frame}
+use Rattle.sheet.proofs.Bits.{bit-none}
 use Rattle.sheet.proofs.Fills.{pair-away, pair-long, pair-same, pair-other, task-away, task-long, task-count, task-work, task-store, sheet-task, link-away, link-long, link-count, link-source, link-target, link-cost, link-bytes, sheet-link}
 
 -- joins looks at the links alone
@@ -181,3 +182,82 @@ module _ (w : List ℕ) (m a b c d : ℕ) (f : Filling w) (e : getD w 1 0 ≡ m)
       at x y p q clear (yes g) (no k) =
           other x y p q clear (rw (ne-eqb b y (λ r. k (sym r))) (both-false (eqb a x))) (λ r. k (r .1))
       at x y p q clear (no g) k = other x y p q clear (rw (ne-eqb a x (λ r. g (sym r)))) (λ r. g (r .0))
+
+joins-none : (p l a c : ℕ) → joins (record { processors = p; limit = l; tasks = []; links = [] }) a c ≡ false
+unfolding joins linkCount
+joins-none p l a c = any-zero _
+
+-- a board without tasks
+module _ (w v : List ℕ) (p l : ℕ) (long : fixed ≤ length w) (few : p ≤ 16) (b : Blanked 20480 w v) where
+  board-away : (i : ℕ) → 4 ≤ i → getD (boardWords v p l) i 0 ≡ getD v i 0
+  unfolding boardWords
+  board-away i h =
+      let h0 : i ≢ 0 = λ q. omega arith in
+      let h1 : i ≢ 1 = λ q. omega arith in
+      let h2 : i ≢ 2 = λ q. omega arith in
+      let h3 : i ≢ 3 = λ q. omega arith in
+      simp getD-set-other
+
+  board-long : length (boardWords v p l) ≡ length w
+  unfolding boardWords
+  board-long = simp length-set (b .long)
+
+  board-words : (getD (boardWords v p l) 0 0 ≡ 0) × (getD (boardWords v p l) 1 0 ≡ 0) × (getD (boardWords v p l) 2 0 ≡ p) × (getD (boardWords v p l) 3 0 ≡ l)
+  unfolding boardWords
+  board-words =
+      let v-long : fixed ≤ length v = omega (arith, b .long) in
+      let d01 : _≢_ {A = ℕ} 0 1 = λ q. omega arith in
+      let d02 : _≢_ {A = ℕ} 0 2 = λ q. omega arith in
+      let d03 : _≢_ {A = ℕ} 0 3 = λ q. omega arith in
+      let d12 : _≢_ {A = ℕ} 1 2 = λ q. omega arith in
+      let d13 : _≢_ {A = ℕ} 1 3 = λ q. omega arith in
+      let d23 : _≢_ {A = ℕ} 2 3 = λ q. omega arith in
+      let l0 : 0 < length v = omega arith in
+      let l1 : 1 < length (set v 0 0) = simp length-set (omega arith) in
+      let l2 : 2 < length (set (set v 0 0) 1 0) = simp length-set (omega arith) in
+      let l3 : 3 < length (set (set (set v 0 0) 1 0) 2 p) = simp length-set (omega arith) in
+      (simp (getD-set-other, getD-set-same), simp (getD-set-other, getD-set-same), simp (getD-set-other, getD-set-same), simp (getD-set-other, getD-set-same))
+
+  board-loaded : Loaded (boardWords v p l)
+  board-loaded =
+      let e = board-words in
+      let e0 = e .0 in
+      let e1 = e .1 in
+      record {
+        long = omega (arith, board-long);
+        tasks = omega arith;
+        links = omega arith;
+        processors = omega (arith, e .2);
+        works = λ t h. absurd (omega arith);
+        stores = λ t h. absurd (omega arith);
+        source = λ t h. absurd (omega arith);
+        target = λ t h. absurd (omega arith);
+        costs = λ t h. absurd (omega arith);
+        sizes = λ t h. absurd (omega arith);
+      }
+
+  board-sheet : sheetIn (boardWords v p l) ≡ record { processors = p; limit = l; tasks = []; links = [] }
+  unfolding sheetIn
+  board-sheet =
+      let e = board-words in
+      let tasks : listed (getD (boardWords v p l) 0 0) (taskIn (boardWords v p l)) ≡ [] = ap (λ (n : ℕ). listed n (taskIn (boardWords v p l))) (e .0) ∙ listed-zero _ in
+      let links : listed (getD (boardWords v p l) 1 0) (linkIn (boardWords v p l)) ≡ [] = ap (λ (n : ℕ). listed n (linkIn (boardWords v p l))) (e .1) ∙ listed-zero _ in
+      λ x. record { processors = e .2 x; limit = e .3 x; tasks = tasks x; links = links x }
+
+  no-pair : (a c : ℕ) → a < 256 → c < 256 → pairIn (boardWords v p l) a c ≡ false
+  unfolding pairIn
+  no-pair a c h k =
+      let i : ℕ = 18432 + (8 * a + c / 32) in
+      let z : getD (boardWords v p l) i 0 ≡ 0 = board-away i (omega arith) ∙ b .zeros i (omega arith) (omega arith) in
+      ap (λ (x : ℕ). eqb (bitAt x (c % 32)) 1) z ∙ ap (λ (x : ℕ). eqb x 1) (bit-none (c % 32))
+
+  no-join : (a c : ℕ) → joins (sheetIn (boardWords v p l)) a c ≡ false
+  no-join a c = joins-links (sheetIn (boardWords v p l)) (record { processors = p; limit = l; tasks = []; links = [] }) (ap (λ (s : Sheet). s .links) board-sheet) a c ∙ joins-none p l a c
+
+  pub board-filling : FillingOf (record { processors = p; limit = l; tasks = []; links = [] }) w (boardWords v p l)
+  board-filling =
+      record {
+        long = board-long;
+        filling = record { loaded = board-loaded; pairs = λ a c h k. no-pair a c h k ∙ sym (no-join a c) };
+        sheet = board-sheet;
+      }

@@ -1,9 +1,9 @@
 -- The code's answers as the definitions have them.
-use Prim.Native.Nat.{ℕ, _≤_}
+use Prim.Native.Nat.{ℕ, _+_}
 use mathlib.Core.Path.{_≡_}
 use mathlib.Core.List.{List}
 use lib.ListN.{length}
-use lib.Dec.{eqb}
+use lib.Dec.{eqb, ltb}
 use Rattle.folds.specs.Folds.{pick}
 use Rattle.folds.specs.Answers.{Answer, value, refused}
 use Rattle.commands.specs.Commands.{Outcome, refuse, go}
@@ -35,3 +35,7 @@ pub record ReadIs (a : Answer Sheet) (w last : List ℕ) (r : Reading) : Type 0 
   pub answer : r ≡ readingOf a
   pub loaded : (s : Sheet) → a ≡ value s → Loaded last
   pub held : (s : Sheet) → a ≡ value s → sheetIn last ≡ s
+
+-- what the end command at offset e of so many bytes closes, behind n tasks
+unfoldable pub closedOf : ℕ → ℕ → ℕ → Reading
+closedOf long e n = pick (ltb (e + 1) long) (Refused 4 (e + 1)) (pick (eqb n 0) (Refused 9 e) Read)

@@ -73,3 +73,15 @@ pairWords w a b = set w (18432 + (8 * a + b / 32)) (getD w (18432 + (8 * a + b /
 -- the words of a sheet without tasks
 unfoldable pub boardWords : List ℕ → ℕ → ℕ → List ℕ
 boardWords w processors limit = set (set (set (set w 0 0) 1 0) 2 processors) 3 limit
+
+-- the pair words below word n are 0, and the words before them as they were
+pub record Blanked (n : ℕ) (w last : List ℕ) : Type 0 where
+  pub long : length last ≡ length w
+  pub low : (i : ℕ) → i < 18432 → getD last i 0 ≡ getD w i 0
+  pub zeros : (i : ℕ) → 18432 ≤ i → i < n → getD last i 0 ≡ 0
+
+-- the tables hold this sheet, which is being filled
+pub record FillingOf (s : Sheet) (w last : List ℕ) : Type 0 where
+  pub long : length last ≡ length w
+  pub filling : Filling last
+  pub sheet : sheetIn last ≡ s

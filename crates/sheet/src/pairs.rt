@@ -4,7 +4,7 @@ ghost use mathlib.Core.Bool.{false};
 ghost use Prim.Native.Nat.{ℕ, _+_, _*_, _/_, _%_, _^_, _<_, _≤_};
 ghost use lib.ListN.{getD, length};
 ghost use Rattle.workspace.specs.Area.{fixed};
-ghost use Rattle.sheet.specs.Tables.{pairIn, pairWords};
+ghost use Rattle.sheet.specs.Tables.{pairIn, pairWords, Blanked};
 
 fn power(j: u32) -> u32
     requires { ⌜ j < 32 ⌝ }
@@ -31,4 +31,16 @@ pub fn join(w: &mut [u32], a: usize, b: usize)
     let i = 18432 + (8 * a + b / 32);
     let j = (b % 32) as u32;
     w[i] = w[i] + power(j);
+}
+
+// No pair is joined.
+pub fn blank(w: &mut [u32])
+    requires { ⌜ fixed ≤ length (now w) ⌝ }
+    ensures { λ _. ⌜ Blanked 20480 (now (w .entry)) (now (w .exit)) ⌝ }
+{
+    let mut i = 18432;
+    while i < 20480 {
+        w[i] = 0;
+        i += 1;
+    }
 }

@@ -1,6 +1,8 @@
 // Reads a sheet from any bytes, command by command, into the tables of the work area.
 ghost use mathlib.Core.Path.{_≡_};
+ghost use mathlib.Core.Bool.{false};
 ghost use mathlib.Core.Option.{some};
+ghost use mathlib.Core.List.{[]};
 ghost use Prim.Native.Nat.{_+_, _*_, _≤_, _<_};
 ghost use lib.ListN.{length, getD, drop};
 ghost use Rattle.numbers.specs.Number.{numberAt};
@@ -8,9 +10,10 @@ ghost use Rattle.commands.specs.Commands.{judge, judgeKind, go};
 ghost use Rattle.workspace.specs.Area.{fixed};
 ghost use Rattle.sheet.specs.Sheet.{taskCount, linkCount};
 ghost use Rattle.sheet.specs.Format.{task, link, board, end, sheetFormat, fresh, readForm};
-ghost use Rattle.sheet.specs.Tables.{sheetIn, Filling, taskWords, linkWords, pairWords};
+ghost use Rattle.sheet.specs.Tables.{sheetIn, pairIn, Filling, FillingOf, taskWords};
 ghost use Rattle.sheet.specs.Faults.{begun, taskFault, linkFault, numbered};
-ghost use Rattle.sheet.specs.Answers.{outcomeOf, openingOf, ReadIs};
+ghost use Rattle.sheet.specs.Answers.{outcomeOf, openingOf, closedOf, ReadIs};
+ghost use Rattle.sheet.specs.Scanning.{Scanning, addedWords};
 use crate::pairs;
 use crate::tables;
 use crate::Reading;
@@ -161,4 +164,85 @@ fn add_task(bytes: &[u8], at: usize, w: &mut [u32], tasks: usize)
         numbers::get16(bytes, at + 1),
         numbers::get16(bytes, at + 3),
     );
+}
+
+// Puts the link at `at` into the tables.
+fn add_link(bytes: &[u8], at: usize, w: &mut [u32], links: usize)
+    requires { ⌜ (at + 7 ≤ length (now bytes)) × (fixed ≤ length (now w)) × (links < 1024) ⌝ }
+    requires { ⌜ pairIn (now w) (getD (now bytes) (at + 1) 0) (getD (now bytes) (at + 2) 0) ≡ false ⌝ }
+    ensures { λ _. ⌜ now (w .exit) ≡ addedWords (now (bytes .entry)) at (now (w .entry)) links ⌝ }
+{
+    let source = numbers::get8(bytes, at + 1);
+    let target = numbers::get8(bytes, at + 2);
+    let cost = numbers::get16(bytes, at + 3);
+    let size = numbers::get16(bytes, at + 5);
+    pairs::join(w, source, target);
+    tables::put_link(w, links, source as u16, target as u16, cost, size);
+}
+
+// The tables of a board without tasks.
+pub fn begin(w: &mut [u32], processors: u8, limit: u32)
+    requires { ⌜ (fixed ≤ length (now w)) × (processors ≤ 16) ⌝ }
+    ensures { λ _. ⌜ FillingOf (record { processors = processors; limit = limit; tasks = []; links = [] }) (now (w .entry)) (now (w .exit)) ⌝ }
+{
+    pairs::blank(w);
+    tables::put_board(w, processors, limit);
+}
+
+// What the end command at `at` closes.
+fn closing(bytes: &[u8], at: usize, tasks: usize) -> Reading
+    requires { ⌜ at < length (now bytes) ⌝ }
+    ensures { λ r. ⌜ r ≡ closedOf (length (now (bytes .entry))) at tasks ⌝ }
+{
+    let past = at + 1;
+    if past < bytes.len() {
+        return Reading::Refused(4, past);
+    }
+    if tasks == 0 {
+        return Reading::Refused(9, at);
+    }
+    Reading::Read
+}
+
+// Reads command by command behind the board command.
+fn walk(bytes: &[u8], w: &mut [u32]) -> Reading
+    requires { ⌜ Scanning (readForm (now bytes)) (now bytes) (now w) (now w) 0 0 6 ⌝ }
+    ensures { λ r. ⌜ ReadIs (readForm (now (bytes .entry))) (now (w .entry)) (now (w .exit)) r ⌝ }
+{
+    let mut at = 6;
+    let mut tasks = 0;
+    let mut links = 0;
+    loop {
+        match next_at(bytes, at, w, tasks, links) {
+            Next::Task => {
+                add_task(bytes, at, w, tasks);
+                tasks += 1;
+                at += 5;
+            }
+            Next::Link => {
+                add_link(bytes, at, w, links);
+                links += 1;
+                at += 7;
+            }
+            Next::End => {
+                return closing(bytes, at, tasks);
+            }
+            Next::No(r) => {
+                return Reading::Refused(r, at);
+            }
+        }
+    }
+}
+
+// Reads any bytes as a sheet: the first of refusals 1 to 9, or the sheet in the tables.
+pub fn read(bytes: &[u8], w: &mut [u32]) -> Reading
+    requires { ⌜ fixed ≤ length (now w) ⌝ }
+    ensures { λ r. ⌜ ReadIs (readForm (now (bytes .entry))) (now (w .entry)) (now (w .exit)) r ⌝ }
+{
+    let fault = opening(bytes);
+    if fault != 0 {
+        return Reading::Refused(fault, 0);
+    }
+    begin(w, bytes[1], numbers::get32(bytes, 2));
+    walk(bytes, w)
 }
