@@ -1,7 +1,7 @@
 -- A state from which what is still to be read gives the answer w, and the ways on and out.
 use Prim.Native.Nat.{ℕ, zero, suc, _+_, _<_}
 use mathlib.Core.Path.{_≡_, refl, sym, ap, _∙_}
-use mathlib.Core.Bool.{true, false}
+use mathlib.Core.Bool.{Bool, true, false}
 use mathlib.Core.Option.{Option, none, some}
 use mathlib.Core.List.{List, [], _∷_}
 use native.Mathlib.Omega.{arith}
@@ -76,3 +76,27 @@ module _ {P K A : Type 0} (F : Format P K A) where
 
   pub ends : {w : Answer A} {p : P} {e : ℕ} {b : List ℕ} → Going F w p e b → (k : K) → F .closes k ≡ true → judge F p b ≡ go k → w ≡ F .ended p e (drop 1 b)
   ends {w} {p} {e} {b} g = ends-by w p e b (g .fuel) (g .enough) (g .same)
+
+  -- enough fuel is enough
+  fuel-free : (f g : ℕ) (p : P) (e : ℕ) (b : List ℕ) → length b < f → length b < g → readFrom F f p e b ≡ readFrom F g p e b
+  unfolding readFrom
+  fuel-free zero g p e b h k = absurd (omega arith)
+  fuel-free (suc f) zero p e b h k = absurd (omega arith)
+  fuel-free (suc f) (suc g) p e b h k = split (judge F p b) refl (fuel-free f g)
+    where
+      closing : (x : K) (c : Bool) → 0 < length b → ((p′ : P) (e′ : ℕ) (b′ : List ℕ) → length b′ < f → length b′ < g → readFrom F f p′ e′ b′ ≡ readFrom F g p′ e′ b′)
+          → onward F (readFrom F f) p e b x c ≡ onward F (readFrom F g) p e b x c
+      closing x true m ih = refl
+      closing x false m ih = ih _ _ _ (simp length-drop (omega arith)) (simp length-drop (omega arith))
+
+      split : (o : Outcome K) → judge F p b ≡ o → ((p′ : P) (e′ : ℕ) (b′ : List ℕ) → length b′ < f → length b′ < g → readFrom F f p′ e′ b′ ≡ readFrom F g p′ e′ b′)
+          → follow F (readFrom F f) p e b (judge F p b) ≡ follow F (readFrom F g) p e b (judge F p b)
+      split (refuse r) j ih = rw j
+      split (go x) j ih = rw j (closing x (F .closes x) (comes p b x j .more) ih)
+
+  -- the answer of a state of reading, by the least fuel that is enough
+  pub going-is : {w : Answer A} {p : P} {e : ℕ} {b : List ℕ} → Going F w p e b → w ≡ readFrom F (suc (length b)) p e b
+  going-is {w} {p} {e} {b} g = sym (g .same) ∙ fuel-free (g .fuel) (suc (length b)) p e b (g .enough) (omega arith)
+
+  pub going-on : (p : P) (e : ℕ) (b : List ℕ) → Going F (readFrom F (suc (length b)) p e b) p e b
+  going-on p e b = record { fuel = suc (length b); enough = omega arith; same = refl }

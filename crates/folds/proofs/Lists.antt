@@ -1,7 +1,7 @@
 -- Laws of lists made by a function of the index.
-use Prim.Native.Nat.{ℕ, zero, suc, _+_, _≤_, _<_}
+use Prim.Native.Nat.{ℕ, zero, suc, _+_, _-_, _≤_, _<_}
 use mathlib.Core.Path.{_≡_, refl, ap, ap₂, sym, _∙_}
-use mathlib.Core.List.{List, [], _∷_, _++_}
+use mathlib.Core.List.{List, [], _∷_, _++_, append-assoc, append-nil}
 use mathlib.Core.Logic.{_≢_, ⊎-elim}
 use native.Mathlib.Omega.{arith}
 use native.Mathlib.Decide.{ℕ-discrete}
@@ -9,6 +9,7 @@ use lib.ListN.{length, getD, set, replicate, length-set, length-append, List·ge
 use lib.Seq.{getD-at, ext-getD, getD-set-same, getD-set-other}
 use Rattle.folds.specs.Folds.{listed}
 use Rattle.folds.proofs.Tests.{below-suc}
+use Rattle.folds.proofs.Loops.{listed-zero, listed-one}
 
 pub length-listed : {X : Type 0} (n : ℕ) (f : ℕ → X) → length (listed n f) ≡ n
 unfolding listed
@@ -42,3 +43,31 @@ pub getD-replicate : {A : Type 0} (n i : ℕ) (a : A) → getD (replicate n a) i
 getD-replicate zero i a = refl
 getD-replicate (suc n) zero a = refl
 getD-replicate (suc n) (suc i) a = getD-replicate n i a
+
+-- f i, .. f (i + k - 1): a listed list from its front
+unfoldable pub rest : {X : Type 0} → ℕ → ℕ → (ℕ → X) → List X
+rest i zero f = []
+rest i (suc k) f = f i ∷ rest (i + 1) k f
+
+listed-rest : {X : Type 0} (k i : ℕ) (f : ℕ → X) → listed i f ++ rest i k f ≡ listed (i + k) f
+unfolding rest
+listed-rest zero i f = let e : i ≡ i + 0 = omega arith in append-nil (listed i f) ∙ ap (λ (n : ℕ). listed n f) e
+listed-rest (suc k) i f =
+    let e : i + 1 + k ≡ i + suc k = omega arith in
+    sym (append-assoc (listed i f) (f i ∷ []) (rest (i + 1) k f))
+    ∙ ap (λ (l : List _). l ++ rest (i + 1) k f) (sym (listed-one i f))
+    ∙ listed-rest k (i + 1) f ∙ ap (λ (n : ℕ). listed n f) e
+
+pub rest-all : {X : Type 0} (n : ℕ) (f : ℕ → X) → rest 0 (n - 0) f ≡ listed n f
+rest-all n f =
+    let d : n - 0 ≡ n = omega arith in
+    let e : 0 + n ≡ n = omega arith in
+    ap (λ (k : ℕ). rest 0 k f) d ∙ ap (λ (l : List _). l ++ rest 0 n f) (sym (listed-zero f)) ∙ listed-rest n 0 f ∙ ap (λ (k : ℕ). listed k f) e
+
+pub rest-more : {X : Type 0} (i n : ℕ) (f : ℕ → X) → i < n → rest i (n - i) f ≡ f i ∷ rest (i + 1) (n - (i + 1)) f
+unfolding rest
+rest-more i n f h = let e : n - i ≡ suc (n - (i + 1)) = omega arith in ap (λ (k : ℕ). rest i k f) e
+
+pub rest-none : {X : Type 0} (i n : ℕ) (f : ℕ → X) → i ≡ n → rest i (n - i) f ≡ []
+unfolding rest
+rest-none i n f h = let e : n - i ≡ 0 = omega arith in ap (λ (k : ℕ). rest i k f) e

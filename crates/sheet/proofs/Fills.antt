@@ -57,9 +57,9 @@ module _ (w : List ℕ) (a b : ℕ) (long : fixed ≤ length w) (a-small : a < 2
       let no : bitAt (getD w i 0) (b % 32) ≢ 1 = eqb-false _ _ h in
       ⊎-elim
       (λ (q : k ≡ i).
-        let bits : d % 32 ≢ b % 32 = λ r. away (omega arith, omega arith) in
-        let e : getD (set w i (getD w i 0 + 2 ^ (b % 32))) i 0 ≡ getD w i 0 + 2 ^ (b % 32) = getD-set-same w i _ 0 (omega arith) in
-        rw (q, e) (ap (λ (x : ℕ). eqb x 1) (bit-other (b % 32) (d % 32) (getD w i 0) bits (omega (arith, bit-le (getD w i 0) (b % 32))))))
+      let bits : d % 32 ≢ b % 32 = λ r. away (omega arith, omega arith) in
+      let e : getD (set w i (getD w i 0 + 2 ^ (b % 32))) i 0 ≡ getD w i 0 + 2 ^ (b % 32) = getD-set-same w i _ 0 (omega arith) in
+      rw (q, e) (ap (λ (x : ℕ). eqb x 1) (bit-other (b % 32) (d % 32) (getD w i 0) bits (omega (arith, bit-le (getD w i 0) (b % 32))))))
       (λ q. ap (λ (x : ℕ). eqb (bitAt x (d % 32)) 1) (getD-set-other w i k (getD w i 0 + 2 ^ (b % 32)) 0 q))
       (equal-or k i)
 
@@ -208,9 +208,9 @@ module _ (w : List ℕ) (m a b c d : ℕ) (long : fixed ≤ length w) (m-small :
       let n : getD (linkWords w m a b c d) 0 0 ≡ getD w 0 0 = link-low 0 (omega arith) (λ q. omega arith) in
       let task : (t : ℕ) → t < getD w 0 0 → taskIn (linkWords w m a b c d) t ≡ taskIn w t =
       λ t h.
-        let p : getD (linkWords w m a b c d) (16 + t) 0 ≡ getD w (16 + t) 0 = link-low (16 + t) (omega arith) (λ q. omega arith) in
-        let q : getD (linkWords w m a b c d) (272 + t) 0 ≡ getD w (272 + t) 0 = link-low (272 + t) (omega arith) (λ q. omega arith) in
-        λ x. record { work = p x; store = q x } in
+      let p : getD (linkWords w m a b c d) (16 + t) 0 ≡ getD w (16 + t) 0 = link-low (16 + t) (omega arith) (λ q. omega arith) in
+      let q : getD (linkWords w m a b c d) (272 + t) 0 ≡ getD w (272 + t) 0 = link-low (272 + t) (omega arith) (λ q. omega arith) in
+      λ x. record { work = p x; store = q x } in
       let tasks : listed (getD (linkWords w m a b c d) 0 0) (taskIn (linkWords w m a b c d)) ≡ listed (getD w 0 0) (taskIn w) =
       ap (λ (k : ℕ). listed k (taskIn (linkWords w m a b c d))) n ∙ listed-cong (getD w 0 0) _ (taskIn w) task in
       let p : getD (linkWords w m a b c d) 2 0 ≡ getD w 2 0 = link-low 2 (omega arith) (λ q. omega arith) in
@@ -228,9 +228,9 @@ blanked-more n w v long h k b =
       low = λ i l. getD-set-other v n i 0 0 (λ q. omega arith) ∙ b .low i l;
       zeros =
           λ i l m.
-            ⊎-elim (λ (q : i ≡ n). rw q (getD-set-same v n 0 0 (omega (arith, b .long))))
-            (λ (q : i ≢ n). getD-set-other v n i 0 0 q ∙ b .zeros i l (omega arith))
-            (equal-or i n);
+          ⊎-elim (λ (q : i ≡ n). rw q (getD-set-same v n 0 0 (omega (arith, b .long))))
+          (λ (q : i ≢ n). getD-set-other v n i 0 0 q ∙ b .zeros i l (omega arith))
+          (equal-or i n);
     }
 
 pub blanked-all : {n : ℕ} {w v : List ℕ} → Blanked n w v → n ≡ 20480 → Blanked 20480 w v

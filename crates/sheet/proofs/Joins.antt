@@ -68,14 +68,14 @@ module _ (w : List ℕ) (n work store : ℕ) (f : Filling w) (e : getD w 0 0 ≡
         processors = omega (arith, away 2 (λ q. omega arith) (λ q. omega arith) (λ q. omega arith), h .processors);
         works =
             λ t l.
-              ⊎-elim (λ (q : t ≡ n). rw q (omega (arith, task-work w n work store long n-small)))
-              (λ (q : t ≢ n). omega (arith, away (16 + t) (λ r. omega arith) (λ r. omega arith) (λ r. omega arith), h .works t (omega arith)))
-              (equal-or t n);
+            ⊎-elim (λ (q : t ≡ n). rw q (omega (arith, task-work w n work store long n-small)))
+            (λ (q : t ≢ n). omega (arith, away (16 + t) (λ r. omega arith) (λ r. omega arith) (λ r. omega arith), h .works t (omega arith)))
+            (equal-or t n);
         stores =
             λ t l.
-              ⊎-elim (λ (q : t ≡ n). rw q (omega (arith, task-store w n work store long n-small)))
-              (λ (q : t ≢ n). omega (arith, away (272 + t) (λ r. omega arith) (λ r. omega arith) (λ r. omega arith), h .stores t (omega arith)))
-              (equal-or t n);
+            ⊎-elim (λ (q : t ≡ n). rw q (omega (arith, task-store w n work store long n-small)))
+            (λ (q : t ≢ n). omega (arith, away (272 + t) (λ r. omega arith) (λ r. omega arith) (λ r. omega arith), h .stores t (omega arith)))
+            (equal-or t n);
         source = λ l k. omega (arith, away (528 + l) (λ r. omega arith) (λ r. omega arith) (λ r. omega arith), h .source l (omega arith));
         target = λ l k. omega (arith, away (1552 + l) (λ r. omega arith) (λ r. omega arith) (λ r. omega arith), h .target l (omega arith));
         costs = λ l k. omega (arith, away (2576 + l) (λ r. omega arith) (λ r. omega arith) (λ r. omega arith), h .costs l (omega arith));
@@ -90,9 +90,9 @@ module _ (w : List ℕ) (n work store : ℕ) (f : Filling w) (e : getD w 0 0 ≡
         loaded = task-loaded;
         pairs =
             λ a b p q.
-              pair-frame w (taskWords w n work store) a b (λ i h. task-away w n work store long n-small i (λ r. omega arith) (λ r. omega arith) (λ r. omega arith))
-              ∙ f .pairs a b p q
-              ∙ sym (joins-links (sheetIn (taskWords w n work store)) (sheetIn w) (ap (λ (s : Sheet). s .links) more) a b);
+            pair-frame w (taskWords w n work store) a b (λ i h. task-away w n work store long n-small i (λ r. omega arith) (λ r. omega arith) (λ r. omega arith))
+            ∙ f .pairs a b p q
+            ∙ sym (joins-links (sheetIn (taskWords w n work store)) (sheetIn w) (ap (λ (s : Sheet). s .links) more) a b);
       }
 
 -- a link's bit is set first, and then its numbers are put
@@ -123,24 +123,24 @@ module _ (w : List ℕ) (m a b c d : ℕ) (f : Filling w) (e : getD w 1 0 ≡ m)
         stores = λ t l. omega (arith, away (272 + t) (λ q. omega arith) (λ q. omega arith) (λ q. omega arith) (λ q. omega arith) (λ q. omega arith), low (272 + t) (omega arith), h .stores t (omega arith));
         source =
             λ l k.
-              ⊎-elim (λ (q : l ≡ m). rw q (omega (arith, link-source v m a b c d long m-small)))
-              (λ (q : l ≢ m). omega (arith, away (528 + l) (λ r. omega arith) (λ r. omega arith) (λ r. omega arith) (λ r. omega arith) (λ r. omega arith), low (528 + l) (omega arith), h .source l (omega arith)))
-              (equal-or l m);
+            ⊎-elim (λ (q : l ≡ m). rw q (omega (arith, link-source v m a b c d long m-small)))
+            (λ (q : l ≢ m). omega (arith, away (528 + l) (λ r. omega arith) (λ r. omega arith) (λ r. omega arith) (λ r. omega arith) (λ r. omega arith), low (528 + l) (omega arith), h .source l (omega arith)))
+            (equal-or l m);
         target =
             λ l k.
-              ⊎-elim (λ (q : l ≡ m). rw q (omega (arith, link-target v m a b c d long m-small)))
-              (λ (q : l ≢ m). omega (arith, away (1552 + l) (λ r. omega arith) (λ r. omega arith) (λ r. omega arith) (λ r. omega arith) (λ r. omega arith), low (1552 + l) (omega arith), h .target l (omega arith)))
-              (equal-or l m);
+            ⊎-elim (λ (q : l ≡ m). rw q (omega (arith, link-target v m a b c d long m-small)))
+            (λ (q : l ≢ m). omega (arith, away (1552 + l) (λ r. omega arith) (λ r. omega arith) (λ r. omega arith) (λ r. omega arith) (λ r. omega arith), low (1552 + l) (omega arith), h .target l (omega arith)))
+            (equal-or l m);
         costs =
             λ l k.
-              ⊎-elim (λ (q : l ≡ m). rw q (omega (arith, link-cost v m a b c d long m-small)))
-              (λ (q : l ≢ m). omega (arith, away (2576 + l) (λ r. omega arith) (λ r. omega arith) (λ r. omega arith) (λ r. omega arith) (λ r. omega arith), low (2576 + l) (omega arith), h .costs l (omega arith)))
-              (equal-or l m);
+            ⊎-elim (λ (q : l ≡ m). rw q (omega (arith, link-cost v m a b c d long m-small)))
+            (λ (q : l ≢ m). omega (arith, away (2576 + l) (λ r. omega arith) (λ r. omega arith) (λ r. omega arith) (λ r. omega arith) (λ r. omega arith), low (2576 + l) (omega arith), h .costs l (omega arith)))
+            (equal-or l m);
         sizes =
             λ l k.
-              ⊎-elim (λ (q : l ≡ m). rw q (omega (arith, link-bytes v m a b c d long m-small)))
-              (λ (q : l ≢ m). omega (arith, away (3600 + l) (λ r. omega arith) (λ r. omega arith) (λ r. omega arith) (λ r. omega arith) (λ r. omega arith), low (3600 + l) (omega arith), h .sizes l (omega arith)))
-              (equal-or l m);
+            ⊎-elim (λ (q : l ≡ m). rw q (omega (arith, link-bytes v m a b c d long m-small)))
+            (λ (q : l ≢ m). omega (arith, away (3600 + l) (λ r. omega arith) (λ r. omega arith) (λ r. omega arith) (λ r. omega arith) (λ r. omega arith), low (3600 + l) (omega arith), h .sizes l (omega arith)))
+            (equal-or l m);
       }
 
   -- the sheet then

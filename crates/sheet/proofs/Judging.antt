@@ -89,8 +89,8 @@ sound p k ops e =
     let d = past _ 8 _ (l .1) in
     record { turn = not-false _ (a .0); room = ltb-false _ _ (r .0); space = s .0; range = o .0; tight = l .0; single = d .0 }
 
-pub sound-at : (p : Progress) (b : List ℕ) (at : ℕ) (k : Kind) → judge sheetFormat p (drop at b) ≡ go k → Sound p k (drop 1 (drop at b))
-sound-at p b at k j = sound p k _ (comes sheetFormat p (drop at b) k j .clear)
+pub sound-of : (p : Progress) (d : List ℕ) (k : Kind) → judge sheetFormat p d ≡ go k → Sound p k (drop 1 d)
+sound-of p d k j = sound p k _ (comes sheetFormat p d k j .clear)
 
 -- each way out of judging a task and a link
 module _ (w : List ℕ) where
@@ -142,8 +142,12 @@ module _ (w : List ℕ) where
     pub link-joined : linkFault (sheetIn w) x y ≡ pick (pairIn w x y) (some 8) none
     unfolding linkFault
     link-joined =
-        rw (few-links n m x y e few, lt-leb (taskCount (sheetIn w)) x (omega (arith, tasks-in w, e .0)), lt-leb (taskCount (sheetIn w)) y (omega (arith, tasks-in w, e .0)),
-        f .pairs x y (omega (arith, e .0, f .loaded .tasks)) (omega (arith, e .0, f .loaded .tasks)))
+        rw (
+          few-links n m x y e few,
+          lt-leb (taskCount (sheetIn w)) x (omega (arith, tasks-in w, e .0)),
+          lt-leb (taskCount (sheetIn w)) y (omega (arith, tasks-in w, e .0)),
+          f .pairs x y (omega (arith, e .0, f .loaded .tasks)) (omega (arith, e .0, f .loaded .tasks)),
+        )
 
     pub link-twice : pairIn w x y ≡ true → linkFault (sheetIn w) x y ≡ some 8
     link-twice h = link-joined ∙ rw h

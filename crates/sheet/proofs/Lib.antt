@@ -4,3 +4,4 @@ pub mod Fills
 pub mod Joins
 pub mod Judging
 pub mod Scans
+pub mod Given

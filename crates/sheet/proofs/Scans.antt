@@ -26,13 +26,13 @@ use Rattle.sheet.specs.Format.{Kind, board, task, link, end, width, Prog
 use Rattle.sheet.specs.Tables.{sheetIn, pairIn, Loaded, Filling, FillingOf, taskWords, linkWords, pairWords}
 use Rattle.sheet.specs.Faults.{begun}
 use Rattle.sheet.specs.Answers.{readingOf, openingOf, closedOf, ReadIs}
-use Rattle.sheet.specs.Scanning.{Scanning, addedWords}
+use Rattle.sheet.specs.Scanning.{Scanning, Walking, addedWords}
 use Rattle.sheet.specs.declared.Reading.{Reading}
 use Rattle.sheet.specs.declared.Reading.the-variants.{Read, Refused}
 use Rattle.sheet.proofs.Rows.{tasks-in, links-in}
 use Rattle.sheet.proofs.Fills.{task-long, task-count, task-away, sheet-task, link-long, link-count, link-away, pair-long, pair-away}
 use Rattle.sheet.proofs.Joins.{filling-task, filling-link, link-sheet}
-use Rattle.sheet.proofs.Judging.{Sound, sound-at}
+use Rattle.sheet.proofs.Judging.{sound-of}
 
 -- how an answer ends up as a reading
 pub read-refused : (a : Answer Sheet) (w last : List ℕ) (r e : ℕ) → length last ≡ length w → a ≡ refused r e → ReadIs a w last (Refused r e)
@@ -51,10 +51,6 @@ read-value a w last long l h =
     same : {s t : Sheet} → _≡_ {A = Answer Sheet} (value s) (value t) → s ≡ t
     same e = cc
 
--- a command's operands, by the offset of the command
-pub operands : (b : List ℕ) (at : ℕ) → drop 1 (drop at b) ≡ drop (at + 1) b
-operands b at = drop-drop 1 at b
-
 no-tasks : (p l : ℕ) → taskCount (record { processors = p; limit = l; tasks = []; links = [] }) ≡ 0
 unfolding taskCount
 no-tasks p l = refl
@@ -64,50 +60,47 @@ unfolding linkCount
 no-links p l = refl
 
 -- behind the end command: bytes, no task, or the sheet
-ended-tail : (s : Sheet) (b : List ℕ) (at : ℕ) → at + 1 < length b → ended (begun s) at (drop (at + 1) b) ≡ refused 4 (at + 1)
+ended-tail : (s : Sheet) (d : List ℕ) (e : ℕ) → 0 < length d → ended (begun s) e d ≡ refused 4 (e + 1)
 unfolding ended
-ended-tail s b at h = simp (length-drop, lt-ltb 0 (length b - (at + 1)) (omega arith))
+ended-tail s d e h = rw (lt-ltb 0 (length d) h)
 
-ended-bare : (s : Sheet) (b : List ℕ) (at : ℕ) → length b ≤ at + 1 → taskCount s ≡ 0 → ended (begun s) at (drop (at + 1) b) ≡ refused 9 at
+ended-bare : (s : Sheet) (d : List ℕ) (e : ℕ) → length d ≡ 0 → taskCount s ≡ 0 → ended (begun s) e d ≡ refused 9 e
 unfolding ended
-ended-bare s b at h z = simp (length-drop, le-ltb 0 (length b - (at + 1)) (omega arith), eq-eqb (taskCount s) 0 z)
+ended-bare s d e h z = rw (le-ltb 0 (length d) (omega arith), eq-eqb (taskCount s) 0 z)
 
-ended-whole : (s : Sheet) (b : List ℕ) (at : ℕ) → length b ≤ at + 1 → taskCount s ≢ 0 → ended (begun s) at (drop (at + 1) b) ≡ value s
+ended-whole : (s : Sheet) (d : List ℕ) (e : ℕ) → length d ≡ 0 → taskCount s ≢ 0 → ended (begun s) e d ≡ value s
 unfolding ended
-ended-whole s b at h z = simp (length-drop, le-ltb 0 (length b - (at + 1)) (omega arith), ne-eqb (taskCount s) 0 z)
+ended-whole s d e h z = rw (le-ltb 0 (length d) (omega arith), ne-eqb (taskCount s) 0 z)
 
-module _ {a : Answer Sheet} {b w₀ w : List ℕ} {n m at : ℕ} (s : Scanning a b w₀ w n m at) where
+module _ {a : Answer Sheet} {d w₀ w : List ℕ} {n m e : ℕ} (s : Scanning a d w₀ w n m e) where
   -- the scan goes on behind a command of kind k
-  goes-on : (k : Kind) (w′ : List ℕ) (n′ m′ : ℕ) → closes k ≡ false → judge sheetFormat (begun (sheetIn w)) (drop at b) ≡ go k
-      → Filling w′ → length w′ ≡ length w → getD w′ 0 0 ≡ n′ → getD w′ 1 0 ≡ m′ → sheetIn w′ ≡ withCommand (sheetIn w) k (drop (at + 1) b)
-      → Scanning a b w₀ w′ n′ m′ (at + (1 + width k))
+  goes-on : (k : Kind) (w′ : List ℕ) (n′ m′ : ℕ) → closes k ≡ false → judge sheetFormat (begun (sheetIn w)) d ≡ go k
+      → Filling w′ → length w′ ≡ length w → getD w′ 0 0 ≡ n′ → getD w′ 1 0 ≡ m′ → sheetIn w′ ≡ withCommand (sheetIn w) k (drop 1 d)
+      → Scanning a (drop (1 + width k) d) w₀ w′ n′ m′ (e + (1 + width k))
   goes-on k w′ n′ m′ c j f l e₁ e₂ h =
-      let k-sound = sound-at (begun (sheetIn w)) b at k j in
-      let more = comes sheetFormat _ _ k j .more in
-      let here : begun (withCommand (sheetIn w) k (drop 1 (drop at b))) ≡ begun (sheetIn w′) =
-      ap begun (ap (withCommand (sheetIn w) k) (operands b at) ∙ sym h) in
-      let on : Going sheetFormat a (begun (sheetIn w′)) (at + (1 + width k)) (drop (1 + width k) (drop at b)) =
-      subst (λ (p : Progress). Going sheetFormat a p (at + (1 + width k)) (drop (1 + width k) (drop at b))) here (goes sheetFormat (s .going) k c j) in
       record {
-        room = omega (arith, simp length-drop at more, simp length-drop at (k-sound .room));
         long = l ∙ s .long;
         filling = f;
         tasks = e₁;
         links = e₂;
-        going = subst (λ (d : List ℕ). Going sheetFormat a (begun (sheetIn w′)) (at + (1 + width k)) d) (drop-drop (1 + width k) at b) on;
+        going = subst (λ (p : Progress). Going sheetFormat a p (e + (1 + width k)) (drop (1 + width k) d)) (sym (ap begun h)) (goes sheetFormat (s .going) k c j);
       }
 
+  pub task-few : judge sheetFormat (begun (sheetIn w)) d ≡ go task → n < 256
+  task-few j = omega (arith, leb-false 256 (taskCount (sheetIn w)) (sound-of _ d task j .space), tasks-in w, s .tasks)
+
+  pub link-few : judge sheetFormat (begun (sheetIn w)) d ≡ go link → m < 1024
+  link-few j = omega (arith, leb-false 1024 (linkCount (sheetIn w)) (sound-of _ d link j .space), links-in w, s .links)
+
   -- a task
-  scan-task-by : (work store : ℕ) → judge sheetFormat (begun (sheetIn w)) (drop at b) ≡ go task
-      → work ≡ numberAt 2 b (at + 1) → store ≡ numberAt 2 b (at + 3) → work < 65536 → store < 65536
-      → Scanning a b w₀ (taskWords w n work store) (n + 1) m (at + 5)
-  scan-task-by work store j e₁ e₂ h₁ h₂ =
-      let k = sound-at (begun (sheetIn w)) b at task j in
+  pub scan-task : (work store : ℕ) → judge sheetFormat (begun (sheetIn w)) d ≡ go task → work ≡ numberAt 2 d 1 → store ≡ numberAt 2 d 3 → work < 65536 → store < 65536
+      → Scanning a (drop 5 d) w₀ (taskWords w n work store) (n + 1) m (e + 5)
+  scan-task work store j e₁ e₂ h₁ h₂ =
       let long : fixed ≤ length w = s .filling .loaded .long in
-      let few : n < 256 = omega (arith, leb-false 256 (taskCount (sheetIn w)) (k .space), tasks-in w, s .tasks) in
-      let from : taskFrom (drop (at + 1) b) ≡ record { work = work; store = store } =
-      let p : numberAt 2 (drop (at + 1) b) 0 ≡ work = numberAt-drop 2 (at + 1) b 0 ∙ ap (numberAt 2 b) (omega arith) ∙ sym e₁ in
-      let q : numberAt 2 (drop (at + 1) b) 2 ≡ store = numberAt-drop 2 (at + 1) b 2 ∙ ap (numberAt 2 b) (omega arith) ∙ sym e₂ in
+      let few = task-few j in
+      let from : taskFrom (drop 1 d) ≡ record { work = work; store = store } =
+      let p : numberAt 2 (drop 1 d) 0 ≡ work = numberAt-drop 2 1 d 0 ∙ sym e₁ in
+      let q : numberAt 2 (drop 1 d) 2 ≡ store = numberAt-drop 2 1 d 2 ∙ sym e₂ in
       λ x. record { work = p x; store = q x } in
       goes-on task (taskWords w n work store) (n + 1) m refl j
       (filling-task w n work store (s .filling) (s .tasks) few h₁ h₂)
@@ -117,89 +110,139 @@ module _ {a : Answer Sheet} {b w₀ w : List ℕ} {n m at : ℕ} (s : Scanning a
       (sheet-task w n work store long few (s .tasks) (s .filling .loaded .links)
       ∙ ap (λ (t : Task). record { processors = sheetIn w .processors; limit = sheetIn w .limit; tasks = sheetIn w .tasks ++ t ∷ []; links = sheetIn w .links }) (sym from))
 
-  pub scan-task : judge sheetFormat (begun (sheetIn w)) (drop at b) ≡ go task → ((k : ℕ) → getD b k 0 < 256)
-      → Scanning a b w₀ (taskWords w n (numberAt 2 b (at + 1)) (numberAt 2 b (at + 3))) (n + 1) m (at + 5)
-  scan-task j small = scan-task-by _ _ j refl refl (number-lt 2 b (at + 1) small) (number-lt 2 b (at + 3) small)
+  -- the ends of a link
+  module _ (x y : ℕ) (j : judge sheetFormat (begun (sheetIn w)) d ≡ go link) (p : x ≡ getD d 1 0) (q : y ≡ getD d 2 0) where
+    first-end : getD (drop 1 d) 0 0 ≡ x
+    first-end = getD-drop 1 d 0 0 ∙ sym p
 
-  -- a link
-  scan-link-by : (x y c d : ℕ) → judge sheetFormat (begun (sheetIn w)) (drop at b) ≡ go link
-      → x ≡ getD b (at + 1) 0 → y ≡ getD b (at + 2) 0 → c ≡ numberAt 2 b (at + 3) → d ≡ numberAt 2 b (at + 5) → c < 65536 → d < 65536
-      → Scanning a b w₀ (linkWords (pairWords w x y) m x y c d) n (m + 1) (at + 7)
-  scan-link-by x y c d j e₁ e₂ e₃ e₄ h₁ h₂ =
-      let k = sound-at (begun (sheetIn w)) b at link j in
-      let long : fixed ≤ length w = s .filling .loaded .long in
-      let p₁ : getD (drop 1 (drop at b)) 0 0 ≡ x = ap (λ (l : List ℕ). getD l 0 0) (operands b at) ∙ getD-drop (at + 1) b 0 0 ∙ ap (λ (i : ℕ). getD b i 0) (omega arith) ∙ sym e₁ in
-      let p₂ : getD (drop 1 (drop at b)) 1 0 ≡ y = ap (λ (l : List ℕ). getD l 1 0) (operands b at) ∙ getD-drop (at + 1) b 1 0 ∙ ap (λ (i : ℕ). getD b i 0) (omega arith) ∙ sym e₂ in
-      let p₃ : numberAt 2 (drop (at + 1) b) 2 ≡ c = numberAt-drop 2 (at + 1) b 2 ∙ ap (numberAt 2 b) (omega arith) ∙ sym e₃ in
-      let p₄ : numberAt 2 (drop (at + 1) b) 4 ≡ d = numberAt-drop 2 (at + 1) b 4 ∙ ap (numberAt 2 b) (omega arith) ∙ sym e₄ in
-      let few : m < 1024 = omega (arith, leb-false 1024 (linkCount (sheetIn w)) (k .space), links-in w, s .links) in
-      let ends = either-none (leb (taskCount (sheetIn w)) (getD (drop 1 (drop at b)) 0 0)) (leb (taskCount (sheetIn w)) (getD (drop 1 (drop at b)) 1 0)) (k .tight) in
-      let x-small : x < getD w 0 0 = omega (arith, leb-false (taskCount (sheetIn w)) (getD (drop 1 (drop at b)) 0 0) (ends .0), tasks-in w) in
-      let y-small : y < getD w 0 0 = omega (arith, leb-false (taskCount (sheetIn w)) (getD (drop 1 (drop at b)) 1 0) (ends .1), tasks-in w) in
-      let single : joins (sheetIn w) x y ≡ false = ap₂ (joins (sheetIn w)) (sym p₁) (sym p₂) ∙ k .single in
-      let v-long = pair-long w x y long (omega (arith, s .filling .loaded .tasks)) (omega (arith, s .filling .loaded .tasks)) in
-      let from : linkFrom (drop (at + 1) b) ≡ record { source = x; target = y; cost = c; bytes = d } =
-      let q₁ : getD (drop (at + 1) b) 0 0 ≡ x = ap (λ (l : List ℕ). getD l 0 0) (sym (operands b at)) ∙ p₁ in
-      let q₂ : getD (drop (at + 1) b) 1 0 ≡ y = ap (λ (l : List ℕ). getD l 1 0) (sym (operands b at)) ∙ p₂ in
-      λ i. record { source = q₁ i; target = q₂ i; cost = p₃ i; bytes = p₄ i } in
-      let v-fixed : fixed ≤ length (pairWords w x y) = omega arith in
-      goes-on link (linkWords (pairWords w x y) m x y c d) n (m + 1) refl j
-      (filling-link w m x y c d (s .filling) (s .links) few x-small y-small h₁ h₂ single)
-      (link-long (pairWords w x y) m x y c d v-fixed few ∙ v-long)
-      (link-away (pairWords w x y) m x y c d v-fixed few 0 (λ q. omega arith) (λ q. omega arith) (λ q. omega arith) (λ q. omega arith) (λ q. omega arith)
-      ∙ pair-away w x y long (omega (arith, s .filling .loaded .tasks)) (omega (arith, s .filling .loaded .tasks)) 0 (omega arith) ∙ s .tasks)
-      (link-count (pairWords w x y) m x y c d v-fixed few)
-      (link-sheet w m x y c d (s .filling) (s .links) few x-small y-small h₁ h₂
-      ∙ ap (λ (l : Link). record { processors = sheetIn w .processors; limit = sheetIn w .limit; tasks = sheetIn w .tasks; links = sheetIn w .links ++ l ∷ [] }) (sym from))
+    second-end : getD (drop 1 d) 1 0 ≡ y
+    second-end = getD-drop 1 d 1 0 ∙ sym q
 
-  pub scan-link : judge sheetFormat (begun (sheetIn w)) (drop at b) ≡ go link → ((k : ℕ) → getD b k 0 < 256) → Scanning a b w₀ (addedWords b at w m) n (m + 1) (at + 7)
-  unfolding addedWords
-  scan-link j small = scan-link-by _ _ _ _ j refl refl refl refl (number-lt 2 b (at + 3) small) (number-lt 2 b (at + 5) small)
+    tight : (leb (taskCount (sheetIn w)) (getD (drop 1 d) 0 0) ≡ false) × (leb (taskCount (sheetIn w)) (getD (drop 1 d) 1 0) ≡ false)
+    tight = either-none _ _ (sound-of _ d link j .tight)
 
-  -- what adding the command's task or link requires
-  pub task-room : judge sheetFormat (begun (sheetIn w)) (drop at b) ≡ go task → (at + 5 ≤ length b) × (fixed ≤ length w) × (n < 256)
-  task-room j =
-      let k = sound-at (begun (sheetIn w)) b at task j in
-      (omega (arith, simp length-drop at (k .room), simp length-drop at (comes sheetFormat _ _ task j .more)), s .filling .loaded .long,
-      omega (arith, leb-false 256 (taskCount (sheetIn w)) (k .space), tasks-in w, s .tasks))
+    pub source-small : x < getD w 0 0
+    source-small = omega (arith, leb-false (taskCount (sheetIn w)) (getD (drop 1 d) 0 0) (tight .0), first-end, tasks-in w)
 
-  pub link-room : judge sheetFormat (begun (sheetIn w)) (drop at b) ≡ go link → (at + 7 ≤ length b) × (fixed ≤ length w) × (m < 1024)
-  link-room j =
-      let k = sound-at (begun (sheetIn w)) b at link j in
-      (omega (arith, simp length-drop at (k .room), simp length-drop at (comes sheetFormat _ _ link j .more)), s .filling .loaded .long,
-      omega (arith, leb-false 1024 (linkCount (sheetIn w)) (k .space), links-in w, s .links))
+    pub target-small : y < getD w 0 0
+    target-small = omega (arith, leb-false (taskCount (sheetIn w)) (getD (drop 1 d) 1 0) (tight .1), second-end, tasks-in w)
 
-  pub link-single : judge sheetFormat (begun (sheetIn w)) (drop at b) ≡ go link → ((k : ℕ) → getD b k 0 < 256) → pairIn w (getD b (at + 1) 0) (getD b (at + 2) 0) ≡ false
-  link-single j small =
-      let k = sound-at (begun (sheetIn w)) b at link j in
-      let p₁ : getD (drop 1 (drop at b)) 0 0 ≡ getD b (at + 1) 0 = ap (λ (l : List ℕ). getD l 0 0) (operands b at) ∙ getD-drop (at + 1) b 0 0 ∙ ap (λ (i : ℕ). getD b i 0) (omega arith) in
-      let p₂ : getD (drop 1 (drop at b)) 1 0 ≡ getD b (at + 2) 0 = ap (λ (l : List ℕ). getD l 1 0) (operands b at) ∙ getD-drop (at + 1) b 1 0 ∙ ap (λ (i : ℕ). getD b i 0) (omega arith) in
-      s .filling .pairs (getD b (at + 1) 0) (getD b (at + 2) 0) (small (at + 1)) (small (at + 2)) ∙ ap₂ (joins (sheetIn w)) (sym p₁) (sym p₂) ∙ k .single
+    single : joins (sheetIn w) x y ≡ false
+    single = ap₂ (joins (sheetIn w)) (sym first-end) (sym second-end) ∙ sound-of _ d link j .single
 
-  pub scan-more : (k : Kind) → judge sheetFormat (begun (sheetIn w)) (drop at b) ≡ go k → at < length b
-  scan-more k j = omega (arith, simp length-drop at (comes sheetFormat _ _ k j .more))
+    pub link-single : pairIn w x y ≡ false
+    link-single = s .filling .pairs x y (omega (arith, source-small, s .filling .loaded .tasks)) (omega (arith, target-small, s .filling .loaded .tasks)) ∙ single
 
-  pub scan-refuse : (r : ℕ) → judge sheetFormat (begun (sheetIn w)) (drop at b) ≡ refuse r → ReadIs a w₀ w (Refused r at)
-  scan-refuse r j = read-refused a w₀ w r at (s .long) (refuses sheetFormat (s .going) r j)
+    -- a link
+    pub scan-link : (c b : ℕ) → c ≡ numberAt 2 d 3 → b ≡ numberAt 2 d 5 → c < 65536 → b < 65536
+        → Scanning a (drop 7 d) w₀ (linkWords (pairWords w x y) m x y c b) n (m + 1) (e + 7)
+    scan-link c b e₃ e₄ h₁ h₂ =
+        let few = link-few j in
+        let long : fixed ≤ length w = s .filling .loaded .long in
+        let small : (x < 256) × (y < 256) = (omega (arith, source-small, s .filling .loaded .tasks), omega (arith, target-small, s .filling .loaded .tasks)) in
+        let v-long = pair-long w x y long (small .0) (small .1) in
+        let v-fixed : fixed ≤ length (pairWords w x y) = omega arith in
+        let from : linkFrom (drop 1 d) ≡ record { source = x; target = y; cost = c; bytes = b } =
+        let q₃ : numberAt 2 (drop 1 d) 2 ≡ c = numberAt-drop 2 1 d 2 ∙ sym e₃ in
+        let q₄ : numberAt 2 (drop 1 d) 4 ≡ b = numberAt-drop 2 1 d 4 ∙ sym e₄ in
+        λ i. record { source = first-end i; target = second-end i; cost = q₃ i; bytes = q₄ i } in
+        goes-on link (linkWords (pairWords w x y) m x y c b) n (m + 1) refl j
+        (filling-link w m x y c b (s .filling) (s .links) few source-small target-small h₁ h₂ single)
+        (link-long (pairWords w x y) m x y c b v-fixed few ∙ v-long)
+        (link-away (pairWords w x y) m x y c b v-fixed few 0 (λ q. omega arith) (λ q. omega arith) (λ q. omega arith) (λ q. omega arith) (λ q. omega arith)
+        ∙ pair-away w x y long (small .0) (small .1) 0 (omega arith) ∙ s .tasks)
+        (link-count (pairWords w x y) m x y c b v-fixed few)
+        (link-sheet w m x y c b (s .filling) (s .links) few source-small target-small h₁ h₂
+        ∙ ap (λ (l : Link). record { processors = sheetIn w .processors; limit = sheetIn w .limit; tasks = sheetIn w .tasks; links = sheetIn w .links ++ l ∷ [] }) (sym from))
+
+  pub scan-refuse : (r : ℕ) → judge sheetFormat (begun (sheetIn w)) d ≡ refuse r → ReadIs a w₀ w (Refused r e)
+  scan-refuse r j = read-refused a w₀ w r e (s .long) (refuses sheetFormat (s .going) r j)
 
   -- the end: bytes behind it, no task, or the sheet
-  scan-end : judge sheetFormat (begun (sheetIn w)) (drop at b) ≡ go end → a ≡ ended (begun (sheetIn w)) at (drop (at + 1) b)
-  scan-end j = ends sheetFormat (s .going) end refl j ∙ ap (ended (begun (sheetIn w)) at) (operands b at)
+  scan-end : judge sheetFormat (begun (sheetIn w)) d ≡ go end → a ≡ ended (begun (sheetIn w)) e (drop 1 d)
+  scan-end j = ends sheetFormat (s .going) end refl j
 
-  pub scan-closes : (r : Reading) → judge sheetFormat (begun (sheetIn w)) (drop at b) ≡ go end → r ≡ closedOf (length b) at n → ReadIs a w₀ w r
+  pub scan-tail : judge sheetFormat (begun (sheetIn w)) d ≡ go end → 0 < length (drop 1 d) → ReadIs a w₀ w (Refused 4 (e + 1))
+  scan-tail j h = read-refused a w₀ w 4 (e + 1) (s .long) (scan-end j ∙ ended-tail (sheetIn w) (drop 1 d) e h)
+
+  pub scan-bare : judge sheetFormat (begun (sheetIn w)) d ≡ go end → length (drop 1 d) ≡ 0 → n ≡ 0 → ReadIs a w₀ w (Refused 9 e)
+  scan-bare j h z = read-refused a w₀ w 9 e (s .long) (scan-end j ∙ ended-bare (sheetIn w) (drop 1 d) e h (tasks-in w ∙ s .tasks ∙ z))
+
+  pub scan-whole : judge sheetFormat (begun (sheetIn w)) d ≡ go end → length (drop 1 d) ≡ 0 → n ≢ 0 → ReadIs a w₀ w Read
+  scan-whole j h z =
+      read-value a w₀ w (s .long) (s .filling .loaded) (scan-end j ∙ ended-whole (sheetIn w) (drop 1 d) e h (λ q. z (sym (s .tasks) ∙ sym (tasks-in w) ∙ q)))
+
+-- bytes of which the first `at` are read
+module _ {a : Answer Sheet} {b w₀ w : List ℕ} {n m at : ℕ} (s : Walking a b w₀ w n m at) where
+  operand : (i x : ℕ) → at + i ≡ x → getD (drop at b) i 0 ≡ getD b x 0
+  operand i x e = getD-drop at b i 0 ∙ ap (λ (k : ℕ). getD b k 0) e
+
+  operand16 : (i x : ℕ) → at + i ≡ x → numberAt 2 (drop at b) i ≡ numberAt 2 b x
+  operand16 i x e = numberAt-drop 2 at b i ∙ ap (numberAt 2 b) e
+
+  -- a command stands there whole
+  pub walk-room : (k : Kind) → judge sheetFormat (begun (sheetIn w)) (drop at b) ≡ go k → at + (1 + width k) ≤ length b
+  walk-room k j =
+      omega (arith, simp length-drop at (sound-of _ (drop at b) k j .room), simp length-drop at (comes sheetFormat _ (drop at b) k j .more))
+
+  pub walk-task : judge sheetFormat (begun (sheetIn w)) (drop at b) ≡ go task → ((k : ℕ) → getD b k 0 < 256)
+      → Walking a b w₀ (taskWords w n (numberAt 2 b (at + 1)) (numberAt 2 b (at + 3))) (n + 1) m (at + 5)
+  walk-task j small =
+      let work : ℕ = numberAt 2 b (at + 1) in
+      let store : ℕ = numberAt 2 b (at + 3) in
+      record {
+        room = walk-room task j;
+        scanning =
+            subst (λ (d : List ℕ). Scanning a d w₀ (taskWords w n work store) (n + 1) m (at + 5)) (drop-drop 5 at b)
+            (scan-task (s .scanning) work store j (sym (operand16 1 (at + 1) refl)) (sym (operand16 3 (at + 3) refl)) (number-lt 2 b (at + 1) small) (number-lt 2 b (at + 3) small));
+      }
+
+  pub walk-single : judge sheetFormat (begun (sheetIn w)) (drop at b) ≡ go link → pairIn w (getD b (at + 1) 0) (getD b (at + 2) 0) ≡ false
+  walk-single j = link-single (s .scanning) _ _ j (sym (operand 1 (at + 1) refl)) (sym (operand 2 (at + 2) refl))
+
+  pub walk-link : judge sheetFormat (begun (sheetIn w)) (drop at b) ≡ go link → ((k : ℕ) → getD b k 0 < 256) → Walking a b w₀ (addedWords b at w m) n (m + 1) (at + 7)
+  unfolding addedWords
+  walk-link j small =
+      let x : ℕ = getD b (at + 1) 0 in
+      let y : ℕ = getD b (at + 2) 0 in
+      let c : ℕ = numberAt 2 b (at + 3) in
+      let z : ℕ = numberAt 2 b (at + 5) in
+      record {
+        room = walk-room link j;
+        scanning =
+            subst (λ (d : List ℕ). Scanning a d w₀ (linkWords (pairWords w x y) m x y c z) n (m + 1) (at + 7)) (drop-drop 7 at b)
+            (scan-link (s .scanning) x y j (sym (operand 1 (at + 1) refl)) (sym (operand 2 (at + 2) refl)) c z (sym (operand16 3 (at + 3) refl)) (sym (operand16 5 (at + 5) refl)) (number-lt 2 b (at + 3) small) (number-lt 2 b (at + 5) small));
+      }
+
+  behind : length (drop 1 (drop at b)) ≡ length b - (at + 1)
+  behind = ap length (drop-drop 1 at b) ∙ length-drop (at + 1) b
+
+  pub walk-closes : (r : Reading) → judge sheetFormat (begun (sheetIn w)) (drop at b) ≡ go end → r ≡ closedOf (length b) at n → ReadIs a w₀ w r
   unfolding closedOf
-  scan-closes r j e = subst (ReadIs a w₀ w) (sym e) (tail (decLt (at + 1) (length b)))
+  walk-closes r j e = subst (ReadIs a w₀ w) (sym e) (tail (decLt (at + 1) (length b)))
     where
       none-behind : length b ≤ at + 1 → Dec (n ≡ 0) → ReadIs a w₀ w (pick (eqb n 0) (Refused 9 at) Read)
-      none-behind h (yes z) =
-          rw (eq-eqb n 0 z) (read-refused a w₀ w 9 at (s .long) (scan-end j ∙ ended-bare (sheetIn w) b at h (tasks-in w ∙ s .tasks ∙ z)))
-      none-behind h (no z) =
-          rw (ne-eqb n 0 z)
-          (read-value a w₀ w (s .long) (s .filling .loaded) (scan-end j ∙ ended-whole (sheetIn w) b at h (λ q. z (sym (s .tasks) ∙ sym (tasks-in w) ∙ q))))
+      none-behind h (yes z) = rw (eq-eqb n 0 z) (scan-bare (s .scanning) j (omega (arith, behind)) z)
+      none-behind h (no z) = rw (ne-eqb n 0 z) (scan-whole (s .scanning) j (omega (arith, behind)) z)
 
       tail : Dec (at + 1 < length b) → ReadIs a w₀ w (pick (ltb (at + 1) (length b)) (Refused 4 (at + 1)) (pick (eqb n 0) (Refused 9 at) Read))
-      tail (yes h) = rw (lt-ltb (at + 1) (length b) h) (read-refused a w₀ w 4 (at + 1) (s .long) (scan-end j ∙ ended-tail (sheetIn w) b at h))
+      tail (yes h) = rw (lt-ltb (at + 1) (length b) h) (scan-tail (s .scanning) j (omega (arith, behind)))
       tail (no h) = rw (le-ltb (at + 1) (length b) (omega arith)) (none-behind (omega arith) (ℕ-discrete n 0))
+
+-- behind the board command
+pub bare-counts : {p l : ℕ} {u w : List ℕ} → FillingOf (record { processors = p; limit = l; tasks = []; links = [] }) u w → (getD w 0 0 ≡ 0) × (getD w 1 0 ≡ 0)
+bare-counts {p} {l} {u} {w} f = (sym (tasks-in w) ∙ ap taskCount (f .sheet) ∙ no-tasks p l, sym (links-in w) ∙ ap linkCount (f .sheet) ∙ no-links p l)
+
+pub scan-board : {a : Answer Sheet} {d u : List ℕ} {e : ℕ} (v w : List ℕ) (p l : ℕ) → length w ≡ length v → FillingOf (record { processors = p; limit = l; tasks = []; links = [] }) u w
+    → Going sheetFormat a (begun (sheetIn w)) e d → Scanning a d v w 0 0 e
+scan-board v w p l long f g =
+    record {
+      long = long;
+      filling = f .filling;
+      tasks = bare-counts f .0;
+      links = bare-counts f .1;
+      going = g;
+    }
 
 -- the board command: refused, or read
 pub open-refuse : (b w : List ℕ) (r : ℕ) → openingOf r ≡ judge sheetFormat fresh b → r ≢ 0 → ReadIs (readForm b) w w (Refused r 0)
@@ -211,14 +254,14 @@ open-go b r e h = sym e ∙ simp (eq-eqb r 0 h)
 
 pub open-room : (b : List ℕ) → judge sheetFormat fresh b ≡ go board → (6 ≤ length b) × (getD b 1 0 ≤ 16)
 open-room b j =
-    let k = sound-at fresh b 0 board j in
+    let k = sound-of fresh b board j in
     let inside = both-parts (leb 1 (getD (drop 1 b) 0 0)) (leb (getD (drop 1 b) 0 0) 16) (not-false _ (k .range)) in
     (omega (arith, simp length-drop at (k .room), comes sheetFormat _ _ board j .more), omega (arith, leb-true (getD (drop 1 b) 0 0) 16 (inside .1), getD-drop 1 b 0 0))
 
-pub scan-starts : (b w : List ℕ) (p l : ℕ) → judge sheetFormat fresh b ≡ go board → p ≡ getD b 1 0 → l ≡ numberAt 4 b 2 → (v : List ℕ)
-    → FillingOf (record { processors = p; limit = l; tasks = []; links = [] }) v w → Scanning (readForm b) b w w 0 0 6
+pub walk-starts : (b w : List ℕ) (p l : ℕ) → judge sheetFormat fresh b ≡ go board → p ≡ getD b 1 0 → l ≡ numberAt 4 b 2 → (v : List ℕ)
+    → FillingOf (record { processors = p; limit = l; tasks = []; links = [] }) v w → Walking (readForm b) b w w 0 0 6
 unfolding readForm
-scan-starts b w p l j e₁ e₂ v f =
+walk-starts b w p l j e₁ e₂ v f =
     let room = open-room b j in
     let p′ : getD (drop 1 b) 0 0 ≡ p = getD-drop 1 b 0 0 ∙ sym e₁ in
     let l′ : numberAt 4 (drop 1 b) 1 ≡ l = numberAt-drop 4 1 b 1 ∙ sym e₂ in
@@ -226,11 +269,7 @@ scan-starts b w p l j e₁ e₂ v f =
     ap₂ (λ (x y : ℕ). begun (record { processors = x; limit = y; tasks = []; links = [] })) p′ l′ ∙ sym (ap begun (f .sheet)) in
     record {
       room = room .0;
-      long = refl;
-      filling = f .filling;
-      tasks = sym (tasks-in w) ∙ ap taskCount (f .sheet) ∙ no-tasks p l;
-      links = sym (links-in w) ∙ ap linkCount (f .sheet) ∙ no-links p l;
-      going = subst (λ (q : Progress). Going sheetFormat (readAll sheetFormat fresh b) q 6 (drop 6 b)) here (goes sheetFormat (starts sheetFormat fresh b) board refl j);
+      scanning = scan-board w w p l refl f (subst (λ (q : Progress). Going sheetFormat (readAll sheetFormat fresh b) q 6 (drop 6 b)) here (goes sheetFormat (starts sheetFormat fresh b) board refl j));
     }
 
 -- reading from words that are as long as those lent

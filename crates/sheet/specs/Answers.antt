@@ -1,5 +1,5 @@
 -- The code's answers as the definitions have them.
-use Prim.Native.Nat.{ℕ, _+_}
+use Prim.Native.Nat.{ℕ, _+_, _*_, _/_, _%_}
 use mathlib.Core.Path.{_≡_}
 use mathlib.Core.List.{List}
 use lib.ListN.{length}
@@ -39,3 +39,8 @@ pub record ReadIs (a : Answer Sheet) (w last : List ℕ) (r : Reading) : Type 0 
 -- what the end command at offset e of so many bytes closes, behind n tasks
 unfoldable pub closedOf : ℕ → ℕ → ℕ → Reading
 closedOf long e n = pick (ltb (e + 1) long) (Refused 4 (e + 1)) (pick (eqb n 0) (Refused 9 e) Read)
+
+-- what stands behind m values of links and n tasks: a link that is cut, no task, or a sheet
+unfoldable pub valuesClosed : ℕ → ℕ → Reading
+valuesClosed m n =
+    pick (eqb (m % 4) 0) (pick (eqb n 0) (Refused 9 (6 + 5 * n + 7 * (m / 4))) Read) (Refused 1 (6 + 5 * n + 7 * (m / 4)))

@@ -34,13 +34,16 @@ sheetOfValues processors limit tasks links =
     record { processors = processors; limit = limit; tasks = listed (length tasks / 2) (taskValue tasks); links = listed (length links / 4) (linkValue links) }
 
 -- the bytes of these values: a list that stops inside a record stands for a command that is cut there
+unfoldable pub linkValueBytes : List ℕ → List ℕ
+linkValueBytes links =
+    linkBytes (listed (length links / 4) (linkValue links)) ++ pick (eqb (length links % 4) 0) (0x51 ∷ []) (0x45 ∷ [])
+
+unfoldable pub taskValueBytes : List ℕ → List ℕ → List ℕ
+taskValueBytes tasks links =
+    taskBytes (listed (length tasks / 2) (taskValue tasks)) ++ pick (eqb (length tasks % 2) 0) (linkValueBytes links) (0x54 ∷ [])
+
 unfoldable pub valueBytes : ℕ → ℕ → List ℕ → List ℕ → List ℕ
-valueBytes processors limit tasks links =
-    boardBytes processors limit
-    ++ (taskBytes (listed (length tasks / 2) (taskValue tasks))
-    ++ pick (eqb (length tasks % 2) 0)
-    (linkBytes (listed (length links / 4) (linkValue links)) ++ pick (eqb (length links % 4) 0) (0x51 ∷ []) (0x45 ∷ []))
-    (0x54 ∷ []))
+valueBytes processors limit tasks links = boardBytes processors limit ++ taskValueBytes tasks links
 
 -- the values of a sheet
 abbrev pub taskValues : List Task → List ℕ

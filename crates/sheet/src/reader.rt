@@ -13,10 +13,10 @@ ghost use Rattle.sheet.specs.Format.{task, link, board, end, sheetFormat
 ghost use Rattle.sheet.specs.Tables.{sheetIn, pairIn, Filling, FillingOf, taskWords};
 ghost use Rattle.sheet.specs.Faults.{begun, taskFault, linkFault, numbered};
 ghost use Rattle.sheet.specs.Answers.{outcomeOf, openingOf, closedOf, ReadIs};
-ghost use Rattle.sheet.specs.Scanning.{Scanning, addedWords};
+ghost use Rattle.sheet.specs.Scanning.{Walking, addedWords};
+use crate::Reading;
 use crate::pairs;
 use crate::tables;
-use crate::Reading;
 
 // The next command behind the board command: its kind, or the number that refuses it.
 pub enum Next {
@@ -88,7 +88,13 @@ fn link_at(bytes: &[u8], at: usize, w: &[u32], tasks: usize, links: usize) -> Ne
     if bytes.len() - (at + 1) < 6 {
         return Next::No(1);
     }
-    let fault = link_fault(w, tasks, links, numbers::get8(bytes, at + 1), numbers::get8(bytes, at + 2));
+    let fault = link_fault(
+        w,
+        tasks,
+        links,
+        numbers::get8(bytes, at + 1),
+        numbers::get8(bytes, at + 2),
+    );
     if fault != 0 {
         return Next::No(fault);
     }
@@ -206,7 +212,7 @@ fn closing(bytes: &[u8], at: usize, tasks: usize) -> Reading
 
 // Reads command by command behind the board command.
 fn walk(bytes: &[u8], w: &mut [u32]) -> Reading
-    requires { ⌜ Scanning (readForm (now bytes)) (now bytes) (now w) (now w) 0 0 6 ⌝ }
+    requires { ⌜ Walking (readForm (now bytes)) (now bytes) (now w) (now w) 0 0 6 ⌝ }
     ensures { λ r. ⌜ ReadIs (readForm (now (bytes .entry))) (now (w .entry)) (now (w .exit)) r ⌝ }
 {
     let mut at = 6;

@@ -1,4 +1,4 @@
-use Rattle.sheet.proofs.Scans.{open-go, open-refuse, open-room, read-through, scan-starts}
+use Rattle.sheet.proofs.Scans.{open-go, open-refuse, open-room, read-through, walk-starts}
 use borrow.Author.Needs.{needs}
 use denote.Ref.{now}
 use mathlib.Core.Path.{refl}
@@ -22,7 +22,7 @@ begin-requires : tie.Need-begin-requires
 begin-requires c κs = let r = open-room (now (c .before .before .before .before .before .before .before .args .bytes)) (open-go (now (c .before .before .before .before .before .before .before .args .bytes)) _ (c .before .before .before .before .opening .ensures) (c .before .before .before .if1 .left)) in (c .before .before .before .before .before .before .before .pre, r .1)
 
 walk-requires : tie.Need-walk-requires
-walk-requires c κs = scan-starts (now (c .before .before .before .before .before .before .before .before .before .before .before .args .bytes)) _ _ _ (open-go (now (c .before .before .before .before .before .before .before .before .before .before .before .args .bytes)) _ (c .before .before .before .before .before .before .before .before .opening .ensures) (c .before .before .before .before .before .before .before .if1 .left)) refl (c .before .before .before .before .get32 .ensures) _ (c .before .before .before .begin .ensures)
+walk-requires c κs = walk-starts (now (c .before .before .before .before .before .before .before .before .before .before .before .args .bytes)) _ _ _ (open-go (now (c .before .before .before .before .before .before .before .before .before .before .before .args .bytes)) _ (c .before .before .before .before .before .before .before .before .opening .ensures) (c .before .before .before .before .before .before .before .if1 .left)) refl (c .before .before .before .before .get32 .ensures) _ (c .before .before .before .begin .ensures)
 
 same-length : tie.Need-same-length
 same-length c = search needs
