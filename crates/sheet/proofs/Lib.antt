@@ -5,3 +5,4 @@ pub mod Joins
 pub mod Judging
 pub mod Scans
 pub mod Given
+pub mod Stores

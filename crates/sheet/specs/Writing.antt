@@ -1,5 +1,5 @@
 -- A sheet's bytes, and the bytes of a sheet that is given by its values.
-use Prim.Native.Nat.{ℕ, _+_, _*_, _/_, _%_}
+use Prim.Native.Nat.{ℕ, _+_, _*_, _/_, _%_, _<_}
 use mathlib.Core.List.{List, [], _∷_, _++_}
 use lib.ListN.{length, getD}
 use lib.Dec.{eqb}
@@ -53,3 +53,8 @@ taskValues (t ∷ ts) = t .work ∷ t .store ∷ taskValues ts
 abbrev pub linkValues : List Link → List ℕ
 linkValues [] = []
 linkValues (l ∷ ls) = l .source ∷ l .target ∷ l .cost ∷ l .bytes ∷ linkValues ls
+
+-- each link names its ends by a byte
+pub record Narrow (links : List ℕ) : Type 0 where
+  pub sources : (j : ℕ) → j < length links / 4 → linkValue links j .source < 256
+  pub targets : (j : ℕ) → j < length links / 4 → linkValue links j .target < 256

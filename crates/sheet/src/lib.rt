@@ -3,6 +3,7 @@ pub mod pairs;
 pub mod reader;
 pub mod tables;
 pub mod values;
+pub mod writer;
 
 // A sheet was read, or refused with a number and a place.
 pub enum Reading {
