@@ -127,3 +127,12 @@ module _ (w w′ : List ℕ) (same : (i : ℕ) → i < 4624 → getD w′ i 0 �
         costs = λ l k. omega (arith, same (2576 + l) (omega arith), h .costs l (omega arith));
         sizes = λ l k. omega (arith, same (3600 + l) (omega arith), h .sizes l (omega arith));
       }
+
+-- the tables up to their counts are the sheet's lists
+pub all-tasks : (w : List ℕ) (i : ℕ) → i ≡ taskCount (sheetIn w) → listed i (taskIn w) ≡ sheetIn w .tasks
+unfolding sheetIn
+all-tasks w i e = ap (λ (k : ℕ). listed k (taskIn w)) (e ∙ tasks-in w)
+
+pub all-links : (w : List ℕ) (l : ℕ) → l ≡ linkCount (sheetIn w) → listed l (linkIn w) ≡ sheetIn w .links
+unfolding sheetIn
+all-links w l e = ap (λ (k : ℕ). listed k (linkIn w)) (e ∙ links-in w)

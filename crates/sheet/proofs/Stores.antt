@@ -1,6 +1,6 @@
 -- Records written one behind the other are their bytes.
 use Prim.Native.Nat.{ℕ, zero, suc, _+_, _*_, _/_, _%_, _<_, _≤_, zero-le}
-use mathlib.Core.Path.{_≡_, refl, sym, ap, _∙_}
+use mathlib.Core.Path.{_≡_, refl, sym, ap, ap₂, _∙_}
 use mathlib.Core.List.{List, [], _∷_, _++_, append-assoc}
 use native.Mathlib.Numerals.{add-one}
 use native.Mathlib.Nat.{suc-mul, zero-add}
@@ -13,7 +13,7 @@ use borrow.Author.Tests.{eq-eqb}
 use Rattle.folds.specs.Folds.{pick, listed}
 use Rattle.folds.proofs.Loops.{listed-zero, listed-one}
 use Rattle.sheet.specs.Sheet.{Task, Link}
-use Rattle.sheet.specs.Writing.{boardBytes, taskBytes, linkBytes, taskValue, linkValue, linkValueBytes, taskValueBytes, valueBytes}
+use Rattle.sheet.specs.Writing.{boardBytes, taskBytes, linkBytes, taskValue, linkValue, linkValueBytes, taskValueBytes, valueBytes, taskValues, linkValues}
 
 -- records of one width: the bytes of one, and of a list of them
 module _ {X : Type 0} (size : ℕ) (one : X → List ℕ) (all : List X → List ℕ) (none : all [] ≡ [])
@@ -98,3 +98,39 @@ module _ (k c : ℕ) (tv lv : List ℕ) (tasks-whole : length tv % 2 ≡ 0) (lin
       stored-then b m₃ _ 0 (at + 7 * (length lv / 4)) (boardBytes k c ++ taskPart ++ linkPart) (0x51 ∷ []) p₃ last
       (omega (arith, length-append (boardBytes k c ++ taskPart) linkPart, length-append (boardBytes k c) taskPart)) zero-le
       ∙ ap (stored b 0) sheet-parts
+
+-- the same for values
+abbrev pub taskPair : Task → List ℕ
+taskPair t = t .work ∷ t .store ∷ []
+
+abbrev pub linkPairs : Link → List ℕ
+linkPairs l = l .source ∷ l .target ∷ l .cost ∷ l .bytes ∷ []
+
+pub taskValues-more : (xs : List Task) (t : Task) → taskValues (xs ++ (t ∷ [])) ≡ taskValues xs ++ taskPair t
+taskValues-more [] t = refl
+taskValues-more (x ∷ xs) t = ap (λ (r : List ℕ). x .work ∷ x .store ∷ r) (taskValues-more xs t)
+
+pub linkValues-more : (xs : List Link) (l : Link) → linkValues (xs ++ (l ∷ [])) ≡ linkValues xs ++ linkPairs l
+linkValues-more [] l = refl
+linkValues-more (x ∷ xs) l = ap (λ (r : List ℕ). x .source ∷ x .target ∷ x .cost ∷ x .bytes ∷ r) (linkValues-more xs l)
+
+pub taskValues-none : (f : ℕ → Task) (b : List ℕ) → b ≡ stored b 0 (taskValues (listed 0 f))
+taskValues-none f = all-none 2 taskPair taskValues refl taskValues-more (λ t. refl) f
+
+pub linkValues-none : (f : ℕ → Link) (b : List ℕ) → b ≡ stored b 0 (linkValues (listed 0 f))
+linkValues-none f = all-none 4 linkPairs linkValues refl linkValues-more (λ l. refl) f
+
+pub taskValues-next : (f : ℕ → Task) (b m r : List ℕ) (i x y : ℕ) → m ≡ stored b 0 (taskValues (listed i f)) → r ≡ stored m (2 * i) (x ∷ y ∷ []) → x ≡ f i .work → y ≡ f i .store
+    → r ≡ stored b 0 (taskValues (listed (i + 1) f))
+taskValues-next f b m r i x y p q e₁ e₂ =
+    all-next 2 taskPair taskValues refl taskValues-more (λ t. refl) f b m r i (2 * i) p
+    (q ∙ ap₂ (λ (u v : ℕ). stored m (2 * i) (u ∷ v ∷ [])) e₁ e₂) (omega arith)
+
+pub linkValues-next : (f : ℕ → Link) (b m r : List ℕ) (i : ℕ) → m ≡ stored b 0 (linkValues (listed i f)) → r ≡ stored m (4 * i) (linkPairs (f i)) → r ≡ stored b 0 (linkValues (listed (i + 1) f))
+linkValues-next f b m r i p q = all-next 4 linkPairs linkValues refl linkValues-more (λ l. refl) f b m r i (4 * i) p q (omega arith)
+
+pub pairs-link : (l : Link) (b m r : List ℕ) (at x y z u : ℕ) → m ≡ stored b at (x ∷ y ∷ []) → r ≡ stored m (at + 2) (z ∷ u ∷ []) → at ≤ length b
+    → x ≡ l .source → y ≡ l .target → z ≡ l .cost → u ≡ l .bytes → r ≡ stored b at (linkPairs l)
+pairs-link l b m r at x y z u p q h e₁ e₂ e₃ e₄ =
+    stored-then b m r at (at + 2) (x ∷ y ∷ []) (z ∷ u ∷ []) p q refl h
+    ∙ ap₂ (λ (i j : ℕ). stored b at (i ∷ j ∷ z ∷ u ∷ [])) e₁ e₂ ∙ ap₂ (λ (i j : ℕ). stored b at (l .source ∷ l .target ∷ i ∷ j ∷ [])) e₃ e₄

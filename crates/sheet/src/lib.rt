@@ -2,6 +2,7 @@
 pub mod pairs;
 pub mod reader;
 pub mod tables;
+pub mod unload;
 pub mod values;
 pub mod writer;
 
