@@ -8,7 +8,7 @@ ghost use Rattle.workspace.specs.Area.{fixed};
 pub fn fixed_length() -> usize
     ensures { λ r. ⌜ r ≡ fixed ⌝ }
 {
-    20480
+    22528
 }
 
 // A word as an index or a sum.

@@ -1,0 +1,7 @@
+pub mod Holding
+pub mod Fits
+pub mod Blocks
+pub mod Written
+pub mod Running
+pub mod Planned
+pub mod Whole

@@ -1,0 +1,214 @@
+-- One step of the machine: what it is, what it leaves alone, what it keeps true, and that steps of two processors can be swapped.
+use Prim.Native.Nat.{ℕ, _+_, _≤_, _<_}
+use native.Mathlib.Omega.{arith}
+use native.Mathlib.Decide.{decLt}
+use mathlib.Core.Bool.{true, false≢true}
+use mathlib.Core.Option.{Option, none, some, Option·some-injective}
+use mathlib.Core.Path.{_≡_, refl, sym, ap, _∙_, subst}
+use mathlib.Core.Logic.{_≢_, ⊎-elim}
+use mathlib.Core.List.{List}
+use lib.ListN.{length, drop, set, length-set, List·getD-eq-default}
+use lib.Seq.{getD-set-same, getD-set-other, set-comm, set-out}
+use borrow.Author.Tests.{eq-eqb}
+use Rattle.folds.specs.Folds.{then}
+use Rattle.folds.proofs.Tests.{equal-or, not-some}
+use Rattle.folds.proofs.Laws.{sum-differ}
+use Rattle.sheet.specs.Sheet.{Sheet, linkCount, costOf}
+use Rattle.bundle.specs.Bundle.{Command, run, send, receive, Bundle, programmeCount, programmeOf}
+use Rattle.messages.specs.Counting.{weigh, each, is, need}
+use Rattle.messages.proofs.Weights.{command-below, weigh-drop, weigh-take, is-refl}
+use Rattle.machine.specs.Machine.{State, Processor, freshProcessor, processorOf, stampOf, next, waits, after, posted, moved, step, holdsSome, canStep}
+use Rattle.machine.specs.Runs.{doneOf, leftOf, left}
+
+pub then-some : {A B : Type 0} (o : Option A) (f : A → Option B) (y : B) → then o f ≡ some y → (x : A) × (o ≡ some x) × (f x ≡ some y)
+then-some none f y e = not-some e
+then-some (some x) f y e = (x, refl, e)
+
+-- τ is the state after the command c of k, which waited for w
+pub record Move (s : Sheet) (b : Bundle) (σ : State) (k : ℕ) (τ : State) : Type 0 where
+  pub c : Command
+  pub w : ℕ
+  pub comes : next b σ k ≡ some c
+  pub waited : waits σ c ≡ some w
+  pub here : τ ≡ moved s σ k c w
+
+-- 1 once a message is sent
+abbrev pub mark : Option ℕ → ℕ
+mark none = 0
+mark (some x) = 1
+
+mark-le : (o : Option ℕ) → mark o ≤ 1
+mark-le none = omega arith
+mark-le (some x) = omega arith
+
+-- what is true of every state that a run reaches: a link has at most one send done or left, and the store in use is what the commands done need
+pub record Sound (s : Sheet) (b : Bundle) (σ : State) : Type 0 where
+  pub processors : length (σ .processors) ≡ programmeCount b
+  pub stamps : length (σ .stamps) ≡ linkCount s
+  pub sends : (l : ℕ) → l < linkCount s → mark (stampOf σ l) + left b σ (is (send l)) ≤ 1
+  pub store : (k : ℕ) → processorOf σ k .store ≡ doneOf b σ (need s) k
+
+set-out-comm : {A : Type 0} (m : List A) (i j : ℕ) (x y : A) → length m ≤ i → set (set m i x) j y ≡ set (set m j y) i x
+set-out-comm m i j x y h = ap (λ n. set n j y) (set-out m i x h) ∙ sym (set-out (set m j y) i x (rw (length-set m j y) h))
+
+pub length-posted : (s : Sheet) (c : Command) (t : ℕ) (m : List (Option ℕ)) → length (posted s c t m) ≡ length m
+length-posted s (run u) t m = refl
+length-posted s (send l) t m = simp length-set
+length-posted s (receive l) t m = refl
+
+module _ (s : Sheet) (b : Bundle) where
+  pub step-move : (σ : State) (k : ℕ) (τ : State) → step s b σ k ≡ some τ → Move s b σ k τ
+  unfolding step
+  step-move σ k τ e =
+      let m = then-some (next b σ k) (λ c. then (waits σ c) (λ w. some (moved s σ k c w))) τ e in
+      let n = then-some (waits σ (m .0)) (λ w. some (moved s σ k (m .0) w)) τ (m .2) in
+      record { c = m .0; w = n .0; comes = m .1; waited = n .1; here = sym (Option·some-injective _ _ (n .2)) }
+
+  pub move-step : (σ : State) (k : ℕ) (c : Command) (w : ℕ) → next b σ k ≡ some c → waits σ c ≡ some w → step s b σ k ≡ some (moved s σ k c w)
+  unfolding step
+  move-step σ k c w e f = rw (e, f)
+
+  pub can-step : (σ : State) (k : ℕ) → canStep s b σ k ≡ true → (τ : State) × (step s b σ k ≡ some τ)
+  unfolding canStep
+  can-step σ k e = go (step s b σ k) refl e
+    where
+      go : (o : Option State) → step s b σ k ≡ o → holdsSome o ≡ true → (τ : State) × (step s b σ k ≡ some τ)
+      go none q f = absurd (false≢true f)
+      go (some τ) q f = (τ, q)
+
+  pub step-can : (σ : State) (k : ℕ) (τ : State) → step s b σ k ≡ some τ → canStep s b σ k ≡ true
+  unfolding canStep
+  step-can σ k τ e = rw e
+
+  pub step-below : (σ : State) (k : ℕ) (τ : State) → step s b σ k ≡ some τ → k < programmeCount b
+  unfolding next
+  step-below σ k τ e = let m = step-move σ k τ e in command-below b k (processorOf σ k .position) (m .c) (m .comes)
+
+  module _ (σ : State) (k : ℕ) (c : Command) (w : ℕ) where
+    pub other : (j : ℕ) → j ≢ k → processorOf (moved s σ k c w) j ≡ processorOf σ j
+    unfolding processorOf
+    other j d = getD-set-other (σ .processors) k j (after s c w (processorOf σ k)) freshProcessor d
+
+    pub other-next : (j : ℕ) → j ≢ k → next b (moved s σ k c w) j ≡ next b σ j
+    unfolding next
+    other-next j d = rw (other j d)
+
+    module _ (n : length (σ .processors) ≡ programmeCount b) (e : next b σ k ≡ some c) where
+      below : k < programmeCount b
+      unfolding next
+      below = command-below b k (processorOf σ k .position) c e
+
+      pub self : processorOf (moved s σ k c w) k ≡ after s c w (processorOf σ k)
+      unfolding processorOf
+      self = getD-set-same (σ .processors) k (after s c w (processorOf σ k)) freshProcessor (omega (arith, below))
+
+      pub left-moved : (f : Command → ℕ) → left b (moved s σ k c w) f + f c ≡ left b σ f
+      unfolding left leftOf next
+      left-moved f =
+          omega (
+            arith,
+            sum-differ (programmeCount b) (leftOf b (moved s σ k c w) f) (leftOf b σ f) k below (λ j d. rw (other j d)),
+            ap (λ (p : Processor). weigh f (drop (p .position) (programmeOf b k))) self,
+            weigh-drop f (programmeOf b k) (processorOf σ k .position) c e,
+          )
+
+      -- a send of l that comes next is left
+      pub one-left : (l : ℕ) → c ≡ send l → 0 < left b σ (is (send l))
+      one-left l q = omega (arith, is-refl (send l), rw q at left-moved (is (send l)))
+
+  module _ (σ : State) (sound : Sound s b σ) where
+    -- a message that is sent is not sent again
+    sent-once : (k l m x : ℕ) → next b σ k ≡ some (send m) → stampOf σ l ≡ some x → l ≢ m
+    unfolding stampOf
+    sent-once k l m x e f q = go (decLt l (linkCount s))
+      where
+        go : Dec (l < linkCount s) → ⊥
+        go (yes h) = omega (arith, sound .sends l h, ap mark f, one-left σ k (send m) 0 (sound .processors) e l (ap send (sym q)))
+        go (no n) = not-some (sym (List·getD-eq-default (σ .stamps) none (omega (arith, sound .stamps))) ∙ f)
+
+    -- no two processors have the send of one link next
+    sent-by-one : (k j l m : ℕ) → k ≢ j → l < linkCount s → next b σ k ≡ some (send l) → next b σ j ≡ some (send m) → l ≢ m
+    sent-by-one k j l m d h e f q =
+        omega (
+          arith,
+          sound .sends l h,
+          left-moved σ k (send l) 0 (sound .processors) e (is (send l)),
+          is-refl (send l),
+          one-left (moved s σ k (send l) 0) j (send m) 0 (simp length-set (sound .processors)) (other-next σ k (send l) 0 j (λ r. d (sym r)) ∙ f) l (ap send (sym q)),
+        )
+
+    -- a step takes no message away
+    waits-moved : (k : ℕ) (c : Command) (w : ℕ) (d : Command) (v : ℕ) → next b σ k ≡ some c → waits σ d ≡ some v → waits (moved s σ k c w) d ≡ some v
+    unfolding stampOf
+    waits-moved k c w (run t) v e f = f
+    waits-moved k c w (send l) v e f = f
+    waits-moved k (run t) w (receive l) v e f = f
+    waits-moved k (send m) w (receive l) v e f = getD-set-other (σ .stamps) m l _ none (sent-once k l m v e f) ∙ f
+    waits-moved k (receive m) w (receive l) v e f = f
+
+    posted-comm : (k j : ℕ) (c d : Command) (t u : ℕ) → k ≢ j → next b σ k ≡ some c → next b σ j ≡ some d → posted s d t (posted s c u (σ .stamps)) ≡ posted s c u (posted s d t (σ .stamps))
+    posted-comm k j (run a) d t u n e f = refl
+    posted-comm k j (receive a) d t u n e f = refl
+    posted-comm k j (send a) (run x) t u n e f = refl
+    posted-comm k j (send a) (receive x) t u n e f = refl
+    posted-comm k j (send a) (send x) t u n e f = go (decLt a (linkCount s))
+      where
+        go : Dec (a < linkCount s) → posted s (send x) t (posted s (send a) u (σ .stamps)) ≡ posted s (send a) u (posted s (send x) t (σ .stamps))
+        go (yes h) = set-comm (σ .stamps) a x _ _ (sent-by-one k j a x n h e f)
+        go (no h) = set-out-comm (σ .stamps) a x _ _ (omega (arith, sound .stamps))
+
+    moved-comm : (k j : ℕ) (c d : Command) (w v : ℕ) → k ≢ j → next b σ k ≡ some c → next b σ j ≡ some d → moved s (moved s σ k c w) j d v ≡ moved s (moved s σ j d v) k c w
+    moved-comm k j c d w v n e f =
+        rw (other σ k c w j (λ q. n (sym q)), other σ j d v k n)
+        (cc (set-comm (σ .processors) k j (after s c w (processorOf σ k)) (after s d v (processorOf σ j)) n, posted-comm k j c d (processorOf σ j .clock) (processorOf σ k .clock) n e f))
+
+    -- j can still step after k, and both orders end alike
+    step-moved : (k j : ℕ) (c d : Command) (w v : ℕ) → k ≢ j → next b σ k ≡ some c → next b σ j ≡ some d → waits σ d ≡ some v
+        → step s b (moved s σ k c w) j ≡ some (moved s (moved s σ k c w) j d v)
+    step-moved k j c d w v n e f g = move-step (moved s σ k c w) j d v (other-next σ k c w j (λ q. n (sym q)) ∙ f) (waits-moved k c w d v e g)
+
+    pub diamond : (k j : ℕ) (τ ρ : State) → k ≢ j → step s b σ k ≡ some τ → step s b σ j ≡ some ρ → (υ : State) × (step s b τ j ≡ some υ) × (step s b ρ k ≡ some υ)
+    diamond k j τ ρ n e f =
+        let m = step-move σ k τ e in
+        let o = step-move σ j ρ f in
+        let υ = moved s (moved s σ k (m .c) (m .w)) j (o .c) (o .w) in (
+          υ,
+          subst (λ x. step s b x j ≡ some υ) (sym (m .here)) (step-moved k j (m .c) (o .c) (m .w) (o .w) n (m .comes) (o .comes) (o .waited)),
+          subst (λ x. step s b x k ≡ some υ) (sym (o .here))
+              (rw (moved-comm k j (m .c) (o .c) (m .w) (o .w) n (m .comes) (o .comes)) (step-moved j k (o .c) (m .c) (o .w) (m .w) (λ q. n (sym q)) (o .comes) (m .comes) (m .waited))),
+        )
+
+    module _ (k : ℕ) (c : Command) (w : ℕ) (e : next b σ k ≡ some c) where
+      store-moved : (j : ℕ) → processorOf (moved s σ k c w) j .store ≡ doneOf b (moved s σ k c w) (need s) j
+      unfolding doneOf next
+      store-moved j =
+          ⊎-elim
+          (λ (q : j ≡ k). rw (q, self σ k c w (sound .processors) e) (omega (arith, sound .store k, weigh-take (need s) (programmeOf b k) (processorOf σ k .position) c e)))
+          (λ d. rw (other σ k c w j d) (sound .store j)) (equal-or j k)
+
+      -- a message is marked as it is sent, and not before
+      sends-moved : (l : ℕ) → mark (stampOf (moved s σ k c w) l) ≤ mark (stampOf σ l) + is (send l) c
+      unfolding stampOf is
+      sends-moved l = go c
+        where
+          go : (d : Command) → mark (stampOf (moved s σ k d w) l) ≤ mark (stampOf σ l) + is (send l) d
+          go (run t) = omega arith
+          go (receive m) = omega arith
+          go (send m) =
+              ⊎-elim (λ r. rw (eq-eqb l m r) (omega (arith, mark-le (stampOf (moved s σ k (send m) w) l))))
+              (λ r. rw (getD-set-other (σ .stamps) m l (some (processorOf σ k .clock + costOf s m)) none r) (omega arith)) (equal-or l m)
+
+      sound-moved : Sound s b (moved s σ k c w)
+      sound-moved =
+          record {
+            processors = simp length-set (sound .processors);
+            stamps = length-posted s c (processorOf σ k .clock) (σ .stamps) ∙ sound .stamps;
+            sends = λ l h. omega (arith, sends-moved l, sound .sends l h, left-moved σ k c w (sound .processors) e (is (send l)));
+            store = store-moved;
+          }
+
+    pub sound-step : (k : ℕ) (τ : State) → step s b σ k ≡ some τ → Sound s b τ
+    sound-step k τ e = let m = step-move σ k τ e in rw (m .here) (sound-moved k (m .c) (m .w) (m .comes))
+
+    pub step-left : (k : ℕ) (τ : State) → step s b σ k ≡ some τ → left b τ each + 1 ≡ left b σ each
+    step-left k τ e = let m = step-move σ k τ e in rw (m .here) (left-moved σ k (m .c) (m .w) (sound .processors) (m .comes) each)

@@ -1,0 +1,3 @@
+pub mod Weights
+pub mod Before
+pub mod Messages

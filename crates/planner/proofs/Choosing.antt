@@ -1,0 +1,79 @@
+-- What `leading` finds, and what every placing step finds: a processor of the board on which the task fits.
+use Prim.Native.Nat.{ℕ, zero, suc, _≤_, _<_}
+use native.Mathlib.Omega.{arith}
+use mathlib.Core.Bool.{Bool, true, false}
+use mathlib.Core.Option.{Option, none, some}
+use mathlib.Core.Path.{_≡_, refl, sym, ap, _∙_}
+use mathlib.Core.Logic.{_⊎_, inl, inr, ⊎-elim}
+use lib.Dec.{ltb}
+use borrow.Author.Tests.{ltb-true}
+use Rattle.folds.specs.Folds.{pick, both, leading, least, prefer, orElse}
+use Rattle.folds.proofs.Tests.{below-suc, both-parts, not-some}
+use Rattle.sheet.specs.Sheet.{Sheet}
+use Rattle.planner.specs.Schedule.{Schedule}
+use Rattle.planner.specs.Placing.{fits, holdsPredecessor}
+use Rattle.planner.specs.Planner.{mayJoin, join, mayTake, idle, another, lastResort, choice}
+
+pick-or : {A : Type 0} (b : Bool) (x y z : A) → pick b x y ≡ z → (x ≡ z) ⊎ (y ≡ z)
+pick-or true x y z e = inl e
+pick-or false x y z e = inr e
+
+pub leading-some : (n : ℕ) (p : ℕ → Bool) (a : ℕ → ℕ → Bool) (i : ℕ) → leading n p a ≡ some i → (i < n) × (p i ≡ true)
+unfolding leading
+leading-some zero p a i e = not-some e
+leading-some (suc n) p a i e = go (leading n p a) (p n) refl refl e (leading-some n p a i)
+  where
+    here : p n ≡ true → some n ≡ some i → (i < suc n) × (p i ≡ true)
+    here c f = let z : n ≡ i = cc in (omega arith, rw z at c)
+
+    go : (o : Option ℕ) (b : Bool) → leading n p a ≡ o → p n ≡ b → pick b (prefer a n o) o ≡ some i → (leading n p a ≡ some i → (i < n) × (p i ≡ true)) → (i < suc n) × (p i ≡ true)
+    go none true q c f r = here c f
+    go none false q c f r = not-some f
+    go (some j) false q c f r = let m = r (q ∙ f) in (omega arith, m .1)
+    go (some j) true q c f r = ⊎-elim (here c) (λ g. let m = r (q ∙ g) in (omega arith, m .1)) (pick-or (a n j) (some n) (some j) (some i) f)
+
+pub leading-none : (n : ℕ) (p : ℕ → Bool) (a : ℕ → ℕ → Bool) → leading n p a ≡ none → (i : ℕ) → i < n → p i ≡ false
+unfolding leading
+leading-none zero p a e i h = absurd (omega arith)
+leading-none (suc n) p a e i h = go (leading n p a) (p n) refl refl e (λ q l. leading-none n p a q i l)
+  where
+    go : (o : Option ℕ) (b : Bool) → leading n p a ≡ o → p n ≡ b → pick b (prefer a n o) o ≡ none → (leading n p a ≡ none → i < n → p i ≡ false) → p i ≡ false
+    go none true q c f r = not-some (sym f)
+    go none false q c f r = ⊎-elim (r q) (λ g. ap p g ∙ c) (below-suc h)
+    go (some j) false q c f r = not-some (sym f)
+    go (some j) true q c f r = ⊎-elim (λ g. not-some (sym g)) (λ g. not-some (sym g)) (pick-or (a n j) (some n) (some j) none f)
+
+orElse-some : (o u : Option ℕ) (k : ℕ) → orElse o u ≡ some k → (o ≡ some k) ⊎ (u ≡ some k)
+orElse-some none u k e = inr e
+orElse-some (some j) u k e = inl e
+
+-- k is open or next, and t fits it
+pub record Room (s : Sheet) (σ : Schedule) (t k : ℕ) : Type 0 where
+  pub next : k ≤ σ .opened
+  pub board : k < s .processors
+  pub fit : fits s σ t k ≡ true
+
+module _ (s : Sheet) (guard : Schedule → ℕ → ℕ → Bool) (σ : Schedule) (t k : ℕ) where
+  an-open : (p : ℕ → Bool) (a : ℕ → ℕ → Bool) → σ .opened ≤ s .processors → (p k ≡ true → fits s σ t k ≡ true) → leading (σ .opened) p a ≡ some k → Room s σ t k
+  an-open p a h f e = let m = leading-some (σ .opened) p a k e in record { next = omega arith; board = omega arith; fit = f (m .1) }
+
+  next-open : another s guard σ t ≡ some k → Room s σ t k
+  unfolding another
+  next-open e = go (both (ltb (σ .opened) (s .processors)) (fits s σ t (σ .opened))) refl e
+    where
+      go : (b : Bool) → both (ltb (σ .opened) (s .processors)) (fits s σ t (σ .opened)) ≡ b → pick b (some (σ .opened)) none ≡ some k → Room s σ t k
+      go true q f =
+          let z : σ .opened ≡ k = cc in
+          let m = both-parts (ltb (σ .opened) (s .processors)) _ q in
+          rw (← z) record { next = omega arith; board = ltb-true (σ .opened) (s .processors) (m .0); fit = m .1 }
+      go false q f = not-some f
+
+  pub chosen : σ .opened ≤ s .processors → choice s guard σ t ≡ some k → Room s σ t k
+  unfolding choice join idle lastResort least mayJoin mayTake
+  chosen h e =
+      ⊎-elim (an-open (mayJoin s guard σ t) _ h (λ m. both-parts (holdsPredecessor s σ t k) _ (both-parts (both (holdsPredecessor s σ t k) (fits s σ t k)) _ m .0) .1))
+      (λ q. ⊎-elim (an-open (mayTake s guard σ t) _ h (λ m. both-parts (fits s σ t k) _ m .0))
+      (λ q. ⊎-elim next-open (an-open (fits s σ t) _ h (λ m. m))
+      (orElse-some (another s guard σ t) (lastResort s guard σ t) k q))
+      (orElse-some (idle s guard σ t) (orElse (another s guard σ t) (lastResort s guard σ t)) k q))
+      (orElse-some (join s guard σ t) (orElse (idle s guard σ t) (orElse (another s guard σ t) (lastResort s guard σ t))) k e)
