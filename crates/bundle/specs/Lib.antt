@@ -1,3 +1,11 @@
 pub mod Bundle
 pub mod Format
 pub mod Writing
+pub mod Fits
+pub mod Counts
+pub mod Lies
+pub mod Answers
+pub mod ReadIs
+pub mod Whole
+pub mod Writes
+pub mod Copies

@@ -49,7 +49,7 @@ module _ (t : Task) (ts : List Task) (X : List ℕ) where
       ∙ numberAt-cons 2 (t .work % 256) (t .work / 256 % 256 ∷ r) 1
       ∙ numberAt-cons 2 (t .work / 256 % 256) r 0 ∙ number-of-bytes 2 (t .store) (taskBytes ts ++ X) h
 
-  judge-task : (s : Sheet) → linkCount s ≡ 0 → t .work < 65536 → judge sheetFormat (begun s) (taskBytes (t ∷ ts) ++ X) ≡ verdict sheetFormat task (taskFault (taskCount s) (t .work))
+  pub judge-task : (s : Sheet) → linkCount s ≡ 0 → t .work < 65536 → judge sheetFormat (begun s) (taskBytes (t ∷ ts) ++ X) ≡ verdict sheetFormat task (taskFault (taskCount s) (t .work))
   unfolding judge
   judge-task s e h =
       let ops : List ℕ = numberBytes 2 (t .work) ++ (numberBytes 2 (t .store) ++ (taskBytes ts ++ X)) in
@@ -76,7 +76,7 @@ module _ (l : Link) (ls : List Link) (X : List ℕ) where
       ∙ numberAt-cons 2 (l .cost % 256) (l .cost / 256 % 256 ∷ r) 1
       ∙ numberAt-cons 2 (l .cost / 256 % 256) r 0 ∙ number-of-bytes 2 (l .bytes) (linkBytes ls ++ X) h
 
-  judge-link : (s : Sheet) → judge sheetFormat (begun s) (linkBytes (l ∷ ls) ++ X) ≡ verdict sheetFormat link (linkFault s (l .source) (l .target))
+  pub judge-link : (s : Sheet) → judge sheetFormat (begun s) (linkBytes (l ∷ ls) ++ X) ≡ verdict sheetFormat link (linkFault s (l .source) (l .target))
   unfolding judge
   judge-link s =
       let ops : List ℕ = l .source ∷ l .target ∷ (numberBytes 2 (l .cost) ++ (numberBytes 2 (l .bytes) ++ (linkBytes ls ++ X))) in
@@ -136,17 +136,17 @@ module _ (g : ℕ → Link) (m : ℕ) (X : List ℕ) {a : Answer Sheet} {w₀ w 
   refuse-link r bad = scan-refuse link-here r (link-verdict ∙ ap (verdict sheetFormat link) bad)
 
 -- behind the last link: one that is cut, or the end
-cut-link : (s : Sheet) → judge sheetFormat (begun s) (0x45 ∷ []) ≡ refuse 1
+pub cut-link : (s : Sheet) → judge sheetFormat (begun s) (0x45 ∷ []) ≡ refuse 1
 unfolding judge
 cut-link s = ap (verdict sheetFormat link) (fault-link s [])
 
-cut-task : (s : Sheet) → linkCount s ≡ 0 → judge sheetFormat (begun s) (0x54 ∷ []) ≡ refuse 1
+pub cut-task : (s : Sheet) → linkCount s ≡ 0 → judge sheetFormat (begun s) (0x54 ∷ []) ≡ refuse 1
 unfolding judge
 cut-task s e =
     let f : fault (begun s) task [] ≡ some 1 = fault-task s [] ∙ rw (eq-eqb (linkCount s) 0 e) in
     ap (verdict sheetFormat task) f
 
-at-end : (s : Sheet) → judge sheetFormat (begun s) (0x51 ∷ []) ≡ go end
+pub at-end : (s : Sheet) → judge sheetFormat (begun s) (0x51 ∷ []) ≡ go end
 unfolding judge
 at-end s = ap (verdict sheetFormat end) (fault-end s [])
 
@@ -225,7 +225,7 @@ module _ (v u : List ℕ) {a : Answer Sheet} {w₀ w : List ℕ} {i e : ℕ} (s 
   tasks-done z = going-is sheetFormat (subst (λ (t : Bool). Scanning a (pick t (linkValueBytes u) (0x54 ∷ [])) w₀ w i 0 e) (eq-eqb (length v % 2) 0 z) tasks-over .going)
 
 -- the board command of the values
-opening : (p l : ℕ) (X : List ℕ) → judge sheetFormat fresh (boardBytes p l ++ X) ≡ verdict sheetFormat board (pick (not (both (leb 1 p) (leb p 16))) (some 6) none)
+pub opening : (p l : ℕ) (X : List ℕ) → judge sheetFormat fresh (boardBytes p l ++ X) ≡ verdict sheetFormat board (pick (not (both (leb 1 p) (leb p 16))) (some 6) none)
 unfolding judge fault
 opening p l X =
     let ops : List ℕ = p ∷ (numberBytes 4 l ++ X) in

@@ -6,3 +6,5 @@ pub mod Judging
 pub mod Scans
 pub mod Given
 pub mod Stores
+pub mod Rounds
+pub mod Backs

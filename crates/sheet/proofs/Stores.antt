@@ -79,11 +79,6 @@ module _ (k c : ℕ) (tv lv : List ℕ) (tasks-whole : length tv % 2 ≡ 0) (lin
   unfolding valueBytes taskValueBytes linkValueBytes
   sheet-parts = rw (eq-eqb (length tv % 2) 0 tasks-whole, eq-eqb (length lv % 4) 0 links-whole) (simp append-assoc)
 
-  pub sheet-length : length (valueBytes k c tv lv) ≡ 7 + 5 * (length tv / 2) + 7 * (length lv / 4)
-  sheet-length =
-      ap length (sym sheet-parts)
-      ∙ simp (length-append, tasks-length, links-length) (omega arith)
-
   pub sheet-stored : (b m₁ m₂ m₃ : List ℕ) → 7 + 5 * (length tv / 2) + 7 * (length lv / 4) ≤ length b
       → m₁ ≡ stored b 0 (boardBytes k c) → m₂ ≡ stored m₁ 6 taskPart → m₃ ≡ stored m₂ (6 + 5 * (length tv / 2)) linkPart
       → length m₃ ≡ length b

@@ -1,0 +1,96 @@
+-- What refuses each kind of command by the bytes at its offset, and that the counts of a sheet decide it.
+use Prim.Native.Nat.{ℕ, _+_, _-_, _<_}
+use mathlib.Core.Path.{_≡_, refl, sym, ap, _∙_}
+use mathlib.Core.Bool.{Bool, true, false, not}
+use mathlib.Core.Option.{Option, none, some}
+use mathlib.Core.List.{List, [], _∷_}
+use native.Mathlib.Nat.{add-zero}
+use borrow.Author.Tests.{ne-eqb}
+use lib.ListN.{length, getD, drop, length-drop, replicate, length-replicate}
+use lib.Seq.{getD-drop}
+use lib.Dec.{eqb, ltb, leb}
+use Rattle.folds.specs.Folds.{pick, either, firstOf}
+use Rattle.numbers.specs.Number.{numberAt}
+use Rattle.numbers.proofs.Laws.{numberAt-drop}
+use Rattle.commands.specs.Commands.{refuse, go, verdict, judgeKind, judge}
+use Rattle.commands.proofs.Going.{judge-at}
+use Rattle.sheet.specs.Sheet.{Sheet, noTask, noLink, taskCount, linkCount}
+use Rattle.bundle.specs.Bundle.{Command}
+use Rattle.bundle.specs.Format.{Kind, opening, running, sending, receiving, claiming, kindOf, fault, bundleFormat}
+use Rattle.bundle.specs.Counts.{Sized, faultBelow, limitOf, countFormat}
+use Rattle.bundle.specs.Answers.{outcomeOf, numbered, unlessOf}
+use Rattle.bundle.specs.declared.kinds.Next.{Next}
+
+module _ (m n : ℕ) (b : List ℕ) (at : ℕ) where
+  pub fault-open : faultBelow m n opening (drop (at + 1) b) ≡ firstOf ((ltb (length b - (at + 1)) 1, 21) ∷ (either (not (eqb (getD b (at + 1) 0) n)) (leb m (getD b (at + 1) 0)), 23) ∷ [])
+  unfolding faultBelow
+  fault-open = simp (length-drop, getD-drop, add-zero)
+
+  pub fault-run : faultBelow m n running (drop (at + 1) b) ≡ firstOf ((eqb n 0, 23) ∷ (ltb (length b - (at + 1)) 1, 21) ∷ (leb m (getD b (at + 1) 0), 25) ∷ [])
+  unfolding faultBelow
+  fault-run = simp (length-drop, getD-drop, add-zero)
+
+  pub fault-send : faultBelow m n sending (drop (at + 1) b) ≡ firstOf ((eqb n 0, 23) ∷ (ltb (length b - (at + 1)) 2, 21) ∷ (leb m (numberAt 2 b (at + 1)), 25) ∷ [])
+  unfolding faultBelow
+  fault-send = simp (length-drop, numberAt-drop 2 (at + 1) b 0, add-zero)
+
+  pub fault-receive : faultBelow m n sending (drop (at + 1) b) ≡ faultBelow m n receiving (drop (at + 1) b)
+  unfolding faultBelow
+  fault-receive = refl
+
+  pub fault-claim : faultBelow m n claiming (drop (at + 1) b) ≡ firstOf ((eqb n 0, 23) ∷ (ltb (length b - (at + 1)) 4, 21) ∷ [])
+  unfolding faultBelow
+  fault-claim = simp length-drop
+
+module _ (p t l n : ℕ) (b : List ℕ) (at : ℕ) where
+  pub judge-strange : at < length b → (getD b at 0 ≡ 0x50 → ⊥) → (getD b at 0 ≡ 0x52 → ⊥) → (getD b at 0 ≡ 0x53 → ⊥) → (getD b at 0 ≡ 0x56 → ⊥) → (getD b at 0 ≡ 0x5A → ⊥)
+      → judge (countFormat p t l) n (drop at b) ≡ refuse 22
+  judge-strange h a c d e f = judge-at (countFormat p t l) n b at h ∙ simp (ne-eqb _ _ a, ne-eqb _ _ c, ne-eqb _ _ d, ne-eqb _ _ e, ne-eqb _ _ f)
+
+-- a kind unless it has a fault is the verdict
+pub outcome-unless : (p t l r : ℕ) (x : Next) (k : Kind) (o : Option ℕ) → outcomeOf x ≡ go k → numbered r ≡ o → outcomeOf (unlessOf r x) ≡ verdict (countFormat p t l) k o
+unfolding unlessOf
+outcome-unless p t l r x k o e f = go-by (eqb r 0) refl f
+  where
+    go-by : (q : Bool) → eqb r 0 ≡ q → pick q none (some r) ≡ o → outcomeOf (unlessOf r x) ≡ verdict (countFormat p t l) k o
+    go-by true q h = rw (q, ← h) e
+    go-by false q h = rw (q, ← h)
+
+-- the command at an offset whose first byte is known
+pub judge-known : (p t l n : ℕ) (b : List ℕ) (at v r : ℕ) (x : Next) (k : Kind) → at < length b → getD b at 0 ≡ v → kindOf v ≡ some k → outcomeOf x ≡ go k
+    → numbered r ≡ faultBelow (limitOf p t l k) n k (drop (at + 1) b) → outcomeOf (unlessOf r x) ≡ judge (countFormat p t l) n (drop at b)
+judge-known p t l n b at v r x k h e f g i =
+    let F = countFormat p t l in
+    outcome-unless p t l r x k _ g i
+    ∙ sym (judge-at F n b at h ∙ ap (λ (y : ℕ). judgeKind F n (kindOf y) (drop (at + 1) b)) e ∙ ap (λ (o : Option Kind). judgeKind F n o (drop (at + 1) b)) f)
+
+-- a sheet's faults are those of its counts
+fault-sized : {s : Sheet} {p t l : ℕ} → Sized s p t l → (ps : List (List Command)) (n : ℕ) → length ps ≡ n → (k : Kind) (b : List ℕ) → fault s ps k b ≡ faultBelow (limitOf p t l k) n k b
+unfolding fault faultBelow
+fault-sized z ps n e opening b = rw (e, z .processors)
+fault-sized z ps n e running b = rw (e, z .tasks)
+fault-sized z ps n e sending b = rw (e, z .links)
+fault-sized z ps n e receiving b = rw (e, z .links)
+fault-sized z ps n e claiming b = rw e
+
+verdict-sized : (s : Sheet) (p t l : ℕ) (k : Kind) (o : Option ℕ) → verdict (bundleFormat s) k o ≡ verdict (countFormat p t l) k o
+verdict-sized s p t l k none = refl
+verdict-sized s p t l k (some r) = refl
+
+kind-sized : {s : Sheet} {p t l : ℕ} → Sized s p t l → (ps : List (List Command)) (n : ℕ) → length ps ≡ n → (o : Option Kind) (b : List ℕ) → judgeKind (bundleFormat s) ps o b ≡ judgeKind (countFormat p t l) n o b
+kind-sized z ps n e none b = refl
+kind-sized {s} {p} {t} {l} z ps n e (some k) b =
+    ap (verdict (bundleFormat s) k) (fault-sized z ps n e k b) ∙ verdict-sized s p t l k (faultBelow (limitOf p t l k) n k b)
+
+pub judge-sized : {s : Sheet} {p t l : ℕ} → Sized s p t l → (ps : List (List Command)) (n : ℕ) → length ps ≡ n → (b : List ℕ) → judge (bundleFormat s) ps b ≡ judge (countFormat p t l) n b
+unfolding judge
+judge-sized z ps n e [] = refl
+judge-sized z ps n e (c ∷ b) = kind-sized z ps n e (kindOf c) b
+
+-- some sheet has these counts
+abbrev pub sheetBy : ℕ → ℕ → ℕ → Sheet
+sheetBy p t l = record { processors = p; limit = 0; tasks = replicate t noTask; links = replicate l noLink }
+
+pub sized-by : (p t l : ℕ) → Sized (sheetBy p t l) p t l
+unfolding taskCount linkCount
+sized-by p t l = record { processors = refl; tasks = length-replicate t noTask; links = length-replicate l noLink }

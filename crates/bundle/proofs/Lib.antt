@@ -1,0 +1,17 @@
+pub mod Firsts
+pub mod Walks
+pub mod Steps
+pub mod Backs
+pub mod Coded
+pub mod Parts
+pub mod Rounds
+pub mod Faults
+pub mod Lying
+pub mod Scans
+pub mod Judging
+pub mod Puts
+pub mod Plain
+pub mod Copying
+pub mod Told
+pub mod Valued
+pub mod Written

@@ -1,0 +1,16 @@
+-- `bundle::kinds::is_message` meets its contract.
+use Rattle.bundle.specs.Writes.{isMessage}
+use borrow.Author.Tests.{eq-eqb, ne-eqb}
+use Rattle.bundle.proofs.kinds.is_message.Statement.{statement}
+use Rattle.bundle.proofs.kinds.is_message.Tie as tie
+
+returns : tie.Need-returns
+unfolding isMessage
+returns c = simp (eq-eqb _ _ (c .if1 .taken))
+
+returns-2 : tie.Need-returns-2
+unfolding isMessage
+returns-2 c = simp (ne-eqb _ _ (c .if1 .left))
+
+pub is-message-spec : {M : Type 1} → statement M
+is-message-spec = tie.close (tie.spec returns returns-2)

@@ -1,0 +1,13 @@
+-- `bundle::writer::claim_fault` meets its contract.
+use borrow.Author.Tests.{eq-eqb, ne-eqb}
+use Rattle.bundle.proofs.writer.claim_fault.Statement.{statement}
+use Rattle.bundle.proofs.writer.claim_fault.Tie as tie
+
+returns : tie.Need-returns
+returns c = simp (eq-eqb _ _ (c .if1 .taken))
+
+returns-2 : tie.Need-returns-2
+returns-2 c = simp (ne-eqb _ _ (c .if1 .left))
+
+pub claim-fault-spec : {M : Type 1} → statement M
+claim-fault-spec = tie.close (tie.spec returns returns-2)

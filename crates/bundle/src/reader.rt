@@ -1,0 +1,174 @@
+// Reads any bytes as a bundle, in one pass, for a sheet of which only the counts matter.
+ghost use mathlib.Core.Path.{_≡_};
+ghost use Prim.Native.Nat.{_+_, _≤_, _<_};
+ghost use lib.ListN.{length, drop};
+ghost use Rattle.commands.specs.Commands.{judge};
+ghost use Rattle.bundle.specs.Format.{opening, running, sending, claiming};
+ghost use Rattle.bundle.specs.Counts.{faultBelow, countFormat};
+ghost use Rattle.bundle.specs.Answers.{outcomeOf, numbered, closedOf};
+ghost use Rattle.bundle.specs.ReadIs.{ReadIs};
+use crate::kinds::Next;
+use crate::kinds::unless;
+
+// How many programmes a bundle has, how many commands stand in them and the time that it claims; or a refusal's number and place.
+pub enum Reading {
+    Read(usize, usize, u32),
+    Refused(u8, usize),
+}
+
+// The command at `at` that opens a programme: 0, or the number that refuses it.
+fn open_at(bytes: &[u8], at: usize, opened: usize, processors: usize) -> u8
+    requires { ⌜ at < length (now bytes) ⌝ }
+    ensures { λ r. ⌜ numbered r ≡ faultBelow processors opened opening (drop (at + 1) (now (bytes .entry))) ⌝ }
+{
+    if bytes.len() - (at + 1) < 1 {
+        return 21;
+    }
+    let k = bytes[at + 1] as usize;
+    if k != opened {
+        return 23;
+    }
+    if processors <= k {
+        return 23;
+    }
+    0
+}
+
+// The run command at `at`.
+fn run_at(bytes: &[u8], at: usize, opened: usize, tasks: usize) -> u8
+    requires { ⌜ at < length (now bytes) ⌝ }
+    ensures { λ r. ⌜ numbered r ≡ faultBelow tasks opened running (drop (at + 1) (now (bytes .entry))) ⌝ }
+{
+    if opened == 0 {
+        return 23;
+    }
+    if bytes.len() - (at + 1) < 1 {
+        return 21;
+    }
+    if tasks <= bytes[at + 1] as usize {
+        return 25;
+    }
+    0
+}
+
+// The send or receive command at `at`.
+fn message_at(bytes: &[u8], at: usize, opened: usize, links: usize) -> u8
+    requires { ⌜ at < length (now bytes) ⌝ }
+    ensures { λ r. ⌜ numbered r ≡ faultBelow links opened sending (drop (at + 1) (now (bytes .entry))) ⌝ }
+{
+    if opened == 0 {
+        return 23;
+    }
+    if bytes.len() - (at + 1) < 2 {
+        return 21;
+    }
+    if links <= numbers::get16(bytes, at + 1) as usize {
+        return 25;
+    }
+    0
+}
+
+// The claim at `at`.
+fn claim_at(bytes: &[u8], at: usize, opened: usize) -> u8
+    requires { ⌜ at < length (now bytes) ⌝ }
+    ensures { λ r. ⌜ numbered r ≡ faultBelow 0 opened claiming (drop (at + 1) (now (bytes .entry))) ⌝ }
+{
+    if opened == 0 {
+        return 23;
+    }
+    if bytes.len() - (at + 1) < 4 {
+        return 21;
+    }
+    0
+}
+
+// The command at `at`, where so many programmes are open.
+fn next_at(
+    bytes: &[u8],
+    at: usize,
+    opened: usize,
+    processors: usize,
+    tasks: usize,
+    links: usize,
+) -> Next
+    requires { ⌜ at ≤ length (now bytes) ⌝ }
+    ensures { λ r. ⌜ outcomeOf r ≡ judge (countFormat processors tasks links) opened (drop at (now (bytes .entry))) ⌝ }
+{
+    if bytes.len() <= at {
+        return Next::No(21);
+    }
+    let c = bytes[at];
+    if c == 0x52 {
+        return unless(run_at(bytes, at, opened, tasks), Next::Run);
+    }
+    if c == 0x53 {
+        return unless(message_at(bytes, at, opened, links), Next::Send);
+    }
+    if c == 0x56 {
+        return unless(message_at(bytes, at, opened, links), Next::Receive);
+    }
+    if c == 0x50 {
+        return unless(open_at(bytes, at, opened, processors), Next::Open);
+    }
+    if c == 0x5A {
+        return unless(claim_at(bytes, at, opened), Next::Claim);
+    }
+    Next::No(22)
+}
+
+// What the claim at `at` closes.
+fn closing(bytes: &[u8], at: usize, opened: usize, commands: usize) -> Reading
+    requires { ⌜ at + 5 ≤ length (now bytes) ⌝ }
+    ensures { λ r. ⌜ r ≡ closedOf (now (bytes .entry)) at opened commands ⌝ }
+{
+    let past = at + 5;
+    if past < bytes.len() {
+        return Reading::Refused(24, past);
+    }
+    Reading::Read(opened, commands, numbers::get32(bytes, at + 1))
+}
+
+// Reads bytes as a bundle for a sheet with these counts. Puts the offset of each command that opens a programme into the
+// words, and behind them that of the claim.
+pub fn read(
+    bytes: &[u8],
+    processors: usize,
+    tasks: usize,
+    links: usize,
+    words: &mut [u32],
+) -> Reading
+    requires { ⌜ processors < length (now words) ⌝ }
+    ensures { λ r. ⌜ ReadIs (now (bytes .entry)) processors tasks links (now (words .entry)) (now (words .exit)) r ⌝ }
+{
+    let mut at = 0;
+    let mut opened = 0;
+    let mut commands = 0;
+    loop {
+        match next_at(bytes, at, opened, processors, tasks, links) {
+            Next::Open => {
+                words[opened] = (at % 4294967296) as u32;
+                opened += 1;
+                at += 2;
+            }
+            Next::Run => {
+                commands += 1;
+                at += 2;
+            }
+            Next::Send => {
+                commands += 1;
+                at += 3;
+            }
+            Next::Receive => {
+                commands += 1;
+                at += 3;
+            }
+            Next::Claim => {
+                words[opened] = (at % 4294967296) as u32;
+                return closing(bytes, at, opened, commands);
+            }
+            Next::No(r) => {
+                return Reading::Refused(r, at);
+            }
+        }
+    }
+}

@@ -1,0 +1,392 @@
+-- A sheet that is read: it has exactly the bytes that it was read from, and its numbers are as the reader asks.
+use Prim.Native.Nat.{ℕ, zero, suc, _+_, _<_, _≤_}
+use mathlib.Core.Path.{_≡_, refl, sym, ap, ap₂, subst, _∙_}
+use mathlib.Core.Bool.{Bool, true, false, false≢true, true≢false}
+use mathlib.Core.Option.{Option, none, some}
+use mathlib.Core.Logic.{_⊎_, inl, inr}
+use mathlib.Core.List.{List, [], _∷_, _++_, append-assoc, append-nil}
+use native.Mathlib.Omega.{arith}
+use native.Mathlib.Decide.{decLt}
+use borrow.Author.Tests.{eqb-true, eqb-false, eq-eqb, lt-ltb, leb-true, leb-false, not-false}
+use lib.ListN.{length, getD, take, drop, length-drop, length-append, take-append-drop, List·getD-append}
+use lib.Seq.{getD-drop, drop-drop, drop-cons, getD-at}
+use lib.Dec.{eqb, leb}
+use Rattle.folds.specs.Folds.{pick, both}
+use Rattle.folds.specs.Answers.{Answer, value, refused}
+use Rattle.folds.proofs.Tests.{not-value, not-some, both-parts, parts-both, either-none, below-suc}
+use Rattle.folds.proofs.Laws.{any-each}
+use Rattle.numbers.specs.Number.{numberAt, numberBytes}
+use Rattle.numbers.proofs.Laws.{bytes-of-number, number-lt}
+use Rattle.commands.specs.Commands.{Outcome, refuse, go, judge}
+use Rattle.commands.specs.Reading.{Going}
+use Rattle.commands.proofs.Going.{starts, goes, refuses, ends, comes}
+use Rattle.sheet.specs.Sheet.{Sheet, Task, Link, noTask, noLink, taskCount, linkCount, workOf, storeOf, sourceOf, targetOf, costOf, bytesOf}
+use Rattle.sheet.specs.Format.{Kind, board, task, link, end, kindOf, Progress, fresh, withCommand, taskFrom, linkFrom, ended, joins, joinsBy, sheetFormat, readForm}
+use Rattle.sheet.specs.Writing.{boardBytes, taskBytes, linkBytes, sheetBytes}
+use Rattle.sheet.specs.Tables.{Ranged}
+use Rattle.sheet.specs.Faults.{begun}
+use Rattle.sheet.proofs.Judging.{sound-of}
+
+-- what an accepted end says
+pub ended-value : (s t : Sheet) (e : ℕ) (d : List ℕ) → ended (begun s) e d ≡ value t → (d ≡ []) × (0 < taskCount s) × (s ≡ t)
+unfolding ended
+ended-value s t e (x ∷ d) h =
+    let tail : ended (begun s) e (x ∷ d) ≡ refused 4 (e + 1) = rw (lt-ltb 0 (length (x ∷ d)) (omega arith)) in
+    not-value (sym tail ∙ h)
+ended-value s t e [] h = split (eqb (taskCount s) 0) refl h
+  where
+    split : (z : Bool) → eqb (taskCount s) 0 ≡ z → pick z (refused 9 e) (value s) ≡ value t → (_≡_ {A = List ℕ} [] []) × (0 < taskCount s) × (s ≡ t)
+    split true q h = not-value h
+    split false q h = let busy : taskCount s ≡ 0 → ⊥ = eqb-false (taskCount s) 0 q in (refl, omega arith, cc)
+
+abbrev byteOf : Kind → ℕ
+byteOf board = 0x4D
+byteOf task = 0x54
+byteOf link = 0x45
+byteOf end = 0x51
+
+by-byte : (c : ℕ) (k′ k : Kind) (o : Option Kind) → (o ≡ some k → c ≡ byteOf k) → pick (eqb c (byteOf k′)) (some k′) o ≡ some k → c ≡ byteOf k
+by-byte c k′ k o rest e = split (eqb c (byteOf k′)) refl e
+  where
+    split : (t : Bool) → eqb c (byteOf k′) ≡ t → pick t (some k′) o ≡ some k → c ≡ byteOf k
+    split true q e = let s : k′ ≡ k = cc in eqb-true c (byteOf k′) q ∙ ap byteOf s
+    split false q e = rest e
+
+kind-byte : (c : ℕ) (k : Kind) → kindOf c ≡ some k → c ≡ byteOf k
+kind-byte c k = by-byte c board k _ (by-byte c task k _ (by-byte c link k _ (by-byte c end k none not-some)))
+
+-- a command that comes next, by its first byte and the rest
+first-byte : (p : Progress) (d : List ℕ) (k : Kind) → judge sheetFormat p d ≡ go k → d ≡ byteOf k ∷ drop 1 d
+first-byte p d k j =
+    let c = comes sheetFormat p d k j in
+    drop-cons d 0 0 (c .more) ∙ ap (λ (x : ℕ). x ∷ drop 1 d) (kind-byte _ k (c .kind))
+
+-- what every task and every link carries on holds of the sheet that is read
+module _ (Held : Sheet → List ℕ → Type 0)
+    (more-task : (s : Sheet) (d : List ℕ) → judge sheetFormat (begun s) d ≡ go task → Held s d → Held (withCommand s task (drop 1 d)) (drop 5 d))
+    (more-link : (s : Sheet) (d : List ℕ) → judge sheetFormat (begun s) d ≡ go link → Held s d → Held (withCommand s link (drop 1 d)) (drop 7 d))
+    (t : Sheet) where
+  by-outcome : (s : Sheet) (e : ℕ) (d : List ℕ) → Held s d → Going sheetFormat (value t) (begun s) e d
+      → ((s′ : Sheet) (e′ : ℕ) (d′ : List ℕ) → length d′ < length d → Held s′ d′ → Going sheetFormat (value t) (begun s′) e′ d′ → Held t (0x51 ∷ []) × (0 < taskCount t))
+      → (o : Outcome Kind) → judge sheetFormat (begun s) d ≡ o → Held t (0x51 ∷ []) × (0 < taskCount t)
+  by-outcome s e d h g rec (refuse r) j = not-value (sym (refuses sheetFormat g r j))
+  by-outcome s e d h g rec (go board) j = absurd (false≢true (sound-of (begun s) d board j .turn))
+  by-outcome s e d h g rec (go task) j =
+      rec _ _ _ (simp length-drop (omega (arith, comes sheetFormat (begun s) d task j .more))) (more-task s d j h) (goes sheetFormat g task refl j)
+  by-outcome s e d h g rec (go link) j =
+      rec _ _ _ (simp length-drop (omega (arith, comes sheetFormat (begun s) d link j .more))) (more-link s d j h) (goes sheetFormat g link refl j)
+  by-outcome s e d h g rec (go end) j =
+      let v = ended-value s t e (drop 1 d) (sym (ends sheetFormat g end refl j)) in
+      let whole : d ≡ 0x51 ∷ [] = first-byte (begun s) d end j ∙ ap (λ (x : List ℕ). 0x51 ∷ x) (v .0) in
+      (subst (λ (x : Sheet). Held x (0x51 ∷ [])) (v .2) (subst (Held s) whole h), subst (λ (x : Sheet). 0 < taskCount x) (v .2) (v .1))
+
+  carried : (n : ℕ) (s : Sheet) (e : ℕ) (d : List ℕ) → length d < n → Held s d → Going sheetFormat (value t) (begun s) e d → Held t (0x51 ∷ []) × (0 < taskCount t)
+  carried zero s e d l h g = absurd (omega arith)
+  carried (suc n) s e d l h g =
+      by-outcome s e d h g (λ s′ e′ d′ l′ h′ g′. carried n s′ e′ d′ (omega arith) h′ g′) (judge sheetFormat (begun s) d) refl
+
+  from-first : (b : List ℕ) → readForm b ≡ value t
+      → (judge sheetFormat fresh b ≡ go board → Held (record { processors = getD (drop 1 b) 0 0; limit = numberAt 4 (drop 1 b) 1; tasks = []; links = [] }) (drop 6 b))
+      → (o : Outcome Kind) → judge sheetFormat fresh b ≡ o → Held t (0x51 ∷ []) × (0 < taskCount t)
+  unfolding readForm
+  from-first b h begins o j = by-first o j (subst (λ (a : Answer Sheet). Going sheetFormat a fresh 0 b) h (starts sheetFormat fresh b))
+    where
+      by-first : (o : Outcome Kind) → judge sheetFormat fresh b ≡ o → Going sheetFormat (value t) fresh 0 b → Held t (0x51 ∷ []) × (0 < taskCount t)
+      by-first (refuse r) j g = not-value (sym (refuses sheetFormat g r j))
+      by-first (go board) j g = carried (suc (length (drop 6 b))) _ _ _ (omega arith) (begins j) (goes sheetFormat g board refl j)
+      by-first (go task) j g = absurd (false≢true (sound-of fresh b task j .turn))
+      by-first (go link) j g = absurd (false≢true (sound-of fresh b link j .turn))
+      by-first (go end) j g = absurd (false≢true (sound-of fresh b end j .turn))
+
+  read-holds : (b : List ℕ) → readForm b ≡ value t
+      → (judge sheetFormat fresh b ≡ go board → Held (record { processors = getD (drop 1 b) 0 0; limit = numberAt 4 (drop 1 b) 1; tasks = []; links = [] }) (drop 6 b))
+      → Held t (0x51 ∷ []) × (0 < taskCount t)
+  read-holds b h begins = from-first b h begins (judge sheetFormat fresh b) refl
+
+-- bytes
+abbrev Small : List ℕ → Type 0
+Small b = (k : ℕ) → getD b k 0 < 256
+
+small-drop : (n : ℕ) (b : List ℕ) → Small b → Small (drop n b)
+small-drop n b s k = rw getD-drop (s (n + k))
+
+-- what follows the first m bytes, and the n after them
+cut : (n m : ℕ) (b : List ℕ) → drop m b ≡ take n (drop m b) ++ drop (m + n) b
+cut n m b = sym (take-append-drop n (drop m b)) ∙ ap (λ (l : List ℕ). take n (drop m b) ++ l) (drop-drop n m b)
+
+-- a number of w bytes at m, with what follows it
+cut-number : (w m : ℕ) (b more : List ℕ) → m + w ≤ length b → Small b → drop (m + w) b ≡ more → drop m b ≡ numberBytes w (numberAt w b m) ++ more
+cut-number w m b more h s e = cut w m b ∙ ap₂ (λ (x y : List ℕ). x ++ y) (sym (bytes-of-number w b m h s)) e
+
+-- the operands of a command, as its bytes
+board-operands : (b : List ℕ) → 5 ≤ length b → Small b → 0x4D ∷ b ≡ boardBytes (getD b 0 0) (numberAt 4 b 1) ++ drop 5 b
+board-operands b h s = ap (λ (l : List ℕ). 0x4D ∷ l) (drop-cons b 0 0 (omega arith) ∙ ap (λ (l : List ℕ). getD b 0 0 ∷ l) (cut-number 4 1 b (drop 5 b) (omega arith) s refl))
+
+task-operands : (b : List ℕ) → 4 ≤ length b → Small b → 0x54 ∷ b ≡ taskBytes (taskFrom b ∷ []) ++ drop 4 b
+task-operands b h s = ap (λ (l : List ℕ). 0x54 ∷ l) (cut-number 2 0 b _ (omega arith) s (cut-number 2 2 b (drop 4 b) (omega arith) s refl))
+
+link-operands : (b : List ℕ) → 6 ≤ length b → Small b → 0x45 ∷ b ≡ linkBytes (linkFrom b ∷ []) ++ drop 6 b
+link-operands b h s =
+    ap (λ (l : List ℕ). 0x45 ∷ l)
+    (drop-cons b 0 0 (omega arith)
+    ∙ ap (λ (l : List ℕ). getD b 0 0 ∷ l)
+    (drop-cons b 1 0 (omega arith) ∙ ap (λ (l : List ℕ). getD b 1 0 ∷ l) (cut-number 2 2 b _ (omega arith) s (cut-number 2 4 b (drop 6 b) (omega arith) s refl))))
+
+pub task-bytes-append : (ts us : List Task) → taskBytes (ts ++ us) ≡ taskBytes ts ++ taskBytes us
+task-bytes-append [] us = refl
+task-bytes-append (t ∷ ts) us = ap (λ (l : List ℕ). taskBytes (t ∷ []) ++ l) (task-bytes-append ts us)
+
+pub link-bytes-append : (ls us : List Link) → linkBytes (ls ++ us) ≡ linkBytes ls ++ linkBytes us
+link-bytes-append [] us = refl
+link-bytes-append (l ∷ ls) us = ap (λ (x : List ℕ). linkBytes (l ∷ []) ++ x) (link-bytes-append ls us)
+
+-- a sheet's bytes but for the end
+abbrev front : Sheet → List ℕ
+front s = boardBytes (s .processors) (s .limit) ++ (taskBytes (s .tasks) ++ linkBytes (s .links))
+
+regroup : (b t u d : List ℕ) → b ++ (t ++ []) ++ (u ++ d) ≡ b ++ (t ++ u ++ []) ++ d
+regroup b t u d = simp (append-nil, append-assoc)
+
+module _ (b₀ : List ℕ) where
+  -- the bytes are those of the sheet so far, and then the rest
+  record Passed (s : Sheet) (d : List ℕ) : Type 0 where
+    same : b₀ ≡ front s ++ d
+    small : Small d
+
+  no-links : (s : Sheet) (d : List ℕ) → judge sheetFormat (begun s) d ≡ go task → s .links ≡ []
+  unfolding linkCount
+  no-links s d j = empty (s .links) (eqb-true (linkCount s) 0 (sound-of (begun s) d task j .turn))
+    where
+      empty : (ls : List Link) → length ls ≡ 0 → ls ≡ []
+      empty [] e = refl
+      empty (x ∷ ls) e = absurd (omega arith)
+
+  task-front : (s : Sheet) (t : Task) (d : List ℕ) → s .links ≡ []
+      → front s ++ (taskBytes (t ∷ []) ++ d) ≡ front (record { processors = s .processors; limit = s .limit; tasks = s .tasks ++ t ∷ []; links = s .links }) ++ d
+  task-front s t d e =
+      let b : List ℕ = boardBytes (s .processors) (s .limit) in
+      let u : List ℕ = taskBytes (t ∷ []) in
+      ap (λ (ls : List Link). b ++ (taskBytes (s .tasks) ++ linkBytes ls) ++ (u ++ d)) e
+      ∙ regroup b (taskBytes (s .tasks)) u d
+      ∙ ap (λ (x : List ℕ). b ++ (x ++ []) ++ d) (sym (task-bytes-append (s .tasks) (t ∷ [])))
+      ∙ ap (λ (ls : List Link). b ++ (taskBytes (s .tasks ++ t ∷ []) ++ linkBytes ls) ++ d) (sym e)
+
+  link-front : (s : Sheet) (l : Link) (d : List ℕ)
+      → front s ++ (linkBytes (l ∷ []) ++ d) ≡ front (record { processors = s .processors; limit = s .limit; tasks = s .tasks; links = s .links ++ l ∷ [] }) ++ d
+  link-front s l d = simp (link-bytes-append, append-assoc)
+
+  pass-task : (s : Sheet) (d : List ℕ) → judge sheetFormat (begun s) d ≡ go task → Passed s d → Passed (withCommand s task (drop 1 d)) (drop 5 d)
+  pass-task s d j h =
+      let ops : List ℕ = drop 1 d in
+      let bytes : d ≡ taskBytes (taskFrom ops ∷ []) ++ drop 5 d =
+      first-byte (begun s) d task j ∙ task-operands ops (sound-of (begun s) d task j .room) (small-drop 1 d (h .small)) ∙ ap (λ (l : List ℕ). taskBytes (taskFrom ops ∷ []) ++ l) (drop-drop 4 1 d) in
+      record { same = h .same ∙ ap (λ (l : List ℕ). front s ++ l) bytes ∙ task-front s (taskFrom ops) (drop 5 d) (no-links s d j); small = small-drop 5 d (h .small) }
+
+  pass-link : (s : Sheet) (d : List ℕ) → judge sheetFormat (begun s) d ≡ go link → Passed s d → Passed (withCommand s link (drop 1 d)) (drop 7 d)
+  pass-link s d j h =
+      let ops : List ℕ = drop 1 d in
+      let bytes : d ≡ linkBytes (linkFrom ops ∷ []) ++ drop 7 d =
+      first-byte (begun s) d link j ∙ link-operands ops (sound-of (begun s) d link j .room) (small-drop 1 d (h .small)) ∙ ap (λ (l : List ℕ). linkBytes (linkFrom ops ∷ []) ++ l) (drop-drop 6 1 d) in
+      record { same = h .same ∙ ap (λ (l : List ℕ). front s ++ l) bytes ∙ link-front s (linkFrom ops) (drop 7 d); small = small-drop 7 d (h .small) }
+
+  pass-board : Small b₀ → judge sheetFormat fresh b₀ ≡ go board → Passed (record { processors = getD (drop 1 b₀) 0 0; limit = numberAt 4 (drop 1 b₀) 1; tasks = []; links = [] }) (drop 6 b₀)
+  pass-board small j =
+      let ops : List ℕ = drop 1 b₀ in
+      record {
+        same =
+            first-byte fresh b₀ board j
+            ∙ board-operands ops (sound-of fresh b₀ board j .room) (small-drop 1 b₀ small)
+            ∙ ap (λ (l : List ℕ). boardBytes (getD ops 0 0) (numberAt 4 ops 1) ++ l) (drop-drop 5 1 b₀);
+        small = small-drop 6 b₀ small;
+      }
+
+-- a sheet that is read has the bytes that it was read from
+pub bytes-again : (b : List ℕ) (s : Sheet) → ((k : ℕ) → getD b k 0 < 256) → readForm b ≡ value s → sheetBytes s ≡ b
+unfolding sheetBytes
+bytes-again b s small h =
+    let r = read-holds (Passed b) (pass-task b) (pass-link b) s b h (pass-board b small) .0 in
+    sym (r .same ∙ simp append-assoc)
+
+-- what the reader asks of a sheet, and all that it asks
+pub record Proper (s : Sheet) : Type 0 where
+  pub ranged : Ranged s
+  pub some-task : 0 < taskCount s
+  pub some-processor : 1 ≤ s .processors
+  pub limit : s .limit < 4294967296
+  pub some-work : (t : ℕ) → t < taskCount s → 1 ≤ workOf s t
+  pub single : (i j : ℕ) → i < linkCount s → j < linkCount s → sourceOf s i ≡ sourceOf s j → targetOf s i ≡ targetOf s j → i ≡ j
+
+-- a task and a link whose numbers fit their bytes
+pub record TaskFits (t : Task) : Type 0 where
+  pub work : t .work < 65536
+  pub store : t .store < 65536
+
+pub record LinkFits (l : Link) : Type 0 where
+  pub cost : l .cost < 65536
+  pub bytes : l .bytes < 65536
+
+record Ends (n : ℕ) (l : Link) : Type 0 where
+  source : l .source < n
+  target : l .target < n
+
+-- what the faults ask of the sheet so far, by its lists
+pub record Shaped (s : Sheet) : Type 0 where
+  few-tasks : length (s .tasks) ≤ 256
+  few-links : length (s .links) ≤ 1024
+  few-processors : s .processors ≤ 16
+  some-processor : 1 ≤ s .processors
+  works : (i : ℕ) → i < length (s .tasks) → 1 ≤ getD (s .tasks) i noTask .work
+  ends : (i : ℕ) → i < length (s .links) → Ends (length (s .tasks)) (getD (s .links) i noLink)
+  apart : (i j : ℕ) → i < j → j < length (s .links) → getD (s .links) i noLink .source ≡ getD (s .links) j noLink .source → getD (s .links) i noLink .target ≡ getD (s .links) j noLink .target → ⊥
+
+-- its numbers fit the bytes that they are read from
+record Sized (s : Sheet) (d : List ℕ) : Type 0 where
+  small : Small d
+  limit : s .limit < 4294967296
+  tasks : (i : ℕ) → i < length (s .tasks) → TaskFits (getD (s .tasks) i noTask)
+  links : (i : ℕ) → i < length (s .links) → LinkFits (getD (s .links) i noLink)
+
+-- what holds of each of a list and of one more
+each-more : {X : Type 0} (Q : X → Type 0) (xs : List X) (x d : X) → ((i : ℕ) → i < length xs → Q (getD xs i d)) → Q x → (i : ℕ) → i < length (xs ++ x ∷ []) → Q (getD (xs ++ x ∷ []) i d)
+each-more Q [] x d h q zero l = q
+each-more Q [] x d h q (suc i) l = absurd (omega arith)
+each-more Q (y ∷ xs) x d h q zero l = h 0 (omega arith)
+each-more Q (y ∷ xs) x d h q (suc i) l = each-more Q xs x d (λ j m. h (suc j) (omega arith)) q i (omega arith)
+
+shape-task : (s : Sheet) (d : List ℕ) → judge sheetFormat (begun s) d ≡ go task → Shaped s → Shaped (withCommand s task (drop 1 d))
+unfolding taskCount
+shape-task s d j h =
+    let x : Task = taskFrom (drop 1 d) in
+    let k = sound-of (begun s) d task j in
+    let none-yet : length (s .links) ≡ 0 = ap length (no-links d s d j) in
+    let busy : x .work ≡ 0 → ⊥ = eqb-false (x .work) 0 (k .range) in
+    record {
+      few-tasks = simp length-append (omega (arith, leb-false 256 (taskCount s) (k .space)));
+      few-links = h .few-links;
+      few-processors = h .few-processors;
+      some-processor = h .some-processor;
+      works = each-more (λ (t : Task). 1 ≤ t .work) (s .tasks) x noTask (h .works) (omega arith);
+      ends = λ i l. absurd (omega arith);
+      apart = h .apart;
+    }
+
+shape-link : (s : Sheet) (d : List ℕ) → judge sheetFormat (begun s) d ≡ go link → Shaped s → Shaped (withCommand s link (drop 1 d))
+unfolding taskCount linkCount joins joinsBy sourceOf targetOf
+shape-link s d j h =
+    let x : Link = linkFrom (drop 1 d) in
+    let k = sound-of (begun s) d link j in
+    let tight = either-none (leb (taskCount s) (x .source)) (leb (taskCount s) (x .target)) (k .tight) in
+    record {
+      few-tasks = h .few-tasks;
+      few-links = simp length-append (omega (arith, leb-false 1024 (linkCount s) (k .space)));
+      few-processors = h .few-processors;
+      some-processor = h .some-processor;
+      works = h .works;
+      ends =
+          each-more (Ends (length (s .tasks))) (s .links) x noLink (h .ends)
+          record { source = leb-false (taskCount s) (x .source) (tight .0); target = leb-false (taskCount s) (x .target) (tight .1) };
+      apart = apart-more (s .links) x (h .apart) (any-each (linkCount s) (joinsBy s (x .source) (x .target)) (k .single));
+    }
+  where
+    apart-more : (ls : List Link) (x : Link)
+        → ((i j : ℕ) → i < j → j < length ls → getD ls i noLink .source ≡ getD ls j noLink .source → getD ls i noLink .target ≡ getD ls j noLink .target → ⊥)
+        → ((i : ℕ) → i < length ls → both (eqb (getD ls i noLink .source) (x .source)) (eqb (getD ls i noLink .target) (x .target)) ≡ false)
+        → (i j : ℕ) → i < j → j < length (ls ++ x ∷ []) → getD (ls ++ x ∷ []) i noLink .source ≡ getD (ls ++ x ∷ []) j noLink .source
+        → getD (ls ++ x ∷ []) i noLink .target ≡ getD (ls ++ x ∷ []) j noLink .target → ⊥
+    apart-more ls x old new i j l m p q = split (below-suc (omega (arith, length-append ls (x ∷ []))))
+      where
+        at-i : i < length ls → getD (ls ++ x ∷ []) i noLink ≡ getD ls i noLink
+        at-i = List·getD-append ls (x ∷ []) noLink i
+
+        split : (j < length ls) ⊎ (j ≡ length ls) → ⊥
+        split (inl b) =
+            let at-j : getD (ls ++ x ∷ []) j noLink ≡ getD ls j noLink = List·getD-append ls (x ∷ []) noLink j b in
+            old i j l b (ap (λ (y : Link). y .source) (sym (at-i (omega arith))) ∙ p ∙ ap (λ (y : Link). y .source) at-j) (ap (λ (y : Link). y .target) (sym (at-i (omega arith))) ∙ q ∙ ap (λ (y : Link). y .target) at-j)
+        split (inr b) =
+            let at-j : getD (ls ++ x ∷ []) j noLink ≡ x = getD-at ls x [] noLink j (sym b) in
+            let p′ : getD ls i noLink .source ≡ x .source = ap (λ (y : Link). y .source) (sym (at-i (omega arith))) ∙ p ∙ ap (λ (y : Link). y .source) at-j in
+            let q′ : getD ls i noLink .target ≡ x .target = ap (λ (y : Link). y .target) (sym (at-i (omega arith))) ∙ q ∙ ap (λ (y : Link). y .target) at-j in
+            true≢false (sym (parts-both _ _ (eq-eqb _ _ p′) (eq-eqb _ _ q′)) ∙ new i (omega arith))
+
+shape-board : (b : List ℕ) → judge sheetFormat fresh b ≡ go board → Shaped (record { processors = getD (drop 1 b) 0 0; limit = numberAt 4 (drop 1 b) 1; tasks = []; links = [] })
+shape-board b j =
+    let inside = both-parts (leb 1 (getD (drop 1 b) 0 0)) (leb (getD (drop 1 b) 0 0) 16) (not-false _ (sound-of fresh b board j .range)) in
+    record {
+      few-tasks = omega arith;
+      few-links = omega arith;
+      few-processors = leb-true _ 16 (inside .1);
+      some-processor = leb-true 1 _ (inside .0);
+      works = λ i l. absurd (omega arith);
+      ends = λ i l. absurd (omega arith);
+      apart = λ i j l m. absurd (omega arith);
+    }
+
+-- whatever the bytes are, a sheet that is read has the shape that its faults ask
+pub read-shaped : (b : List ℕ) (s : Sheet) → readForm b ≡ value s → Shaped s × (0 < taskCount s)
+read-shaped b s h = read-holds (λ s d. Shaped s) shape-task shape-link s b h (shape-board b)
+
+size-task : (s : Sheet) (d : List ℕ) → judge sheetFormat (begun s) d ≡ go task → Sized s d → Sized (withCommand s task (drop 1 d)) (drop 5 d)
+size-task s d j h =
+    let small : Small (drop 1 d) = small-drop 1 d (h .small) in
+    record {
+      small = small-drop 5 d (h .small);
+      limit = h .limit;
+      tasks = each-more TaskFits (s .tasks) (taskFrom (drop 1 d)) noTask (h .tasks) record { work = number-lt 2 (drop 1 d) 0 small; store = number-lt 2 (drop 1 d) 2 small };
+      links = h .links;
+    }
+
+size-link : (s : Sheet) (d : List ℕ) → judge sheetFormat (begun s) d ≡ go link → Sized s d → Sized (withCommand s link (drop 1 d)) (drop 7 d)
+size-link s d j h =
+    let small : Small (drop 1 d) = small-drop 1 d (h .small) in
+    record {
+      small = small-drop 7 d (h .small);
+      limit = h .limit;
+      tasks = h .tasks;
+      links = each-more LinkFits (s .links) (linkFrom (drop 1 d)) noLink (h .links) record { cost = number-lt 2 (drop 1 d) 2 small; bytes = number-lt 2 (drop 1 d) 4 small };
+    }
+
+size-board : (b : List ℕ) → Small b → Sized (record { processors = getD (drop 1 b) 0 0; limit = numberAt 4 (drop 1 b) 1; tasks = []; links = [] }) (drop 6 b)
+size-board b small =
+    record {
+      small = small-drop 6 b small;
+      limit = number-lt 4 (drop 1 b) 1 (small-drop 1 b small);
+      tasks = λ i l. absurd (omega arith);
+      links = λ i l. absurd (omega arith);
+    }
+
+-- the shape and the sizes together
+pub proper : (s : Sheet) → Shaped s × (0 < taskCount s) → s .limit < 4294967296 → ((i : ℕ) → i < taskCount s → TaskFits (getD (s .tasks) i noTask))
+    → ((i : ℕ) → i < linkCount s → LinkFits (getD (s .links) i noLink)) → Proper s
+unfolding taskCount linkCount workOf storeOf sourceOf targetOf costOf bytesOf
+proper s (h, n) limit tasks links =
+    record {
+      ranged =
+          record {
+            few-tasks = h .few-tasks;
+            few-links = h .few-links;
+            few-processors = h .few-processors;
+            works = λ t l. tasks t l .work;
+            stores = λ t l. tasks t l .store;
+            source = λ l k. h .ends l k .source;
+            target = λ l k. h .ends l k .target;
+            costs = λ l k. links l k .cost;
+            sizes = λ l k. links l k .bytes;
+          };
+      some-task = n;
+      some-processor = h .some-processor;
+      limit = limit;
+      some-work = h .works;
+      single = λ i j p q a b. one i j p q a b (decLt i j) (decLt j i);
+    }
+  where
+    one : (i j : ℕ) → i < linkCount s → j < linkCount s → sourceOf s i ≡ sourceOf s j → targetOf s i ≡ targetOf s j → Dec (i < j) → Dec (j < i) → i ≡ j
+    one i j p q a b (yes l) m = absurd (h .apart i j l q a b)
+    one i j p q a b (no l) (yes m) = absurd (h .apart j i m p (sym a) (sym b))
+    one i j p q a b (no l) (no m) = omega arith
+
+-- a sheet that is read is proper
+pub read-ranged : (b : List ℕ) (s : Sheet) → ((k : ℕ) → getD b k 0 < 256) → readForm b ≡ value s → Proper s
+unfolding taskCount linkCount
+read-ranged b s small h =
+    let r = read-holds Sized size-task size-link s b h (λ j. size-board b small) .0 in
+    proper s (read-shaped b s h) (r .limit) (r .tasks) (r .links)

@@ -1,0 +1,45 @@
+-- How the inner parts of the interface end, by the answers that they stand for.
+use Prim.Native.Nat.{ℕ}
+use mathlib.Core.Path.{_≡_}
+use mathlib.Core.List.{List}
+use lib.ListN.{length}
+use Rattle.folds.specs.Answers.{Answer, value, refused, written}
+use Rattle.sheet.specs.Sheet.{Sheet}
+use Rattle.bundle.specs.Bundle.{Bundle}
+use Rattle.zeldrupa.specs.Promises.{taskTable, linkTable, boardTable, no-place, valueCount, commandTable, claimAfter}
+use Rattle.zeldrupa.specs.declared.ending.Outcome.{Outcome}
+use Rattle.zeldrupa.specs.declared.ending.Outcome.the-variants.{Done, Refused}
+
+-- an answer whose result has a length
+abbrev pub outcomeOf : {A : Type 0} → (A → ℕ) → Answer A → Outcome
+outcomeOf f (value x) = Done (f x)
+outcomeOf f (refused n at) = Refused n at
+
+abbrev pub numberOf : Outcome → ℕ
+numberOf (Done n) = 0
+numberOf (Refused n at) = n
+
+abbrev pub placeOf : Outcome → ℕ
+placeOf (Done n) = n
+placeOf (Refused n at) = at
+
+-- one output
+pub record PartIs (a : Answer (List ℕ)) (work work′ out out′ : List ℕ) (o : Outcome) : Type 0 where
+  pub answer : o ≡ outcomeOf length a
+  pub output : out′ ≡ written out a
+  pub long : length work′ ≡ length work
+
+-- a sheet's tables
+pub record SheetIs (a : Answer Sheet) (work work′ t t′ l l′ b b′ : List ℕ) (o : Outcome) : Type 0 where
+  pub answer : o ≡ outcomeOf no-place a
+  pub tasks : t′ ≡ written t (taskTable a)
+  pub links : l′ ≡ written l (linkTable a)
+  pub board : b′ ≡ written b (boardTable a)
+  pub long : length work′ ≡ length work
+
+-- a bundle's values
+pub record BundleIs (a : Answer Bundle) (work work′ c c′ : List ℕ) (t t′ : ℕ) (o : Outcome) : Type 0 where
+  pub answer : o ≡ outcomeOf valueCount a
+  pub commands : c′ ≡ written c (commandTable a)
+  pub claim : t′ ≡ claimAfter t a
+  pub long : length work′ ≡ length work

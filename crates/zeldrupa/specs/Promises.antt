@@ -1,0 +1,102 @@
+-- What each function of the interface gives: its answer by the document's numbers, and what stands in lent memory afterwards.
+--
+-- An answer is 13 for a short area, then the refusals in the document's order, 12 last, or the result. From it follow the returned number
+-- (`number`, 0 for a result), the place (`placeOr`), the output (`written`) and the work area (`cleared`), all of folds/specs/Answers.
+use Prim.Native.Nat.{ℕ, _*_}
+use mathlib.Core.Path.{_≡_}
+use mathlib.Core.List.{List, [], _∷_}
+use lib.ListN.{length}
+use lib.Dec.{ltb}
+use Rattle.folds.specs.Folds.{pick, listed}
+use Rattle.folds.specs.Answers.{Answer, value, refused, andThen, longEnough, fitting, number, placeOr, written, cleared}
+use Rattle.workspace.specs.Area.{fixed}
+use Rattle.sheet.specs.Sheet.{Sheet, taskCount, linkCount}
+use Rattle.sheet.specs.Writing.{taskValues, linkValues}
+use Rattle.sheet.specs.Writing as sheets
+use Rattle.graph.specs.Graph.{level, readSheet}
+use Rattle.bundle.specs.Bundle.{Bundle}
+use Rattle.bundle.specs.Format.{readBundle}
+use Rattle.bundle.specs.Writing.{bundleValues}
+use Rattle.bundle.specs.Writing as bundles
+
+-- one lent output and one work area
+pub record Gives (a : Answer (List ℕ)) (work work′ out out′ : List ℕ) (p r : ℕ) : Type 0 where
+  pub returns : r ≡ number a
+  pub place : p ≡ placeOr length a
+  pub output : out′ ≡ written out a
+  pub area : work′ ≡ cleared fixed work
+
+-- zeldrupa_levels: the level of each task, in number order
+unfoldable pub levelsOf : Sheet → List ℕ
+levelsOf s = listed (taskCount s) (level s)
+
+unfoldable pub levelsAnswer : List ℕ → ℕ → ℕ → Answer (List ℕ)
+levelsAnswer sheet work out = longEnough fixed work (andThen (readSheet sheet) (λ s. fitting out (levelsOf s)))
+
+-- zeldrupa_write_sheet: "A writer refuses values as the reader would refuse their bytes, then 12"
+unfoldable pub writeSheetAnswer : ℕ → ℕ → List ℕ → List ℕ → ℕ → ℕ → Answer (List ℕ)
+writeSheetAnswer processors limit tasks links work out =
+    let bytes = sheets.valueBytes processors limit tasks links in
+    longEnough fixed work (andThen (readSheet bytes) (λ s. fitting out bytes))
+
+-- zeldrupa_read_sheet: 12 for the tasks' table first, then for the links'
+unfoldable pub tabled : ℕ → ℕ → Sheet → Answer Sheet
+tabled tasks links s =
+    pick (ltb tasks (2 * taskCount s)) (refused 12 (2 * taskCount s))
+    (pick (ltb links (4 * linkCount s)) (refused 12 (4 * linkCount s)) (value s))
+
+unfoldable pub readSheetAnswer : List ℕ → ℕ → ℕ → ℕ → Answer Sheet
+readSheetAnswer sheet work tasks links = longEnough fixed work (andThen (readSheet sheet) (tabled tasks links))
+
+-- processors, limit, task count and link count
+abbrev pub boardOf : Sheet → List ℕ
+boardOf s = s .processors ∷ s .limit ∷ taskCount s ∷ linkCount s ∷ []
+
+abbrev pub no-place : Sheet → ℕ
+no-place s = 0
+
+abbrev pub taskTable : Answer Sheet → Answer (List ℕ)
+taskTable a = andThen a (λ s. value (taskValues (s .tasks)))
+
+abbrev pub linkTable : Answer Sheet → Answer (List ℕ)
+linkTable a = andThen a (λ s. value (linkValues (s .links)))
+
+abbrev pub boardTable : Answer Sheet → Answer (List ℕ)
+boardTable a = andThen a (λ s. value (boardOf s))
+
+pub record GivesSheet (a : Answer Sheet) (work work′ t t′ l l′ b b′ : List ℕ) (p r : ℕ) : Type 0 where
+  pub returns : r ≡ number a
+  pub place : p ≡ placeOr no-place a
+  pub tasks : t′ ≡ written t (taskTable a)
+  pub links : l′ ≡ written l (linkTable a)
+  pub board : b′ ≡ written b (boardTable a)
+  pub area : work′ ≡ cleared fixed work
+
+-- zeldrupa_read_bundle: the commands as values, 50 among them, and the claim
+unfoldable pub readBundleAnswer : List ℕ → List ℕ → ℕ → ℕ → Answer Bundle
+readBundleAnswer sheet bundle work out =
+    longEnough fixed work
+    (andThen (readSheet sheet) (λ s. andThen (readBundle s bundle) (λ b. andThen (fitting out (bundleValues b)) (λ v. value b))))
+
+abbrev pub commandTable : Answer Bundle → Answer (List ℕ)
+commandTable a = andThen a (λ b. value (bundleValues b))
+
+abbrev pub claimAfter : ℕ → Answer Bundle → ℕ
+claimAfter old (value b) = b .claim
+claimAfter old (refused n at) = old
+
+abbrev pub valueCount : Bundle → ℕ
+valueCount b = length (bundleValues b)
+
+pub record GivesBundle (a : Answer Bundle) (work work′ c c′ : List ℕ) (t t′ p r : ℕ) : Type 0 where
+  pub returns : r ≡ number a
+  pub place : p ≡ placeOr valueCount a
+  pub commands : c′ ≡ written c (commandTable a)
+  pub claim : t′ ≡ claimAfter t a
+  pub area : work′ ≡ cleared fixed work
+
+-- zeldrupa_write_bundle
+unfoldable pub writeBundleAnswer : List ℕ → List ℕ → ℕ → ℕ → ℕ → Answer (List ℕ)
+writeBundleAnswer sheet commands claim work out =
+    let bytes = bundles.valueBytes commands claim in
+    longEnough fixed work (andThen (readSheet sheet) (λ s. andThen (readBundle s bytes) (λ b. fitting out bytes)))

@@ -1,0 +1,2 @@
+// The interface for C and Rust.
+mod ending;
