@@ -1,2 +1,6 @@
 pub mod Paths
 pub mod Graph
+pub mod Words
+pub mod Peeling
+pub mod Found
+pub mod Opened
