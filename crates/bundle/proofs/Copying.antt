@@ -1,5 +1,5 @@
 -- Commands of a bundle copied as values: what is copied so far, one command more, and the end.
-use Prim.Native.Nat.{ℕ, zero, suc, _+_, _-_, _<_, _≤_}
+use Prim.Native.Nat.{ℕ, zero, suc, _+_, _-_, _%_, _<_, _≤_}
 use mathlib.Core.Path.{_≡_, refl, sym, ap, ap₂, _∙_}
 use mathlib.Core.Bool.{true, false}
 use mathlib.Core.List.{List, [], _∷_, _++_, append-assoc, append-nil}
@@ -14,7 +14,8 @@ use Rattle.bundle.specs.Bundle.{Bundle}
 use Rattle.bundle.specs.Format.{kindOf, readBundle}
 use Rattle.bundle.specs.Writing.{bundleValues, operandBytes, valueBytes}
 use Rattle.bundle.specs.Fits.{Bytes}
-use Rattle.bundle.specs.Writes.{Small, isMessage}
+use Rattle.bundle.specs.Answers.{isMessage}
+use Rattle.bundle.specs.Writes.{Small}
 use Rattle.bundle.specs.Copies.{Copyable, CopyIs, operandIn, sizeBy}
 use Rattle.bundle.proofs.Rounds.{read-fits, bytes-again, values-again, bytes-of-values}
 use Rattle.bundle.proofs.Plain.{Pair, opens, runs, sends, receives, Plain, plain-bundle}
@@ -43,6 +44,11 @@ plain-small (c ∷ x ∷ vs) h (suc zero) = operand c x (h .0)
     operand c x (sends l) = l
     operand c x (receives l) = l
 plain-small (c ∷ x ∷ vs) h (suc (suc i)) = plain-small vs (h .1) i
+
+-- the first of two bytes
+pub low-byte : (b : List ℕ) (i : ℕ) → getD b i 0 < 256 → numberAt 2 b i % 256 ≡ getD b i 0
+unfolding numberAt
+low-byte b i h = omega arith
 
 -- the command of the values c and x at offset o, and the bytes r behind it
 record Found (b : List ℕ) (o c x : ℕ) (r : List ℕ) : Type 0 where

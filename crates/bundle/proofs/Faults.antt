@@ -3,13 +3,15 @@ use Prim.Native.Nat.{ℕ, _+_, _-_, _<_}
 use mathlib.Core.Path.{_≡_, refl, sym, ap, _∙_}
 use mathlib.Core.Bool.{Bool, true, false, not}
 use mathlib.Core.Option.{Option, none, some}
+use mathlib.Core.Logic.{_⊎_, inl, inr}
 use mathlib.Core.List.{List, [], _∷_}
 use native.Mathlib.Nat.{add-zero}
-use borrow.Author.Tests.{ne-eqb}
+use borrow.Author.Tests.{ne-eqb, eqb-true}
 use lib.ListN.{length, getD, drop, length-drop, replicate, length-replicate}
 use lib.Seq.{getD-drop}
 use lib.Dec.{eqb, ltb, leb}
-use Rattle.folds.specs.Folds.{pick, either, firstOf}
+use Rattle.folds.specs.Folds.{either, firstOf}
+use Rattle.folds.proofs.Tests.{either-none}
 use Rattle.numbers.specs.Number.{numberAt}
 use Rattle.numbers.proofs.Laws.{numberAt-drop}
 use Rattle.commands.specs.Commands.{refuse, go, verdict, judgeKind, judge}
@@ -18,8 +20,7 @@ use Rattle.sheet.specs.Sheet.{Sheet, noTask, noLink, taskCount, linkCount}
 use Rattle.bundle.specs.Bundle.{Command}
 use Rattle.bundle.specs.Format.{Kind, opening, running, sending, receiving, claiming, kindOf, fault, bundleFormat}
 use Rattle.bundle.specs.Counts.{Sized, faultBelow, limitOf, countFormat}
-use Rattle.bundle.specs.Answers.{outcomeOf, numbered, unlessOf}
-use Rattle.bundle.specs.declared.kinds.Next.{Next}
+use Rattle.bundle.specs.Answers.{numbered, isMessage}
 
 module _ (m n : ℕ) (b : List ℕ) (at : ℕ) where
   pub fault-open : faultBelow m n opening (drop (at + 1) b) ≡ firstOf ((ltb (length b - (at + 1)) 1, 21) ∷ (either (not (eqb (getD b (at + 1) 0) n)) (leb m (getD b (at + 1) 0)), 23) ∷ [])
@@ -42,27 +43,37 @@ module _ (m n : ℕ) (b : List ℕ) (at : ℕ) where
   unfolding faultBelow
   fault-claim = simp length-drop
 
-module _ (p t l n : ℕ) (b : List ℕ) (at : ℕ) where
-  pub judge-strange : at < length b → (getD b at 0 ≡ 0x50 → ⊥) → (getD b at 0 ≡ 0x52 → ⊥) → (getD b at 0 ≡ 0x53 → ⊥) → (getD b at 0 ≡ 0x56 → ⊥) → (getD b at 0 ≡ 0x5A → ⊥)
-      → judge (countFormat p t l) n (drop at b) ≡ refuse 22
-  judge-strange h a c d e f = judge-at (countFormat p t l) n b at h ∙ simp (ne-eqb _ _ a, ne-eqb _ _ c, ne-eqb _ _ d, ne-eqb _ _ e, ne-eqb _ _ f)
-
--- a kind unless it has a fault is the verdict
-pub outcome-unless : (p t l r : ℕ) (x : Next) (k : Kind) (o : Option ℕ) → outcomeOf x ≡ go k → numbered r ≡ o → outcomeOf (unlessOf r x) ≡ verdict (countFormat p t l) k o
-unfolding unlessOf
-outcome-unless p t l r x k o e f = go-by (eqb r 0) refl f
+-- a send or a receive
+pub message-kind : (c : ℕ) → isMessage c ≡ true → (kindOf c ≡ some sending) ⊎ (kindOf c ≡ some receiving)
+unfolding isMessage
+message-kind c e = by (eqb c 0x53) refl e
   where
-    go-by : (q : Bool) → eqb r 0 ≡ q → pick q none (some r) ≡ o → outcomeOf (unlessOf r x) ≡ verdict (countFormat p t l) k o
-    go-by true q h = rw (q, ← h) e
-    go-by false q h = rw (q, ← h)
+    by : (t : Bool) → eqb c 0x53 ≡ t → either t (eqb c 0x56) ≡ true → (kindOf c ≡ some sending) ⊎ (kindOf c ≡ some receiving)
+    by true q f = inl (ap kindOf (eqb-true c 0x53 q))
+    by false q f = inr (ap kindOf (eqb-true c 0x56 f))
 
--- the command at an offset whose first byte is known
-pub judge-known : (p t l n : ℕ) (b : List ℕ) (at v r : ℕ) (x : Next) (k : Kind) → at < length b → getD b at 0 ≡ v → kindOf v ≡ some k → outcomeOf x ≡ go k
-    → numbered r ≡ faultBelow (limitOf p t l k) n k (drop (at + 1) b) → outcomeOf (unlessOf r x) ≡ judge (countFormat p t l) n (drop at b)
-judge-known p t l n b at v r x k h e f g i =
-    let F = countFormat p t l in
-    outcome-unless p t l r x k _ g i
-    ∙ sym (judge-at F n b at h ∙ ap (λ (y : ℕ). judgeKind F n (kindOf y) (drop (at + 1) b)) e ∙ ap (λ (o : Option Kind). judgeKind F n o (drop (at + 1) b)) f)
+-- no command byte
+pub strange-kind : (c : ℕ) → isMessage c ≡ false → (c ≡ 0x52 → ⊥) → (c ≡ 0x50 → ⊥) → (c ≡ 0x5A → ⊥) → kindOf c ≡ none
+unfolding isMessage
+strange-kind c m r o k =
+    let f = either-none (eqb c 0x53) (eqb c 0x56) m in
+    simp (ne-eqb _ _ o, ne-eqb _ _ r, f .0, f .1, ne-eqb _ _ k)
+
+-- what a fault's number makes of a command of a kind
+module _ (p t l : ℕ) (k : Kind) (r : ℕ) where
+  pub verdict-clear : (o : Option ℕ) → numbered r ≡ o → r ≡ 0 → verdict (countFormat p t l) k o ≡ go k
+  verdict-clear o h e = ap (verdict (countFormat p t l) k) (sym h ∙ ap numbered e)
+
+  pub verdict-refused : (o : Option ℕ) → numbered r ≡ o → (r ≡ 0 → ⊥) → verdict (countFormat p t l) k o ≡ refuse r
+  verdict-refused o h e =
+      let q : numbered r ≡ some r = rw (ne-eqb r 0 e) in
+      ap (verdict (countFormat p t l) k) (sym h ∙ q)
+
+-- the command at an offset, by the kind of its first byte
+module _ (p t l n : ℕ) (b : List ℕ) (at : ℕ) (more : at < length b) where
+  pub judge-kind : (o : Option Kind) → kindOf (getD b at 0) ≡ o → judge (countFormat p t l) n (drop at b) ≡ judgeKind (countFormat p t l) n o (drop (at + 1) b)
+  judge-kind o e =
+      judge-at (countFormat p t l) n b at more ∙ ap (λ (o : Option Kind). judgeKind (countFormat p t l) n o (drop (at + 1) b)) e
 
 -- a sheet's faults are those of its counts
 fault-sized : {s : Sheet} {p t l : ℕ} → Sized s p t l → (ps : List (List Command)) (n : ℕ) → length ps ≡ n → (k : Kind) (b : List ℕ) → fault s ps k b ≡ faultBelow (limitOf p t l k) n k b

@@ -3,6 +3,7 @@ use Prim.Native.Nat.{ℕ, suc, _+_, _*_, _<_, _≤_}
 use mathlib.Core.Path.{_≡_, refl, sym, ap, subst, _∙_}
 use mathlib.Core.Bool.{Bool, true, false, true≢false}
 use mathlib.Core.Option.{Option, none, some}
+use mathlib.Core.Logic.{⊎-elim}
 use mathlib.Core.List.{List, [], _∷_, _++_}
 use native.Mathlib.Omega.{arith}
 use native.Mathlib.Numerals.{add-one, add-two}
@@ -14,7 +15,7 @@ use Rattle.folds.specs.Folds.{pick, both}
 use Rattle.folds.specs.Answers.{refused}
 use Rattle.numbers.specs.Number.{numberBytes}
 use Rattle.numbers.proofs.Laws.{number-of-bytes}
-use Rattle.commands.specs.Commands.{Outcome, refuse, go, judgeKind, judge}
+use Rattle.commands.specs.Commands.{Outcome, refuse, go, verdict, judgeKind, judge}
 use Rattle.commands.specs.Reading.{Going}
 use Rattle.commands.proofs.Going.{comes, starts, goes, refuses, ends}
 use Rattle.sheet.specs.Sheet.{Sheet}
@@ -22,13 +23,12 @@ use Rattle.bundle.specs.Bundle.{Command}
 use Rattle.bundle.specs.Format.{Kind, opening, running, sending, receiving, claiming, kindOf, width, inside, after, closes, ended, bundleFormat, readBundle}
 use Rattle.bundle.specs.Writing.{claimBytes, operandBytes, valueBytes}
 use Rattle.bundle.specs.Counts.{Sized, faultBelow, limitOf, countFormat}
-use Rattle.bundle.specs.Answers.{outcomeOf, numbered, unlessOf}
-use Rattle.bundle.specs.Writes.{judgedOf, RefusalIs, NextIs, knownFault, openFault, claimFault, cutKind, cutNumber}
-use Rattle.bundle.specs.declared.kinds.Next.{Next}
+use Rattle.bundle.specs.Answers.{numbered, isMessage}
+use Rattle.bundle.specs.Writes.{judgedOf, RefusalIs, knownFault, openFault, cutKind, cutNumber}
 use Rattle.bundle.specs.declared.writer.Judged.the-variants.{Long, Refused}
 use Rattle.bundle.proofs.Steps.{on-claim}
 use Rattle.bundle.proofs.Parts.{drop-operand, length-within}
-use Rattle.bundle.proofs.Faults.{judge-sized, outcome-unless}
+use Rattle.bundle.proofs.Faults.{judge-sized, message-kind, strange-kind, verdict-clear, verdict-refused}
 
 -- the faults of commands whose operands are there
 module _ (m n x : ℕ) (b : List ℕ) where
@@ -48,45 +48,14 @@ module _ (m n x : ℕ) (b : List ℕ) where
   unfolding faultBelow
   fault-receiving h = rw (le-ltb (suc (suc (length b))) 2 (omega arith), number-of-bytes 2 x b h)
 
-  fault-claiming : faultBelow m n claiming (numberBytes 4 x ++ b) ≡ claimFault n
+  fault-claiming : faultBelow m n claiming (numberBytes 4 x ++ b) ≡ pick (eqb n 0) (some 23) none
   unfolding faultBelow
   fault-claiming = rw (le-ltb (suc (suc (suc (suc (length b))))) 4 (omega arith))
-
-pub strange : (c : ℕ) → (c ≡ 0x50 → ⊥) → (c ≡ 0x52 → ⊥) → (c ≡ 0x53 → ⊥) → (c ≡ 0x56 → ⊥) → (c ≡ 0x5A → ⊥) → kindOf c ≡ none
-strange c f g h i j = simp (ne-eqb _ _ f, ne-eqb _ _ g, ne-eqb _ _ h, ne-eqb _ _ i, ne-eqb _ _ j)
 
 module _ (p t l n : ℕ) where
   judge-head : (c : ℕ) (o : Option Kind) (b : List ℕ) → kindOf c ≡ o → judge (countFormat p t l) n (c ∷ b) ≡ judgeKind (countFormat p t l) n o b
   unfolding judge
   judge-head c o b e = ap (λ (o : Option Kind). judgeKind (countFormat p t l) n o b) e
-
-  -- a command whose kind and fault are known
-  next-known : (c x v r : ℕ) (y : Next) (k : Kind) → c ≡ v → kindOf v ≡ some k → outcomeOf y ≡ go k
-      → ((b : List ℕ) → numbered r ≡ faultBelow (limitOf p t l k) n k (operandBytes (some k) x ++ b)) → NextIs p t l n c x (unlessOf r y)
-  next-known c x v r y k e f g h b =
-      let q : kindOf c ≡ some k = ap kindOf e ∙ f in
-      outcome-unless p t l r y k _ g (h b)
-      ∙ sym (judge-head c (some k) (operandBytes (some k) x ++ b) q)
-      ∙ ap (λ (o : Option Kind). judge (countFormat p t l) n (c ∷ (operandBytes o x ++ b))) (sym q)
-
-  pub next-run : (c x r : ℕ) (y : Next) → c ≡ 0x52 → outcomeOf y ≡ go running → numbered r ≡ knownFault t n x → NextIs p t l n c x (unlessOf r y)
-  next-run c x r y e g h = next-known c x 0x52 r y running e refl g (λ b. h ∙ sym (fault-running t n x b))
-
-  pub next-send : (c x r : ℕ) (y : Next) → x < 65536 → c ≡ 0x53 → outcomeOf y ≡ go sending → numbered r ≡ knownFault l n x → NextIs p t l n c x (unlessOf r y)
-  next-send c x r y s e g h = next-known c x 0x53 r y sending e refl g (λ b. h ∙ sym (fault-sending l n x b s))
-
-  pub next-receive : (c x r : ℕ) (y : Next) → x < 65536 → c ≡ 0x56 → outcomeOf y ≡ go receiving → numbered r ≡ knownFault l n x → NextIs p t l n c x (unlessOf r y)
-  next-receive c x r y s e g h = next-known c x 0x56 r y receiving e refl g (λ b. h ∙ sym (fault-receiving l n x b s))
-
-  pub next-open : (c x r : ℕ) (y : Next) → c ≡ 0x50 → outcomeOf y ≡ go opening → numbered r ≡ openFault p n x → NextIs p t l n c x (unlessOf r y)
-  next-open c x r y e g h = next-known c x 0x50 r y opening e refl g (λ b. h ∙ sym (fault-opening p n x b))
-
-  pub next-claim : (c x r : ℕ) (y : Next) → c ≡ 0x5A → outcomeOf y ≡ go claiming → numbered r ≡ claimFault n → NextIs p t l n c x (unlessOf r y)
-  next-claim c x r y e g h = next-known c x 0x5A r y claiming e refl g (λ b. h ∙ sym (fault-claiming 0 n x b))
-
-  pub next-strange : (c x : ℕ) → (c ≡ 0x50 → ⊥) → (c ≡ 0x52 → ⊥) → (c ≡ 0x53 → ⊥) → (c ≡ 0x56 → ⊥) → (c ≡ 0x5A → ⊥)
-      → (b : List ℕ) → refuse 22 ≡ judge (countFormat p t l) n (c ∷ (operandBytes (kindOf c) x ++ b))
-  next-strange c x f g h i j b = sym (judge-head c none (operandBytes (kindOf c) x ++ b) (strange c f g h i j))
 
   -- a command byte that nothing follows
   judge-cut : (c : ℕ) (o : Option Kind) → kindOf c ≡ o → judge (countFormat p t l) n (c ∷ []) ≡ refuse (cutKind n o)
@@ -107,9 +76,13 @@ pub cut-known : (n c v : ℕ) (k : Kind) → c ≡ v → kindOf v ≡ some k →
 unfolding cutNumber
 cut-known n c v k e f = ap (cutKind n) (ap kindOf e ∙ f)
 
-pub cut-strange : (n c : ℕ) → (c ≡ 0x50 → ⊥) → (c ≡ 0x52 → ⊥) → (c ≡ 0x53 → ⊥) → (c ≡ 0x56 → ⊥) → (c ≡ 0x5A → ⊥) → 22 ≡ cutNumber n c
+pub cut-message : (n c : ℕ) → isMessage c ≡ true → cutNumber n c ≡ pick (eqb n 0) 23 21
 unfolding cutNumber
-cut-strange n c f g h i j = ap (cutKind n) (sym (strange c f g h i j))
+cut-message n c e = ⊎-elim (λ q. ap (cutKind n) q) (λ q. ap (cutKind n) q) (message-kind c e)
+
+pub cut-strange : (n c : ℕ) → isMessage c ≡ false → (c ≡ 0x52 → ⊥) → (c ≡ 0x50 → ⊥) → (c ≡ 0x5A → ⊥) → 22 ≡ cutNumber n c
+unfolding cutNumber
+cut-strange n c e f g h = ap (cutKind n) (sym (strange-kind c e f g h))
 
 -- the values from index i on
 pub values-at : (vs : List ℕ) (claim i : ℕ) → i + 1 < length vs
@@ -228,40 +201,93 @@ judges-start vs p t l =
       each = λ s z claim c. record { ps = []; count = refl; going = starts (bundleFormat s) [] (valueBytes vs claim); size = omega arith };
     }
 
-module _ {vs : List ℕ} {p t l n at i : ℕ} (g : Judges vs p t l n at i) where
-  next-judged : (y : Next) → i + 1 < length vs → NextIs p t l n (getD vs i 0) (getD vs (i + 1) 0) y → (claim : ℕ) → judge (countFormat p t l) n (valueBytes (drop i vs) claim) ≡ outcomeOf y
-  next-judged y h e claim = ap (judge (countFormat p t l) n) (values-at vs claim i h) ∙ sym (e (valueBytes (drop (i + 2) vs) claim))
+width-most : (k : Kind) → closes k ≡ false → width k ≤ 2
+width-most opening e = omega arith
+width-most running e = omega arith
+width-most sending e = omega arith
+width-most receiving e = omega arith
+width-most claiming e = absurd (true≢false e)
 
-  pub judges-on : (y : Next) (k : Kind) → outcomeOf y ≡ go k → closes k ≡ false → i + 1 < length vs → NextIs p t l n (getD vs i 0) (getD vs (i + 1) 0) y
+opened-most : (n : ℕ) (k : Kind) → openedBehind n k ≤ n + 1
+opened-most n opening = omega arith
+opened-most n running = omega arith
+opened-most n sending = omega arith
+opened-most n receiving = omega arith
+opened-most n claiming = omega arith
+
+-- the ways by what the code tests: the command of the values at i, with the number of its fault
+module _ {vs : List ℕ} {p t l n at i : ℕ} (g : Judges vs p t l n at i) (more : i + 1 < length vs) where
+  -- a command of kind k, by its fault
+  judged-kind : (k : Kind) → kindOf (getD vs i 0) ≡ some k → (o : Option ℕ)
+      → ((b : List ℕ) → o ≡ faultBelow (limitOf p t l k) n k (operandBytes (some k) (getD vs (i + 1) 0) ++ b)) → (claim : ℕ)
+      → judge (countFormat p t l) n (valueBytes (drop i vs) claim) ≡ verdict (countFormat p t l) k o
+  judged-kind k e o h claim =
+      let r = valueBytes (drop (i + 2) vs) claim in
+      let x = getD vs (i + 1) 0 in
+      ap (judge (countFormat p t l) n) (values-at vs claim i more)
+      ∙ judge-head p t l n (getD vs i 0) (some k) (operandBytes (kindOf (getD vs i 0)) x ++ r) e
+      ∙ ap (λ (q : Option Kind). judgeKind (countFormat p t l) n (some k) (operandBytes q x ++ r)) e
+      ∙ ap (verdict (countFormat p t l) k) (sym (h r))
+
+  on-kind : (k : Kind) → closes k ≡ false → kindOf (getD vs i 0) ≡ some k → (r : ℕ) → r ≡ 0
+      → ((b : List ℕ) → numbered r ≡ faultBelow (limitOf p t l k) n k (operandBytes (some k) (getD vs (i + 1) 0) ++ b))
       → Judges vs p t l (openedBehind n k) (at + (1 + width k)) (i + 2)
-  judges-on y k o c h e =
+  on-kind k c e r z h =
       record {
         place = omega arith;
         near = omega (arith, g .near, width-most k c);
         few = omega (arith, g .few, opened-most n k);
-        each = λ s z claim m. judging-on z (g .each s z claim m) k c h (next-judged y h e claim ∙ o);
+        each = λ s q claim m. judging-on q (g .each s q claim m) k c more (judged-kind k e (numbered r) h claim ∙ verdict-clear p t l k r (numbered r) refl z);
       }
-    where
-      width-most : (k : Kind) → closes k ≡ false → width k ≤ 2
-      width-most opening e = omega arith
-      width-most running e = omega arith
-      width-most sending e = omega arith
-      width-most receiving e = omega arith
-      width-most claiming e = absurd (true≢false e)
 
-      opened-most : (n : ℕ) (k : Kind) → openedBehind n k ≤ n + 1
-      opened-most n opening = omega arith
-      opened-most n running = omega arith
-      opened-most n sending = omega arith
-      opened-most n receiving = omega arith
-      opened-most n claiming = omega arith
+  refused-kind : (k : Kind) → kindOf (getD vs i 0) ≡ some k → (r : ℕ) → (r ≡ 0 → ⊥)
+      → ((b : List ℕ) → numbered r ≡ faultBelow (limitOf p t l k) n k (operandBytes (some k) (getD vs (i + 1) 0) ++ b)) → RefusalIs vs p t l (Refused r at)
+  refused-kind k e r z h =
+      record { answer = λ s q claim m. judging-refused q (g .each s q claim m) r (judged-kind k e (numbered r) h claim ∙ verdict-refused p t l k r (numbered r) refl z) }
 
-  pub judges-refused : (y : Next) (r : ℕ) → outcomeOf y ≡ refuse r → i + 1 < length vs → NextIs p t l n (getD vs i 0) (getD vs (i + 1) 0) y → RefusalIs vs p t l (Refused r at)
-  judges-refused y r o h e = record { answer = λ s z claim m. judging-refused z (g .each s z claim m) r (next-judged y h e claim ∙ o) }
+  pub judges-message : getD vs (i + 1) 0 < 65536 → isMessage (getD vs i 0) ≡ true → (r : ℕ) → numbered r ≡ knownFault l n (getD vs (i + 1) 0) → r ≡ 0 → Judges vs p t l n (at + 3) (i + 2)
+  judges-message s e r h z =
+      ⊎-elim (λ q. on-kind sending refl q r z (λ b. h ∙ sym (fault-sending l n (getD vs (i + 1) 0) b s)))
+      (λ q. on-kind receiving refl q r z (λ b. h ∙ sym (fault-receiving l n (getD vs (i + 1) 0) b s))) (message-kind (getD vs i 0) e)
 
-  pub judges-tail : (y : Next) → outcomeOf y ≡ go claiming → i + 1 < length vs → NextIs p t l n (getD vs i 0) (getD vs (i + 1) 0) y → RefusalIs vs p t l (Refused 24 (at + 5))
-  judges-tail y o h e = record { answer = λ s z claim m. judging-tail z (g .each s z claim m) h (next-judged y h e claim ∙ o) }
+  pub judges-message-no : getD vs (i + 1) 0 < 65536 → isMessage (getD vs i 0) ≡ true → (r : ℕ) → numbered r ≡ knownFault l n (getD vs (i + 1) 0) → (r ≡ 0 → ⊥) → RefusalIs vs p t l (Refused r at)
+  judges-message-no s e r h z =
+      ⊎-elim (λ q. refused-kind sending q r z (λ b. h ∙ sym (fault-sending l n (getD vs (i + 1) 0) b s)))
+      (λ q. refused-kind receiving q r z (λ b. h ∙ sym (fault-receiving l n (getD vs (i + 1) 0) b s))) (message-kind (getD vs i 0) e)
 
+  pub judges-run : getD vs i 0 ≡ 0x52 → (r : ℕ) → numbered r ≡ knownFault t n (getD vs (i + 1) 0) → r ≡ 0 → Judges vs p t l n (at + 2) (i + 2)
+  judges-run e r h z = on-kind running refl (ap kindOf e) r z (λ b. h ∙ sym (fault-running t n (getD vs (i + 1) 0) b))
+
+  pub judges-run-no : getD vs i 0 ≡ 0x52 → (r : ℕ) → numbered r ≡ knownFault t n (getD vs (i + 1) 0) → (r ≡ 0 → ⊥) → RefusalIs vs p t l (Refused r at)
+  judges-run-no e r h z = refused-kind running (ap kindOf e) r z (λ b. h ∙ sym (fault-running t n (getD vs (i + 1) 0) b))
+
+  pub judges-open : getD vs i 0 ≡ 0x50 → (r : ℕ) → numbered r ≡ openFault p n (getD vs (i + 1) 0) → r ≡ 0 → Judges vs p t l (n + 1) (at + 2) (i + 2)
+  judges-open e r h z = on-kind opening refl (ap kindOf e) r z (λ b. h ∙ sym (fault-opening p n (getD vs (i + 1) 0) b))
+
+  pub judges-open-no : getD vs i 0 ≡ 0x50 → (r : ℕ) → numbered r ≡ openFault p n (getD vs (i + 1) 0) → (r ≡ 0 → ⊥) → RefusalIs vs p t l (Refused r at)
+  judges-open-no e r h z = refused-kind opening (ap kindOf e) r z (λ b. h ∙ sym (fault-opening p n (getD vs (i + 1) 0) b))
+
+  -- a claim among the commands
+  pub judges-claim-no : getD vs i 0 ≡ 0x5A → n ≡ 0 → RefusalIs vs p t l (Refused 23 at)
+  judges-claim-no e z = refused-kind claiming (ap kindOf e) 23 (λ q. omega arith) (λ b. sym (fault-claiming 0 n (getD vs (i + 1) 0) b ∙ rw (eq-eqb n 0 z)))
+
+  pub judges-tail : getD vs i 0 ≡ 0x5A → (n ≡ 0 → ⊥) → RefusalIs vs p t l (Refused 24 (at + 5))
+  judges-tail e z =
+      record {
+        answer = λ s q claim m.
+            judging-tail q (g .each s q claim m) more
+            (judged-kind claiming (ap kindOf e) none (λ b. sym (fault-claiming 0 n (getD vs (i + 1) 0) b ∙ rw (ne-eqb n 0 z))) claim);
+      }
+
+  pub judges-strange : isMessage (getD vs i 0) ≡ false → (getD vs i 0 ≡ 0x52 → ⊥) → (getD vs i 0 ≡ 0x50 → ⊥) → (getD vs i 0 ≡ 0x5A → ⊥) → RefusalIs vs p t l (Refused 22 at)
+  judges-strange e f h k =
+      record {
+        answer = λ s q claim m.
+            judging-refused q (g .each s q claim m) 22
+            (ap (judge (countFormat p t l) n) (values-at vs claim i more) ∙ judge-head p t l n (getD vs i 0) none _ (strange-kind (getD vs i 0) e f h k));
+      }
+
+module _ {vs : List ℕ} {p t l n at i : ℕ} (g : Judges vs p t l n at i) where
   pub judges-cut : (r : ℕ) → i + 1 ≡ length vs → r ≡ cutNumber n (getD vs i 0) → RefusalIs vs p t l (Refused r at)
   unfolding cutNumber
   judges-cut r h e =

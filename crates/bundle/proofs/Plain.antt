@@ -15,7 +15,8 @@ use Rattle.bundle.specs.Bundle.{Command, run, send, receive, Bundle}
 use Rattle.bundle.specs.Format.{kindOf, readBundle}
 use Rattle.bundle.specs.Writing.{claimBytes, programmeValues, programmesValues, bundleValues, operandBytes, valueBytes}
 use Rattle.bundle.specs.Fits.{Known, Each}
-use Rattle.bundle.specs.Writes.{Small, Writable, isMessage, putBytes, PutIs}
+use Rattle.bundle.specs.Answers.{isMessage}
+use Rattle.bundle.specs.Writes.{Small, Writable, putBytes, PutIs}
 use Rattle.bundle.proofs.Rounds.{read-formed, values-again}
 use Rattle.bundle.proofs.Judging.{values-at, values-end, some-bytes}
 

@@ -8,7 +8,8 @@ use lib.ListN.{length, set}
 use Rattle.folds.specs.Folds.{pick}
 use Rattle.numbers.specs.Number.{numberBytes, stored}
 use Rattle.numbers.proofs.Laws.{stored-one, stored-two, stored-then}
-use Rattle.bundle.specs.Writes.{isMessage, putBytes, PutIs}
+use Rattle.bundle.specs.Answers.{isMessage}
+use Rattle.bundle.specs.Writes.{putBytes, PutIs}
 
 pub put-message : (old last : List ℕ) (at c x : ℕ) → at + 3 ≤ length old → isMessage c ≡ true
     → last ≡ stored (set old at (c % 256)) (at + 1) (numberBytes 2 x) → PutIs old last at c x (at + 3)

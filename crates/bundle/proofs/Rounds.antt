@@ -150,33 +150,33 @@ module _ (s : Sheet) where
               (written-after s ps k ops o f ∙ ap₂ (λ (a c : ℕ). programmesBytes 0 ps ++ (a ∷ operandBytes (some k) c)) byte same) b;
         }
 
-    told-by : (ps : List (List Command)) (e : ℕ) (k : Kind) → closes k ≡ false → (c rest : List ℕ) → c ≡ valueBytes rest claim → judge (bundleFormat s) ps c ≡ go k
+    told-by : (ps : List (List Command)) (k : Kind) → closes k ≡ false → (c rest : List ℕ) → c ≡ valueBytes rest claim → judge (bundleFormat s) ps c ≡ go k
         → ((i : ℕ) → getD rest i 0 < 65536) → programmesValues 0 ps ++ rest ≡ vs → programmesBytes 0 ps ++ c ≡ valueBytes vs claim
         → Told vs claim (after ps k (drop 1 c)) (drop (1 + width k) c)
     unfolding valueBytes
-    told-by ps e k o c [] h j small v b =
+    told-by ps k o c [] h j small v b =
         let m = subst (λ (x : List ℕ). kindOf (getD x 0 0) ≡ some k) h (comes (bundleFormat s) ps c k j .kind) in
         absurd (true≢false (sym (closing-byte k (sym (kind-byte 0x5A k m))) ∙ o))
-    told-by ps e k o c (y ∷ []) h j small v b =
+    told-by ps k o c (y ∷ []) h j small v b =
         let m = subst (λ (x : List ℕ). Clear s ps k (drop 1 x)) h (clear-of ps c k j) in
         absurd (omega (arith, width-some k, m .room))
-    told-by ps e k o c (y ∷ x ∷ r) h j small v b =
+    told-by ps k o c (y ∷ x ∷ r) h j small v b =
         let q : kindOf y ≡ some k = subst (λ (z : List ℕ). kindOf (getD z 0 0) ≡ some k) h (comes (bundleFormat s) ps c k j .kind) in
         let g : c ≡ y ∷ (operandBytes (some k) x ++ valueBytes r claim) = h ∙ ap {B = List ℕ} (λ (z : Option Kind). y ∷ (operandBytes z x ++ valueBytes r claim)) q in
         subst (λ (z : List ℕ). Told vs claim (after ps k (drop 1 z)) (drop (1 + width k) z)) (sym g)
         (told-more ps k y x r o q (subst (λ (z : List ℕ). Clear s ps k (drop 1 z)) g (clear-of ps c k j)) small v (sym (ap (λ (z : List ℕ). programmesBytes 0 ps ++ z) g) ∙ b))
 
     kept-told : Keeps (bundleFormat s) (λ ps e c. Told vs claim ps c)
-    kept-told ps e c k o j h = told-by ps e k o c (h .rest) (h .here) j (h .small) (h .values) (h .bytes)
+    kept-told ps e c k o j h = told-by ps k o c (h .rest) (h .here) j (h .small) (h .values) (h .bytes)
 
     -- the values end where the claim is read
-    told-end : (ps : List (List Command)) (e : ℕ) (c : List ℕ) (rest : List ℕ) → c ≡ valueBytes rest claim → judge (bundleFormat s) ps c ≡ go claiming → length (drop 1 c) ≤ 4 → rest ≡ []
+    told-end : (ps : List (List Command)) (c : List ℕ) (rest : List ℕ) → c ≡ valueBytes rest claim → judge (bundleFormat s) ps c ≡ go claiming → length (drop 1 c) ≤ 4 → rest ≡ []
     unfolding valueBytes
-    told-end ps e c [] h j l = refl
-    told-end ps e c (y ∷ []) h j l =
+    told-end ps c [] h j l = refl
+    told-end ps c (y ∷ []) h j l =
         let m = subst (λ (x : List ℕ). Clear s ps claiming (drop 1 x)) h (clear-of ps c claiming j) in
         absurd (omega (arith, m .room))
-    told-end ps e c (y ∷ x ∷ r) h j l =
+    told-end ps c (y ∷ x ∷ r) h j l =
         let q : kindOf y ≡ some claiming = subst (λ (z : List ℕ). kindOf (getD z 0 0) ≡ some claiming) h (comes (bundleFormat s) ps c claiming j .kind) in
         let g : c ≡ y ∷ (operandBytes (some claiming) x ++ valueBytes r claim) = h ∙ ap {B = List ℕ} (λ (z : Option Kind). y ∷ (operandBytes z x ++ valueBytes r claim)) q in
         absurd (omega (arith, subst (λ (z : List ℕ). length (drop 1 z) ≤ 4) g l, some-bytes r))
@@ -202,7 +202,7 @@ module _ (s : Sheet) where
       let k : a .kind ≡ claiming = closing-kind (a .kind) (a .last) in
       let j : judge (bundleFormat s) ps c ≡ go claiming = a .judged ∙ ap {B = Outcome Kind} go k in
       let e = ended-value ps (a .offset) (drop 1 c) x (a .closed) in
-      let r : t .rest ≡ [] = told-end vs claim ps (a .offset) c (t .rest) (t .here) j (e .0) in
+      let r : t .rest ≡ [] = told-end vs claim ps c (t .rest) (t .here) j (e .0) in
       let g : c ≡ claimBytes claim = t .here ∙ ap (λ (z : List ℕ). valueBytes z claim) r in
       let n : numberAt 4 (drop 1 c) 0 ≡ claim = ap (λ (z : List ℕ). numberAt 4 (drop 1 z) 0) g ∙ number-of-bytes 4 claim [] l in
       let f : x ≡ record { programmes = ps; claim = claim } = e .1 ∙ ap (λ (z : ℕ). record { programmes = ps; claim = z }) n in (

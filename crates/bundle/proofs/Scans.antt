@@ -2,6 +2,8 @@
 use Prim.Native.Nat.{ℕ, _+_, _*_, _%_, _<_, _≤_}
 use mathlib.Core.Path.{_≡_, refl, sym, ap, subst, _∙_}
 use mathlib.Core.Bool.{Bool, true, false, false≢true}
+use mathlib.Core.Option.{none, some}
+use mathlib.Core.Logic.{⊎-elim}
 use mathlib.Core.List.{List, [], _∷_, _++_}
 use native.Mathlib.Omega.{arith}
 use borrow.Author.Tests.{lt-ltb, le-ltb}
@@ -16,19 +18,19 @@ use Rattle.numbers.specs.Number.{numberAt}
 use Rattle.numbers.proofs.Laws.{numberAt-drop}
 use Rattle.commands.specs.Commands.{Outcome, refuse, go, judge}
 use Rattle.commands.specs.Reading.{Going}
-use Rattle.commands.proofs.Going.{comes, starts, goes, refuses, ends}
+use Rattle.commands.proofs.Going.{comes, judge-end, starts, goes, refuses, ends}
 use Rattle.sheet.specs.Sheet.{Sheet}
 use Rattle.bundle.specs.Bundle.{Command, run, send, receive, Bundle, programmeCount}
-use Rattle.bundle.specs.Format.{Kind, opening, running, sending, receiving, claiming, width, within, after, closes, ended, bundleFormat, readBundle}
-use Rattle.bundle.specs.Counts.{Sized, countFormat, commandsIn, commandCount}
+use Rattle.bundle.specs.Format.{Kind, opening, running, sending, receiving, claiming, kindOf, width, within, after, closes, ended, bundleFormat, readBundle}
+use Rattle.bundle.specs.Counts.{Sized, faultBelow, limitOf, countFormat, commandsIn, commandCount}
 use Rattle.bundle.specs.Lies.{sizeOf, Stands, Laid}
-use Rattle.bundle.specs.Answers.{readingOf, closedOf}
+use Rattle.bundle.specs.Answers.{numbered, isMessage, readingOf, closedOf}
 use Rattle.bundle.specs.ReadIs.{ReadIs}
 use Rattle.bundle.specs.declared.reader.Reading.{Reading}
 use Rattle.bundle.specs.declared.reader.Reading.the-variants.{Read, Refused}
 use Rattle.bundle.proofs.Parts.{byteOf, kind-byte, open-facts, run-facts, send-facts, receive-facts, length-within, width-some}
 use Rattle.bundle.proofs.Rounds.{clear-of, ended-value}
-use Rattle.bundle.proofs.Faults.{judge-sized, sheetBy, sized-by}
+use Rattle.bundle.proofs.Faults.{judge-sized, sheetBy, sized-by, fault-receive, message-kind, strange-kind, verdict-clear, verdict-refused, judge-kind}
 use Rattle.bundle.proofs.Lying.{Laying, laying-command, laying-open, laying-claim, laying-none}
 
 pub commands-within : (ps : List (List Command)) (c : Command) → 0 < length ps → commandsIn (within ps c) ≡ commandsIn ps + 1
@@ -287,3 +289,47 @@ module _ {b : List ℕ} {p t l : ℕ} {v w : List ℕ} {n m at : ℕ} (g : Scan 
         rest = λ i h. getD-set-other w n i (at % 4294967296) 0 (λ q. omega (arith, g .few)) ∙ g .rest i h;
         fits = λ x y c e. closed-fits j x y c (sym q ∙ e);
       }
+
+-- the ways by what the code tests: a command of kind k with the number of its fault
+module _ {b : List ℕ} {p t l : ℕ} {v w : List ℕ} {n m at : ℕ} (g : Scan b p t l v w n m at) (more : at < length b) where
+  clear-judged : (k : Kind) (r : ℕ) → kindOf (getD b at 0) ≡ some k → numbered r ≡ faultBelow (limitOf p t l k) n k (drop (at + 1) b) → r ≡ 0 → judge (countFormat p t l) n (drop at b) ≡ go k
+  clear-judged k r e h z = judge-kind p t l n b at more (some k) e ∙ verdict-clear p t l k r _ h z
+
+  refused-judged : (k : Kind) (r : ℕ) → kindOf (getD b at 0) ≡ some k → numbered r ≡ faultBelow (limitOf p t l k) n k (drop (at + 1) b) → (r ≡ 0 → ⊥) → judge (countFormat p t l) n (drop at b) ≡ refuse r
+  refused-judged k r e h z = judge-kind p t l n b at more (some k) e ∙ verdict-refused p t l k r _ h z
+
+  fault-refused : (k : Kind) (r : ℕ) → kindOf (getD b at 0) ≡ some k → numbered r ≡ faultBelow (limitOf p t l k) n k (drop (at + 1) b) → (r ≡ 0 → ⊥) → ReadIs b p t l v w (Refused r at)
+  fault-refused k r e h z = scan-refused g r (refused-judged k r e h z)
+
+  pub byte-refused : (k : Kind) (c r : ℕ) → getD b at 0 ≡ c → kindOf c ≡ some k → numbered r ≡ faultBelow (limitOf p t l k) n k (drop (at + 1) b) → (r ≡ 0 → ⊥) → ReadIs b p t l v w (Refused r at)
+  byte-refused k c r e f h z = fault-refused k r (ap kindOf e ∙ f) h z
+
+  pub message-refused : (r : ℕ) → isMessage (getD b at 0) ≡ true → numbered r ≡ faultBelow l n sending (drop (at + 1) b) → (r ≡ 0 → ⊥) → ReadIs b p t l v w (Refused r at)
+  message-refused r e h z =
+      ⊎-elim (λ q. fault-refused sending r q h z) (λ q. fault-refused receiving r q (h ∙ fault-receive l n b at) z) (message-kind (getD b at 0) e)
+
+  pub message-on : (r : ℕ) → isMessage (getD b at 0) ≡ true → numbered r ≡ faultBelow l n sending (drop (at + 1) b) → r ≡ 0 → Scan b p t l v w n (m + 1) (at + 3)
+  message-on r e h z =
+      ⊎-elim (λ q. scan-step g sending refl (clear-judged sending r q h z))
+      (λ q. scan-step g receiving refl (clear-judged receiving r q (h ∙ fault-receive l n b at) z)) (message-kind (getD b at 0) e)
+
+  pub run-on : (r : ℕ) → getD b at 0 ≡ 0x52 → numbered r ≡ faultBelow t n running (drop (at + 1) b) → r ≡ 0 → Scan b p t l v w n (m + 1) (at + 2)
+  run-on r e h z = scan-step g running refl (clear-judged running r (ap kindOf e) h z)
+
+  pub open-room : (r : ℕ) → getD b at 0 ≡ 0x50 → numbered r ≡ faultBelow p n opening (drop (at + 1) b) → r ≡ 0 → (at + 2 ≤ length b) × (n < p)
+  open-room r e h z = scan-open-room g (clear-judged opening r (ap kindOf e) h z)
+
+  pub open-on : p < length v → (r : ℕ) → getD b at 0 ≡ 0x50 → numbered r ≡ faultBelow p n opening (drop (at + 1) b) → r ≡ 0 → Scan b p t l v (set w n (at % 4294967296)) (n + 1) m (at + 2)
+  open-on wide r e h z = scan-open g wide (clear-judged opening r (ap kindOf e) h z)
+
+  pub claim-room : (r : ℕ) → getD b at 0 ≡ 0x5A → numbered r ≡ faultBelow 0 n claiming (drop (at + 1) b) → r ≡ 0 → at + 5 ≤ length b
+  claim-room r e h z = scan-room g (clear-judged claiming r (ap kindOf e) h z)
+
+  pub claim-on : p < length v → (r : ℕ) → getD b at 0 ≡ 0x5A → numbered r ≡ faultBelow 0 n claiming (drop (at + 1) b) → r ≡ 0 → (f : Reading) → f ≡ closedOf b at n m → ReadIs b p t l v (set w n (at % 4294967296)) f
+  claim-on wide r e h z f q = scan-claim g wide (clear-judged claiming r (ap kindOf e) h z) f q
+
+  pub strange-refused : isMessage (getD b at 0) ≡ false → (getD b at 0 ≡ 0x52 → ⊥) → (getD b at 0 ≡ 0x50 → ⊥) → (getD b at 0 ≡ 0x5A → ⊥) → ReadIs b p t l v w (Refused 22 at)
+  strange-refused e f h k = scan-refused g 22 (judge-kind p t l n b at more none (strange-kind (getD b at 0) e f h k))
+
+pub cut-refused : {b : List ℕ} {p t l : ℕ} {v w : List ℕ} {n m at : ℕ} → Scan b p t l v w n m at → length b ≤ at → ReadIs b p t l v w (Refused 21 at)
+cut-refused {b} {p} {t} {l} {v} {w} {n} {m} {at} g h = scan-refused g 21 (judge-end (countFormat p t l) n b at (omega arith))

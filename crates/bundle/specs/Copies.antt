@@ -13,7 +13,8 @@ use Rattle.bundle.specs.Format.{readBundle}
 use Rattle.bundle.specs.Writing.{bundleValues}
 use Rattle.bundle.specs.Counts.{Sized}
 use Rattle.bundle.specs.Whole.{readValues}
-use Rattle.bundle.specs.Writes.{Small, isMessage}
+use Rattle.bundle.specs.Answers.{isMessage}
+use Rattle.bundle.specs.Writes.{Small}
 use Rattle.bundle.specs.declared.values.Copied.{Copied}
 use Rattle.bundle.specs.declared.values.Copied.the-variants.{Values, Refused}
 

@@ -1,23 +1,21 @@
 -- What writing a bundle from its values promises, and what its parts give.
 use Prim.Native.Nat.{ℕ, _+_, _%_, _≤_, _<_}
 use mathlib.Core.Path.{_≡_}
-use mathlib.Core.Bool.{Bool, not}
+use mathlib.Core.Bool.{not}
 use mathlib.Core.Option.{Option, none, some}
-use mathlib.Core.List.{List, [], _∷_, _++_}
+use mathlib.Core.List.{List, [], _∷_}
 use lib.ListN.{length}
 use lib.Dec.{eqb, leb}
 use Rattle.folds.specs.Folds.{pick, both, either}
 use Rattle.folds.specs.Answers.{Answer, value, refused, written}
 use Rattle.numbers.specs.Number.{numberBytes, stored}
-use Rattle.commands.specs.Commands.{judge}
 use Rattle.sheet.specs.Sheet.{Sheet, taskCount, linkCount}
 use Rattle.bundle.specs.Bundle.{Bundle}
 use Rattle.bundle.specs.Format.{Kind, kindOf, inside, readBundle}
-use Rattle.bundle.specs.Writing.{operandBytes, valueBytes}
-use Rattle.bundle.specs.Counts.{Sized, countFormat}
+use Rattle.bundle.specs.Writing.{valueBytes}
+use Rattle.bundle.specs.Counts.{Sized}
 use Rattle.bundle.specs.Whole.{writeValues}
-use Rattle.bundle.specs.Answers.{outcomeOf}
-use Rattle.bundle.specs.declared.kinds.Next.{Next}
+use Rattle.bundle.specs.Answers.{isMessage}
 use Rattle.bundle.specs.declared.writer.Judged.{Judged}
 use Rattle.bundle.specs.declared.writer.Judged.the-variants.{Long, Refused}
 
@@ -40,10 +38,6 @@ pub record WriteIs (vs : List ℕ) (claim p t l : ℕ) (old last : List ℕ) (r 
   pub answer : (s : Sheet) → Sized s p t l → r ≡ writtenOf (writeValues s vs claim (length old))
   pub left : (s : Sheet) → Sized s p t l → last ≡ written old (writeValues s vs claim (length old))
 
--- a command given by its two values, where n programmes are open; whatever follows it
-abbrev pub NextIs : ℕ → ℕ → ℕ → ℕ → ℕ → ℕ → Next → Type 0
-NextIs p t l n c x r = (b : List ℕ) → outcomeOf r ≡ judge (countFormat p t l) n (c ∷ (operandBytes (kindOf c) x ++ b))
-
 -- a run, send or receive: 23 before the first 50, 25 for a number that is not below m
 abbrev pub knownFault : ℕ → ℕ → ℕ → Option ℕ
 knownFault m n x = pick (eqb n 0) (some 23) (pick (leb m x) (some 25) none)
@@ -51,10 +45,6 @@ knownFault m n x = pick (eqb n 0) (some 23) (pick (leb m x) (some 25) none)
 -- a 50: 23 for a number that is not n, or not below m
 abbrev pub openFault : ℕ → ℕ → ℕ → Option ℕ
 openFault m n x = pick (either (not (eqb x n)) (leb m x)) (some 23) none
-
--- a 5A: 23 before the first 50
-abbrev pub claimFault : ℕ → Option ℕ
-claimFault n = pick (eqb n 0) (some 23) none
 
 -- the number that refuses a command byte at the end of the bytes
 abbrev pub cutKind : ℕ → Option Kind → ℕ
@@ -83,10 +73,6 @@ pub record Writable (vs : List ℕ) (claim : ℕ) (old : List ℕ) : Type 0 wher
   pub bundle : Bundle
   pub reads : readBundle sheet (valueBytes vs claim) ≡ value bundle
   pub room : length (valueBytes vs claim) ≤ length old
-
--- the commands of two operand bytes
-unfoldable pub isMessage : ℕ → Bool
-isMessage c = either (eqb c 0x53) (eqb c 0x56)
 
 -- the bytes that are put for a command
 unfoldable pub putBytes : ℕ → ℕ → List ℕ

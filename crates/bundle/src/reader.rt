@@ -2,13 +2,11 @@
 ghost use mathlib.Core.Path.{_≡_};
 ghost use Prim.Native.Nat.{_+_, _≤_, _<_};
 ghost use lib.ListN.{length, drop};
-ghost use Rattle.commands.specs.Commands.{judge};
 ghost use Rattle.bundle.specs.Format.{opening, running, sending, claiming};
-ghost use Rattle.bundle.specs.Counts.{faultBelow, countFormat};
-ghost use Rattle.bundle.specs.Answers.{outcomeOf, numbered, closedOf};
+ghost use Rattle.bundle.specs.Counts.{faultBelow};
+ghost use Rattle.bundle.specs.Answers.{numbered, closedOf};
 ghost use Rattle.bundle.specs.ReadIs.{ReadIs};
-use crate::kinds::Next;
-use crate::kinds::unless;
+use crate::kinds::is_message;
 
 // How many programmes a bundle has, how many commands stand in them and the time that it claims; or a refusal's number and place.
 pub enum Reading {
@@ -82,40 +80,6 @@ fn claim_at(bytes: &[u8], at: usize, opened: usize) -> u8
     0
 }
 
-// The command at `at`, where so many programmes are open.
-fn next_at(
-    bytes: &[u8],
-    at: usize,
-    opened: usize,
-    processors: usize,
-    tasks: usize,
-    links: usize,
-) -> Next
-    requires { ⌜ at ≤ length (now bytes) ⌝ }
-    ensures { λ r. ⌜ outcomeOf r ≡ judge (countFormat processors tasks links) opened (drop at (now (bytes .entry))) ⌝ }
-{
-    if bytes.len() <= at {
-        return Next::No(21);
-    }
-    let c = bytes[at];
-    if c == 0x52 {
-        return unless(run_at(bytes, at, opened, tasks), Next::Run);
-    }
-    if c == 0x53 {
-        return unless(message_at(bytes, at, opened, links), Next::Send);
-    }
-    if c == 0x56 {
-        return unless(message_at(bytes, at, opened, links), Next::Receive);
-    }
-    if c == 0x50 {
-        return unless(open_at(bytes, at, opened, processors), Next::Open);
-    }
-    if c == 0x5A {
-        return unless(claim_at(bytes, at, opened), Next::Claim);
-    }
-    Next::No(22)
-}
-
 // What the claim at `at` closes.
 fn closing(bytes: &[u8], at: usize, opened: usize, commands: usize) -> Reading
     requires { ⌜ at + 5 ≤ length (now bytes) ⌝ }
@@ -143,32 +107,45 @@ pub fn read(
     let mut at = 0;
     let mut opened = 0;
     let mut commands = 0;
-    loop {
-        match next_at(bytes, at, opened, processors, tasks, links) {
-            Next::Open => {
-                words[opened] = (at % 4294967296) as u32;
-                opened += 1;
-                at += 2;
-            }
-            Next::Run => {
-                commands += 1;
-                at += 2;
-            }
-            Next::Send => {
-                commands += 1;
-                at += 3;
-            }
-            Next::Receive => {
-                commands += 1;
-                at += 3;
-            }
-            Next::Claim => {
-                words[opened] = (at % 4294967296) as u32;
-                return closing(bytes, at, opened, commands);
-            }
-            Next::No(r) => {
+    while at < bytes.len() {
+        let c = bytes[at] as u16;
+        if is_message(c) {
+            let r = message_at(bytes, at, opened, links);
+            if r != 0 {
                 return Reading::Refused(r, at);
             }
+            commands += 1;
+            at += 3;
+            continue;
         }
+        if c == 0x52 {
+            let r = run_at(bytes, at, opened, tasks);
+            if r != 0 {
+                return Reading::Refused(r, at);
+            }
+            commands += 1;
+            at += 2;
+            continue;
+        }
+        if c == 0x50 {
+            let r = open_at(bytes, at, opened, processors);
+            if r != 0 {
+                return Reading::Refused(r, at);
+            }
+            words[opened] = (at % 4294967296) as u32;
+            opened += 1;
+            at += 2;
+            continue;
+        }
+        if c == 0x5A {
+            let r = claim_at(bytes, at, opened);
+            if r != 0 {
+                return Reading::Refused(r, at);
+            }
+            words[opened] = (at % 4294967296) as u32;
+            return closing(bytes, at, opened, commands);
+        }
+        return Reading::Refused(22, at);
     }
+    Reading::Refused(21, at)
 }

@@ -14,15 +14,16 @@ pub enum Copied {
     Refused(u8, usize),
 }
 
-// The operand of the command at `at`.
+// The operand of the command at `at`. Two bytes are there in any case, of which a task has the first.
 fn operand_at(bytes: &[u8], at: usize) -> u16
     requires { ⌜ at + 3 ≤ length (now bytes) ⌝ }
     ensures { λ r. ⌜ r ≡ operandIn (now (bytes .entry)) at ⌝ }
 {
+    let pair = numbers::get16(bytes, at + 1);
     if is_message(bytes[at] as u16) {
-        return numbers::get16(bytes, at + 1);
+        return pair;
     }
-    bytes[at + 1] as u16
+    pair % 256
 }
 
 // How many bytes a command has.

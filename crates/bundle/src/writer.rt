@@ -7,10 +7,8 @@ ghost use lib.Dec.{eqb};
 ghost use Rattle.folds.specs.Folds.{pick};
 ghost use Rattle.bundle.specs.Writing.{valueBytes};
 ghost use Rattle.bundle.specs.Answers.{numbered};
-ghost use Rattle.bundle.specs.Writes.{Counted, WriteIs, RefusalIs, NextIs, knownFault, openFault, claimFault, cutNumber, Writable, PutIs};
-use crate::kinds::Next;
+ghost use Rattle.bundle.specs.Writes.{Counted, WriteIs, RefusalIs, knownFault, openFault, cutNumber, Writable, PutIs};
 use crate::kinds::is_message;
-use crate::kinds::unless;
 
 // How many bytes a bundle has that is given by its values, or a refusal's number and place.
 pub enum Judged {
@@ -44,45 +42,6 @@ fn open_fault(operand: u16, opened: usize, processors: usize) -> u8
     0
 }
 
-// A claim among the commands.
-fn claim_fault(opened: usize) -> u8
-    ensures { λ r. ⌜ numbered r ≡ claimFault opened ⌝ }
-{
-    if opened == 0 {
-        return 23;
-    }
-    0
-}
-
-// The command of these two values, where so many programmes are open.
-fn next_value(
-    command: u16,
-    operand: u16,
-    opened: usize,
-    processors: usize,
-    tasks: usize,
-    links: usize,
-) -> Next
-    ensures { λ r. ⌜ NextIs processors tasks links opened command operand r ⌝ }
-{
-    if command == 0x52 {
-        return unless(known_fault(operand, opened, tasks), Next::Run);
-    }
-    if command == 0x53 {
-        return unless(known_fault(operand, opened, links), Next::Send);
-    }
-    if command == 0x56 {
-        return unless(known_fault(operand, opened, links), Next::Receive);
-    }
-    if command == 0x50 {
-        return unless(open_fault(operand, opened, processors), Next::Open);
-    }
-    if command == 0x5A {
-        return unless(claim_fault(opened), Next::Claim);
-    }
-    Next::No(22)
-}
-
 // The number that refuses a command of a programme whose operand is missing.
 fn cut_inside(opened: usize) -> u8
     ensures { λ r. ⌜ r ≡ pick (eqb opened 0) 23 21 ⌝ }
@@ -97,17 +56,14 @@ fn cut_inside(opened: usize) -> u8
 fn cut_number(command: u16, opened: usize) -> u8
     ensures { λ r. ⌜ r ≡ cutNumber opened command ⌝ }
 {
-    if command == 0x50 {
-        return 21;
+    if is_message(command) {
+        return cut_inside(opened);
     }
     if command == 0x52 {
         return cut_inside(opened);
     }
-    if command == 0x53 {
-        return cut_inside(opened);
-    }
-    if command == 0x56 {
-        return cut_inside(opened);
+    if command == 0x50 {
+        return 21;
     }
     if command == 0x5A {
         return cut_inside(opened);
@@ -123,38 +79,43 @@ pub fn refusal(commands: &[u16], processors: usize, tasks: usize, links: usize) 
     let mut opened: usize = 0;
     let mut i = 0;
     while i + 1 < commands.len() {
-        match next_value(
-            commands[i],
-            commands[i + 1],
-            opened,
-            processors,
-            tasks,
-            links,
-        ) {
-            Next::Open => {
-                opened += 1;
-                at += 2;
-                i += 2;
-            }
-            Next::Run => {
-                at += 2;
-                i += 2;
-            }
-            Next::Send => {
-                at += 3;
-                i += 2;
-            }
-            Next::Receive => {
-                at += 3;
-                i += 2;
-            }
-            Next::Claim => {
-                return Judged::Refused(24, at + 5);
-            }
-            Next::No(r) => {
+        let c = commands[i];
+        let x = commands[i + 1];
+        if is_message(c) {
+            let r = known_fault(x, opened, links);
+            if r != 0 {
                 return Judged::Refused(r, at);
             }
+            at += 3;
+            i += 2;
+            continue;
         }
+        if c == 0x52 {
+            let r = known_fault(x, opened, tasks);
+            if r != 0 {
+                return Judged::Refused(r, at);
+            }
+            at += 2;
+            i += 2;
+            continue;
+        }
+        if c == 0x50 {
+            let r = open_fault(x, opened, processors);
+            if r != 0 {
+                return Judged::Refused(r, at);
+            }
+            opened += 1;
+            at += 2;
+            i += 2;
+            continue;
+        }
+        if c == 0x5A {
+            if opened == 0 {
+                return Judged::Refused(23, at);
+            }
+            return Judged::Refused(24, at + 5);
+        }
+        return Judged::Refused(22, at);
     }
     if i < commands.len() {
         return Judged::Refused(cut_number(commands[i], opened), at);

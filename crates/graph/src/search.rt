@@ -81,8 +81,8 @@ fn look_all(w: &mut [u32], goal: usize) -> bool
             Spread::Back => {
                 return true;
             }
-            Spread::On(q) => {
-                k = q;
+            Spread::On(found) => {
+                k = found;
                 i += 1;
             }
         }

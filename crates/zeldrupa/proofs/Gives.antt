@@ -9,7 +9,7 @@ use Rattle.folds.specs.Answers.{Answer, value, refused, longEnough, number, pla
 use Rattle.workspace.specs.Area.{fixed}
 use Rattle.sheet.specs.Sheet.{Sheet}
 use Rattle.bundle.specs.Bundle.{Bundle}
-use Rattle.zeldrupa.specs.Promises.{Gives, GivesSheet, GivesBundle, taskTable, linkTable, boardTable, commandTable, claimAfter, no-place, valueCount}
+use Rattle.zeldrupa.specs.Promises.{Gives, GivesSheet, GivesBundle, taskTable, linkTable, boardAfter, commandTable, claimAfter, no-place, valueCount}
 use Rattle.zeldrupa.specs.Parts.{outcomeOf, numberOf, placeOf, PartIs, SheetIs, BundleIs}
 use Rattle.zeldrupa.specs.declared.ending.Outcome.{Outcome}
 
@@ -72,7 +72,7 @@ module _ (a : Answer Sheet) (work t l b : List ℕ) where
         place = sym (ap (placeOr no-place) e);
         tasks = kept t 13 fixed ∙ sym (ap (λ (x : Answer Sheet). written t (taskTable x)) e);
         links = kept l 13 fixed ∙ sym (ap (λ (x : Answer Sheet). written l (linkTable x)) e);
-        board = kept b 13 fixed ∙ sym (ap (λ (x : Answer Sheet). written b (boardTable x)) e);
+        board = sym (ap (boardAfter b) e);
         area = untouched work h;
       }
 
@@ -85,7 +85,7 @@ module _ (a : Answer Sheet) (work t l b : List ℕ) where
         place = c .1 ∙ ap placeOf (part .answer) ∙ place-of no-place a ∙ ap (placeOr no-place) e;
         tasks = part .tasks ∙ ap (λ (x : Answer Sheet). written t (taskTable x)) e;
         links = part .links ∙ ap (λ (x : Answer Sheet). written l (linkTable x)) e;
-        board = part .board ∙ ap (λ (x : Answer Sheet). written b (boardTable x)) e;
+        board = part .board ∙ ap (boardAfter b) e;
         area = z ∙ all-zero work mid h (part .long);
       }
 

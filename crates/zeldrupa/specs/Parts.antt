@@ -6,7 +6,7 @@ use lib.ListN.{length}
 use Rattle.folds.specs.Answers.{Answer, value, refused, written}
 use Rattle.sheet.specs.Sheet.{Sheet}
 use Rattle.bundle.specs.Bundle.{Bundle}
-use Rattle.zeldrupa.specs.Promises.{taskTable, linkTable, boardTable, no-place, valueCount, commandTable, claimAfter}
+use Rattle.zeldrupa.specs.Promises.{taskTable, linkTable, boardAfter, no-place, valueCount, commandTable, claimAfter}
 use Rattle.zeldrupa.specs.declared.ending.Outcome.{Outcome}
 use Rattle.zeldrupa.specs.declared.ending.Outcome.the-variants.{Done, Refused}
 
@@ -34,7 +34,7 @@ pub record SheetIs (a : Answer Sheet) (work work′ t t′ l l′ b b′ : List 
   pub answer : o ≡ outcomeOf no-place a
   pub tasks : t′ ≡ written t (taskTable a)
   pub links : l′ ≡ written l (linkTable a)
-  pub board : b′ ≡ written b (boardTable a)
+  pub board : b′ ≡ boardAfter b a
   pub long : length work′ ≡ length work
 
 -- a bundle's values

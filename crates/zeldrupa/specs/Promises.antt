@@ -61,15 +61,16 @@ taskTable a = andThen a (λ s. value (taskValues (s .tasks)))
 abbrev pub linkTable : Answer Sheet → Answer (List ℕ)
 linkTable a = andThen a (λ s. value (linkValues (s .links)))
 
-abbrev pub boardTable : Answer Sheet → Answer (List ℕ)
-boardTable a = andThen a (λ s. value (boardOf s))
+abbrev pub boardAfter : List ℕ → Answer Sheet → List ℕ
+boardAfter old (value s) = boardOf s
+boardAfter old (refused n at) = old
 
 pub record GivesSheet (a : Answer Sheet) (work work′ t t′ l l′ b b′ : List ℕ) (p r : ℕ) : Type 0 where
   pub returns : r ≡ number a
   pub place : p ≡ placeOr no-place a
   pub tasks : t′ ≡ written t (taskTable a)
   pub links : l′ ≡ written l (linkTable a)
-  pub board : b′ ≡ written b (boardTable a)
+  pub board : b′ ≡ boardAfter b a
   pub area : work′ ≡ cleared fixed work
 
 -- zeldrupa_read_bundle: the commands as values, 50 among them, and the claim

@@ -36,7 +36,7 @@ loop-less : tie.Need-loop-less Inv-loop μ-loop
 loop-less c = omega (arith, look-index (c .before .before .before .before .before .before .before .before .loop .inv .1) (c .before .before .before .before .before .before .before .loop-test .taken))
 
 loop-again : tie.Need-loop-again Inv-loop μ-loop
-loop-again c = let v = c .before .before .before .before .before .before .before .before .loop .inv in (beside-trans (v .0) (c .before .before .before .before .before .look .ensures .0), look-on (c .before .before .before .before .before .before .before .before .before .before .pre .0) (v .0) (c .before .q .given .1) (c .before .before .before .before .before .look .ensures .1))
+loop-again c = let v = c .before .before .before .before .before .before .before .before .loop .inv in (beside-trans (v .0) (c .before .before .before .before .before .look .ensures .0), look-on (c .before .before .before .before .before .before .before .before .before .before .pre .0) (v .0) (c .before .found .given .1) (c .before .before .before .before .before .look .ensures .1))
 
 same-length-2 : tie.Need-same-length-2 Inv-loop μ-loop
 same-length-2 c = c .before .loop .inv .0 .kept .long

@@ -1,0 +1,17 @@
+//! Writes the trial sheets and bundles to the examples folder of the repository, or to the folder given.
+
+use std::path::PathBuf;
+use std::{env, fs, io};
+
+fn main() -> io::Result<()> {
+    let folder = match env::args_os().nth(1) {
+        Some(folder) => PathBuf::from(folder),
+        None => PathBuf::from(env!("CARGO_MANIFEST_DIR")).join("../../examples"),
+    };
+    fs::create_dir_all(&folder)?;
+    for (name, bytes) in reference::trials::files() {
+        fs::write(folder.join(name), &bytes)?;
+        println!("{name}: {} bytes", bytes.len());
+    }
+    Ok(())
+}

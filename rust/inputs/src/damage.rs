@@ -1,0 +1,106 @@
+//! Damage to bytes and to value lists: set, inserted, removed, swapped, doubled, cut and lengthened.
+
+use crate::random::Random;
+
+/// The command bytes of sheets and bundles, which make the more interesting damage.
+const COMMANDS: [u8; 9] = [0x4D, 0x54, 0x45, 0x51, 0x50, 0x52, 0x53, 0x56, 0x5A];
+
+/// The length of a sheet's command, 1 for a strange byte.
+pub fn sheet_command(byte: u8) -> usize {
+    match byte {
+        0x4D => 6,
+        0x54 => 5,
+        0x45 => 7,
+        _ => 1,
+    }
+}
+
+/// The length of a bundle's command, 1 for a strange byte.
+pub fn bundle_command(byte: u8) -> usize {
+    match byte {
+        0x50 | 0x52 => 2,
+        0x53 | 0x56 => 3,
+        0x5A => 5,
+        _ => 1,
+    }
+}
+
+/// Damages bytes once; `length` tells how long each command is.
+pub fn bytes(random: &mut Random, bytes: &mut Vec<u8>, length: fn(u8) -> usize) {
+    let at = random.below(bytes.len() + 1);
+    let byte = match random.below(4) {
+        0 => random.pick(&COMMANDS),
+        1 => random.pick(&[0, 1, 0xFF]),
+        _ => random.bits() as u8,
+    };
+    match random.below(10) {
+        0 if at < bytes.len() => bytes[at] = byte,
+        1 if at < bytes.len() => bytes[at] ^= 1 << random.below(8),
+        2 => bytes.insert(at, byte),
+        3 if at < bytes.len() => {
+            bytes.remove(at);
+        }
+        4 => bytes.truncate(at),
+        5 => bytes.push(byte),
+        kind => {
+            let mut commands = split(bytes, length);
+            damage_records(random, &mut commands, kind);
+            *bytes = commands.concat();
+        }
+    }
+}
+
+/// Damages a list of values once; `record` is how many values make a record.
+pub fn values(random: &mut Random, values: &mut Vec<u16>, record: usize) {
+    let at = random.below(values.len() + 1);
+    let value = match random.below(4) {
+        0 => random.pick(&COMMANDS).into(),
+        1 => random.pick(&[0, 1, 15, 16, 255, 256, 257, 0x150, 0x152, 1023, 1024, 65_535]),
+        2 => random.below(300) as u16,
+        _ => random.bits() as u16,
+    };
+    match random.below(10) {
+        0..=2 if at < values.len() => values[at] = value,
+        3 => values.insert(at, value),
+        4 if at < values.len() => {
+            values.remove(at);
+        }
+        5 => values.truncate(at),
+        kind => {
+            let mut records: Vec<Vec<u16>> = values.chunks(record).map(<[u16]>::to_vec).collect();
+            damage_records(random, &mut records, kind);
+            *values = records.concat();
+        }
+    }
+}
+
+/// Swaps, doubles, moves or removes a record.
+fn damage_records<T: Clone>(random: &mut Random, records: &mut Vec<Vec<T>>, kind: usize) {
+    if records.is_empty() {
+        return;
+    }
+    let (one, other) = (random.below(records.len()), random.below(records.len()));
+    match kind {
+        6 => records.swap(one, other),
+        7 => records.insert(other, records[one].clone()),
+        8 => {
+            let moved = records.remove(one);
+            records.insert(other.min(records.len()), moved);
+        }
+        _ => {
+            records.remove(one);
+        }
+    }
+}
+
+/// The commands of some bytes, the last perhaps cut.
+fn split(bytes: &[u8], length: fn(u8) -> usize) -> Vec<Vec<u8>> {
+    let mut commands = Vec::new();
+    let mut rest = bytes;
+    while let Some(&byte) = rest.first() {
+        let (command, behind) = rest.split_at(length(byte).min(rest.len()));
+        commands.push(command.to_vec());
+        rest = behind;
+    }
+    commands
+}

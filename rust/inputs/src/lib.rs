@@ -1,0 +1,8 @@
+//! Made-up sheets and bundles, right and damaged, always the same ones for the same seed.
+
+pub mod bundles;
+pub mod damage;
+pub mod random;
+pub mod sheets;
+
+pub use random::Random;

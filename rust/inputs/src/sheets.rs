@@ -1,0 +1,248 @@
+//! Made-up task sheets: graphs of many shapes, weights of many sizes, and circles.
+
+use crate::random::Random;
+use std::collections::HashSet;
+
+/// The most tasks of a sheet.
+pub const MOST_TASKS: usize = 256;
+/// The most links of a sheet.
+pub const MOST_LINKS: usize = 1024;
+
+/// The values of a sheet: two for a task (work, store), four for a link (source, target, cost, bytes).
+#[derive(Clone, Debug, Default)]
+pub struct Sheet {
+    pub processors: u8,
+    pub limit: u32,
+    pub tasks: Vec<u16>,
+    pub links: Vec<u16>,
+}
+
+impl Sheet {
+    /// How many tasks there are.
+    pub fn task_count(&self) -> usize {
+        self.tasks.len() / 2
+    }
+
+    /// How many links there are.
+    pub fn link_count(&self) -> usize {
+        self.links.len() / 4
+    }
+
+    /// The values as bytes, right or not; of source and target only the low byte.
+    pub fn encode(&self) -> Vec<u8> {
+        let mut bytes = vec![0x4D, self.processors];
+        bytes.extend(self.limit.to_le_bytes());
+        for task in self.tasks.chunks_exact(2) {
+            bytes.push(0x54);
+            bytes.extend(task.iter().flat_map(|value| value.to_le_bytes()));
+        }
+        for link in self.links.chunks_exact(4) {
+            bytes.extend([0x45, link[0] as u8, link[1] as u8]);
+            bytes.extend(link[2..].iter().flat_map(|value| value.to_le_bytes()));
+        }
+        bytes.push(0x51);
+        bytes
+    }
+}
+
+/// The shape of a graph.
+#[derive(Clone, Copy, Debug, PartialEq, Eq)]
+pub enum Shape {
+    /// No links.
+    Loose,
+    /// One path through all tasks.
+    Chain,
+    /// One task before all others.
+    FanOut,
+    /// One task behind all others.
+    FanIn,
+    /// About as many links as tasks.
+    Sparse,
+    /// As many links as there may be.
+    Dense,
+    /// Links from each layer of tasks to the next.
+    Layers,
+}
+
+/// Every shape.
+pub const SHAPES: [Shape; 7] = [
+    Shape::Loose,
+    Shape::Chain,
+    Shape::FanOut,
+    Shape::FanIn,
+    Shape::Sparse,
+    Shape::Dense,
+    Shape::Layers,
+];
+
+/// A valid sheet of random size, shape and weights.
+pub fn valid(random: &mut Random) -> Sheet {
+    let tasks = match random.below(16) {
+        0 => 1,
+        1..=7 => random.within(2..=8),
+        8..=12 => random.within(9..=40),
+        13..=14 => random.within(41..=255),
+        _ => MOST_TASKS,
+    };
+    let shape = random.pick(&SHAPES);
+    with_shape(random, tasks, shape)
+}
+
+/// A valid sheet of at most eight tasks.
+pub fn small(random: &mut Random) -> Sheet {
+    let tasks = random.within(1..=8);
+    let shape = random.pick(&SHAPES);
+    with_shape(random, tasks, shape)
+}
+
+/// A valid sheet of 256 tasks and 1,024 links.
+pub fn largest(random: &mut Random) -> Sheet {
+    with_shape(random, MOST_TASKS, Shape::Dense)
+}
+
+/// A valid sheet of this many tasks and this shape.
+pub fn with_shape(random: &mut Random, tasks: usize, shape: Shape) -> Sheet {
+    let mut names: Vec<u16> = (0..tasks as u16).collect();
+    if !random.once_in(4) {
+        random.shuffle(&mut names);
+    }
+    let mut pairs: Vec<[u16; 2]> = pairs(random, tasks, shape)
+        .into_iter()
+        .map(|[from, to]| [names[from], names[to]])
+        .collect();
+    if random.once_in(2) {
+        random.shuffle(&mut pairs);
+    }
+    dress(random, tasks, &pairs)
+}
+
+/// A sheet with a circle of `size` tasks, perhaps with tasks before, behind and between two circles.
+pub fn circle(random: &mut Random, size: usize) -> Sheet {
+    let others = random.below((MOST_TASKS - size).min(12) + 1);
+    let tasks = size + others;
+    let mut names: Vec<u16> = (0..tasks as u16).collect();
+    random.shuffle(&mut names);
+    let mut pairs: HashSet<[usize; 2]> = (0..size).map(|i| [i, (i + 1) % size]).collect();
+    for other in size..tasks {
+        let inside = random.below(size);
+        let outside = random.within(size..=other);
+        match random.below(4) {
+            0 => pairs.insert([inside, other]),
+            1 => pairs.insert([other, inside]),
+            2 => pairs.insert([inside, outside]) && pairs.insert([outside, other]),
+            _ => pairs.insert([outside, other]) && pairs.insert([other, inside]),
+        };
+    }
+    let mut pairs: Vec<[u16; 2]> =
+        pairs.into_iter().map(|[from, to]| [names[from], names[to]]).collect();
+    pairs.sort_unstable();
+    random.shuffle(&mut pairs);
+    dress(random, tasks, &pairs)
+}
+
+/// Pairs of a lower and a higher number below `tasks`, each once.
+fn pairs(random: &mut Random, tasks: usize, shape: Shape) -> Vec<[usize; 2]> {
+    let most = MOST_LINKS.min(tasks * (tasks - 1) / 2);
+    match shape {
+        Shape::Loose => Vec::new(),
+        Shape::Chain => (1..tasks).map(|to| [to - 1, to]).collect(),
+        Shape::FanOut => (1..tasks).map(|to| [0, to]).collect(),
+        Shape::FanIn => (1..tasks).map(|from| [from - 1, tasks - 1]).collect(),
+        Shape::Sparse => {
+            let count = random.below(most.min(2 * tasks) + 1);
+            distinct(random, count, |random| [random.below(tasks), random.below(tasks)])
+        }
+        Shape::Dense => distinct(random, most, |random| [random.below(tasks), random.below(tasks)]),
+        Shape::Layers => {
+            let width = random.within(1..=tasks);
+            let count = random.below(most + 1).min(tasks * width / 2);
+            distinct(random, count, |random| {
+                let from = random.below(tasks);
+                let next = (from / width + 1) * width;
+                [from, (next + random.below(width)).min(tasks - 1)]
+            })
+        }
+    }
+}
+
+/// Up to `count` different pairs of a lower and a higher number from a source of pairs.
+fn distinct(
+    random: &mut Random,
+    count: usize,
+    draw: impl Fn(&mut Random) -> [usize; 2],
+) -> Vec<[usize; 2]> {
+    let mut seen = HashSet::new();
+    let mut pairs = Vec::with_capacity(count);
+    for _ in 0..40 * count {
+        if pairs.len() == count {
+            break;
+        }
+        let mut pair = draw(random);
+        pair.sort_unstable();
+        if pair[0] < pair[1] && seen.insert(pair) {
+            pairs.push(pair);
+        }
+    }
+    pairs
+}
+
+/// How large the weights of a sheet are.
+#[derive(Clone, Copy)]
+enum Weights {
+    Equal,
+    Small,
+    Middling,
+    Any,
+    Extreme,
+}
+
+impl Weights {
+    fn draw(self, random: &mut Random) -> u16 {
+        match self {
+            Weights::Equal => 1,
+            Weights::Small => random.below(10) as u16,
+            Weights::Middling => random.below(200) as u16,
+            Weights::Any => random.bits() as u16,
+            Weights::Extreme => random.pick(&[0, 1, 255, 256, 32_767, 32_768, 65_534, 65_535]),
+        }
+    }
+}
+
+/// Gives tasks and links their weights, and the board its processors and limit.
+fn dress(random: &mut Random, tasks: usize, pairs: &[[u16; 2]]) -> Sheet {
+    let kinds = [
+        Weights::Equal,
+        Weights::Small,
+        Weights::Small,
+        Weights::Middling,
+        Weights::Middling,
+        Weights::Any,
+        Weights::Extreme,
+    ];
+    let (work, cost) = (random.pick(&kinds), random.pick(&kinds));
+    let (store, bytes) = (random.pick(&kinds), random.pick(&kinds));
+    let tasks: Vec<u16> =
+        (0..tasks).flat_map(|_| [work.draw(random).max(1), store.draw(random)]).collect();
+    let links: Vec<u16> = pairs
+        .iter()
+        .flat_map(|&[from, to]| [from, to, cost.draw(random), bytes.draw(random)])
+        .collect();
+    let processors = match random.below(8) {
+        0 => 1,
+        1 => 16,
+        2..=4 => random.within(2..=4) as u8,
+        _ => random.within(1..=16) as u8,
+    };
+    let all: u64 = tasks.iter().skip(1).step_by(2).map(|&store| u64::from(store)).sum();
+    let share = (all / u64::from(processors)) as u32;
+    let limit = match random.below(8) {
+        0 => 0,
+        1 => u32::MAX,
+        2 => random.bits() as u32,
+        3 => share,
+        4 => share + share / 4,
+        5 => share.saturating_mul(2),
+        _ => share.saturating_mul(8).saturating_add(1000),
+    };
+    Sheet { processors, limit, tasks, links }
+}

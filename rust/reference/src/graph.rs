@@ -1,0 +1,120 @@
+//! The graph of a sheet: the links at each task, circles (10) and levels.
+
+use crate::refusal::{Refusal, LOOP};
+use crate::sheet::{Link, Sheet, MOST_TASKS};
+use std::{array, mem};
+
+/// The links into and out of each task, and the tasks in an order that follows the links.
+#[derive(Clone, Debug)]
+pub struct Graph {
+    incoming: Lists,
+    outgoing: Lists,
+    order: Vec<u8>,
+}
+
+impl Graph {
+    /// The graph of these links over this many tasks (10).
+    pub fn new(tasks: usize, links: &[Link]) -> Result<Graph, Refusal> {
+        let incoming = Lists::new(links, |link| link.target);
+        let outgoing = Lists::new(links, |link| link.source);
+
+        // Each task is taken once all its predecessors are; those that stay lie on a circle or behind one.
+        let mut missing: [u16; MOST_TASKS] = array::from_fn(|task| incoming.at(task).len() as u16);
+        let mut order = Vec::with_capacity(tasks);
+        order.extend((0..tasks).filter(|&task| missing[task] == 0).map(|task| task as u8));
+        let mut taken = 0;
+        while let Some(&task) = order.get(taken) {
+            taken += 1;
+            for &link in outgoing.at(task.into()) {
+                let target = links[usize::from(link)].target;
+                missing[usize::from(target)] -= 1;
+                if missing[usize::from(target)] == 0 {
+                    order.push(target);
+                }
+            }
+        }
+        if order.len() < tasks {
+            let lowest = (0..tasks)
+                .find(|&task| missing[task] > 0 && leads_back(task, &outgoing, links))
+                .expect("a task that was never taken has an untaken predecessor");
+            return Err(Refusal::new(LOOP, lowest));
+        }
+        Ok(Graph { incoming, outgoing, order })
+    }
+
+    /// The links into a task, in rising number.
+    pub fn incoming(&self, task: usize) -> &[u16] {
+        self.incoming.at(task)
+    }
+
+    /// The links out of a task, in rising number.
+    pub fn outgoing(&self, task: usize) -> &[u16] {
+        self.outgoing.at(task)
+    }
+}
+
+/// The b-level of each task: the greatest sum of work and costs from it to a task without successors.
+pub fn levels(sheet: &Sheet) -> Vec<u32> {
+    let mut levels = vec![0; sheet.tasks.len()];
+    for &task in sheet.graph.order.iter().rev() {
+        let task = usize::from(task);
+        let behind = sheet.graph.outgoing(task).iter().map(|&link| {
+            let link = &sheet.links[usize::from(link)];
+            u32::from(link.cost) + levels[usize::from(link.target)]
+        });
+        levels[task] = u32::from(sheet.tasks[task].work) + behind.max().unwrap_or(0);
+    }
+    levels
+}
+
+/// Whether a path of at least one link leads from the task back to it.
+fn leads_back(task: usize, outgoing: &Lists, links: &[Link]) -> bool {
+    let mut reached = [false; MOST_TASKS];
+    let mut fresh = vec![task];
+    while let Some(from) = fresh.pop() {
+        for &link in outgoing.at(from) {
+            let to = usize::from(links[usize::from(link)].target);
+            if !reached[to] {
+                reached[to] = true;
+                fresh.push(to);
+            }
+        }
+    }
+    reached[task]
+}
+
+/// A list of link numbers for each task, all in one table.
+#[derive(Clone, Debug)]
+struct Lists {
+    /// Where the list of each task starts, and where the last one ends.
+    starts: [u16; MOST_TASKS + 1],
+    links: Vec<u16>,
+}
+
+impl Lists {
+    /// The links by the task at one of their ends, each list in rising number.
+    fn new(links: &[Link], end: impl Fn(&Link) -> u8) -> Lists {
+        let mut nexts = [0u16; MOST_TASKS];
+        for link in links {
+            nexts[usize::from(end(link))] += 1;
+        }
+        let mut starts = [0; MOST_TASKS + 1];
+        let mut sum = 0;
+        for (start, next) in starts.iter_mut().zip(&mut nexts) {
+            *start = sum;
+            sum += mem::replace(next, sum);
+        }
+        starts[MOST_TASKS] = sum;
+        let mut table = vec![0; links.len()];
+        for (number, link) in (0u16..).zip(links) {
+            let next = &mut nexts[usize::from(end(link))];
+            table[usize::from(*next)] = number;
+            *next += 1;
+        }
+        Lists { starts, links: table }
+    }
+
+    fn at(&self, task: usize) -> &[u16] {
+        &self.links[self.starts[task].into()..self.starts[task + 1].into()]
+    }
+}

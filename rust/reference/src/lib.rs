@@ -1,0 +1,20 @@
+//! An independent rewrite of the planner's rules in plain Rust, which the proved product is held against.
+//!
+//! Each module has one part of the rules over typed values; [`interface`] has the same parts from
+//! bytes to lent buffers, as the product's C interface has them.
+
+pub mod bundle;
+pub mod checker;
+pub mod graph;
+pub mod interface;
+pub mod listing;
+pub mod machine;
+pub mod messages;
+pub mod planner;
+mod processor_set;
+pub mod refusal;
+pub mod sheet;
+mod task_set;
+pub mod trials;
+
+pub use refusal::Refusal;

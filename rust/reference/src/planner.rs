@@ -1,0 +1,350 @@
+//! The planner: places the tasks turn by turn, by the guard and the four steps (11), and writes the bundle.
+
+use crate::bundle::{write_claim, Command};
+use crate::graph;
+use crate::processor_set::ProcessorSet;
+use crate::refusal::{Refusal, NO_STORE};
+use crate::sheet::{Sheet, MOST_PROCESSORS, MOST_TASKS};
+use crate::task_set::TaskSet;
+use std::array;
+use std::cmp::Reverse;
+use std::collections::BinaryHeap;
+
+/// Where and when a task runs.
+#[derive(Clone, Copy, Debug, Default, PartialEq, Eq)]
+pub struct Placement {
+    pub processor: u8,
+    pub start: u32,
+    pub finish: u32,
+}
+
+/// A finished schedule.
+#[derive(Clone, Debug, PartialEq, Eq)]
+pub struct Plan {
+    /// The placement of each task.
+    pub placements: Vec<Placement>,
+    /// The tasks of each opened processor, in placing order.
+    pub programmes: Vec<Vec<u8>>,
+    /// The latest finish.
+    pub claim: u32,
+}
+
+/// Plans a sheet (11).
+pub fn plan(sheet: &Sheet) -> Result<Plan, Refusal> {
+    Board::new(sheet, true).place_all()
+}
+
+impl Plan {
+    /// The bundle of the plan.
+    pub fn to_bundle(&self, sheet: &Sheet) -> Vec<u8> {
+        let commands = sheet.tasks.len() + 2 * sheet.links.len();
+        let mut bundle = Vec::with_capacity(2 * self.programmes.len() + 3 * commands + 5);
+        for (number, programme) in (0..).zip(&self.programmes) {
+            Command::Open(number).write(&mut bundle);
+            for &task in programme {
+                self.write_task(sheet, task, &mut bundle);
+            }
+        }
+        write_claim(self.claim, &mut bundle);
+        bundle
+    }
+
+    /// The receives of a task's messages, its run, and the sends of its messages.
+    fn write_task(&self, sheet: &Sheet, task: u8, bundle: &mut Vec<u8>) {
+        let processor = |task: u8| self.placements[usize::from(task)].processor;
+        let here = processor(task);
+        for &link in sheet.graph.incoming(task.into()) {
+            if processor(sheet.links[usize::from(link)].source) != here {
+                Command::Receive(link).write(bundle);
+            }
+        }
+        Command::Run(task.into()).write(bundle);
+        for &link in sheet.graph.outgoing(task.into()) {
+            if processor(sheet.links[usize::from(link)].target) != here {
+                Command::Send(link).write(bundle);
+            }
+        }
+    }
+}
+
+/// A number for each processor.
+type Row = [u32; MOST_PROCESSORS];
+
+/// The schedule after some turns.
+struct Board<'a> {
+    sheet: &'a Sheet,
+    /// Whether the guard applies at all.
+    guarded: bool,
+    levels: Vec<u32>,
+    placements: Vec<Placement>,
+    /// The placed tasks in placing order.
+    placed: Vec<u8>,
+    unplaced: TaskSet,
+    inputs: Vec<Inputs>,
+    ready: BinaryHeap<u64>,
+    partly_ready: Queue,
+    /// How many processors are open; what follows is 0 for the others.
+    open: usize,
+    ends: Row,
+    /// The stores of each processor's tasks and the bytes of the messages to them.
+    stores: Row,
+    /// The successors of each processor's tasks.
+    successors: [TaskSet; MOST_PROCESSORS],
+}
+
+impl<'a> Board<'a> {
+    /// The board before the first turn.
+    fn new(sheet: &'a Sheet, guarded: bool) -> Self {
+        let tasks = sheet.tasks.len();
+        let levels = graph::levels(sheet);
+        let inputs: Vec<Inputs> = (0..tasks)
+            .map(|task| Inputs { missing: sheet.graph.incoming(task).len(), ..Inputs::default() })
+            .collect();
+        // Without predecessors the arrival is 0 and the priority is the level.
+        let ready = (0..tasks)
+            .filter(|&task| inputs[task].missing == 0)
+            .map(|task| key(levels[task], levels[task], task))
+            .collect();
+        Board {
+            sheet,
+            guarded,
+            levels,
+            placements: vec![Placement::default(); tasks],
+            placed: Vec::with_capacity(tasks),
+            unplaced: TaskSet::below(tasks),
+            inputs,
+            ready,
+            partly_ready: Queue::new(),
+            open: 0,
+            ends: [0; MOST_PROCESSORS],
+            stores: [0; MOST_PROCESSORS],
+            successors: [TaskSet::default(); MOST_PROCESSORS],
+        }
+    }
+
+    /// Places the first ready task until none is left.
+    fn place_all(mut self) -> Result<Plan, Refusal> {
+        while let Some(key) = self.ready.pop() {
+            let task = task_of(key);
+            let (starts, needs) = (self.starts(task), self.needs(task));
+            let k = self.choose(task, &starts, &needs).ok_or(Refusal::new(NO_STORE, task))?;
+            self.place(task, k, starts[k], needs[k]);
+        }
+        let mut programmes = vec![Vec::new(); self.open];
+        for &task in &self.placed {
+            let processor = self.placements[usize::from(task)].processor;
+            programmes[usize::from(processor)].push(task);
+        }
+        let claim = self.ends.into_iter().max().unwrap_or(0);
+        Ok(Plan { placements: self.placements, programmes, claim })
+    }
+
+    /// The processor for a ready task, by the four steps, from its start and the need of store on
+    /// each; the next number stands for a fresh one.
+    fn choose(&self, task: usize, starts: &Row, needs: &Row) -> Option<usize> {
+        let inputs = &self.inputs[task];
+        let arrival = inputs.arrival;
+        let fits = ProcessorSet::with(|k| needs[k] <= self.sheet.limit);
+        let open = fits & ProcessorSet::below(self.open);
+
+        let join = open & inputs.holders & ProcessorSet::with(|k| starts[k] < arrival);
+        if !join.is_empty() {
+            let barred = self.barred(task, starts);
+            let admissible = join.iter().filter(|&k| Some(k) != barred);
+            let join = admissible.min_by_key(|&k| starts[k]);
+            if join.is_some() {
+                return join;
+            }
+        }
+
+        let reached = &self.sheet.successors[task];
+        let ended = open & ProcessorSet::with(|k| self.ends[k] <= arrival);
+        let idle = ended.iter().filter(|&k| self.successors[k].within(&self.unplaced, reached));
+        let idle = idle.min_by_key(|&k| Reverse(self.ends[k]));
+        if idle.is_some() {
+            return idle;
+        }
+
+        if self.open < self.sheet.processors.into() && fits.holds(self.open) {
+            return Some(self.open);
+        }
+        open.iter().min_by_key(|&k| starts[k])
+    }
+
+    /// The processor, if any, that the guard bars for a task with these starts.
+    fn barred(&self, task: usize, starts: &Row) -> Option<usize> {
+        let next = self.partly_ready.first().filter(|_| self.guarded)?;
+        if self.priority(next) <= self.priority(task) {
+            return None;
+        }
+        // Elsewhere the next task waits for its latest message, so a start before its arrival can
+        // only be on that message's own processor; it is then the best, and only this raises it.
+        let inputs = &self.inputs[next];
+        let k = inputs.arrival_from;
+        let best = inputs.start(k, self.ends[k]);
+        let finish = starts[k] + u32::from(self.sheet.tasks[task].work);
+        (best < inputs.arrival && best < finish).then_some(k)
+    }
+
+    /// Puts a task on a processor and brings all that is kept up to date.
+    fn place(&mut self, task: usize, k: usize, start: u32, store: u32) {
+        let finish = start + u32::from(self.sheet.tasks[task].work);
+        self.placements[task] = Placement { processor: k as u8, start, finish };
+        self.placed.push(task as u8);
+        self.unplaced.remove(task);
+        self.open = self.open.max(k + 1);
+        self.ends[k] = finish;
+        self.stores[k] = store;
+        self.successors[k].join(&self.sheet.successors[task]);
+        for &link in self.sheet.graph.outgoing(task) {
+            let link = &self.sheet.links[usize::from(link)];
+            let target = usize::from(link.target);
+            self.inputs[target].add(k, finish, link.cost.into(), link.bytes.into());
+            self.queue(target);
+        }
+    }
+
+    /// Puts a task where it belongs after one more of its predecessors was placed.
+    fn queue(&mut self, task: usize) {
+        let key = key(self.priority(task), self.levels[task], task);
+        if self.inputs[task].missing > 0 {
+            self.partly_ready.set(task, key);
+        } else {
+            self.partly_ready.remove(task);
+            self.ready.push(key);
+        }
+    }
+
+    fn priority(&self, task: usize) -> u32 {
+        self.inputs[task].arrival + self.levels[task]
+    }
+
+    /// The start of a task on each processor.
+    fn starts(&self, task: usize) -> Row {
+        array::from_fn(|k| self.inputs[task].start(k, self.ends[k]))
+    }
+
+    /// The store that each processor needs with a ready task on it.
+    fn needs(&self, task: usize) -> Row {
+        let inputs = &self.inputs[task];
+        let alone = u32::from(self.sheet.tasks[task].store) + inputs.bytes;
+        array::from_fn(|k| self.stores[k] + alone - inputs.bytes_from[k])
+    }
+}
+
+/// What the placed predecessors of one task bring it, by the processor they are on.
+#[derive(Clone, Default)]
+struct Inputs {
+    /// How many predecessors are not placed.
+    missing: usize,
+    /// The processors that hold a placed one.
+    holders: ProcessorSet,
+    /// The latest finish on each processor.
+    finish_on: Row,
+    bytes_from: Row,
+    bytes: u32,
+    /// The latest message, its processor, and the latest message from any other.
+    arrival: u32,
+    arrival_from: usize,
+    other_arrival: u32,
+}
+
+impl Inputs {
+    /// Adds a predecessor that was placed on processor k.
+    fn add(&mut self, k: usize, finish: u32, cost: u32, bytes: u32) {
+        self.missing -= 1;
+        self.holders.insert(k);
+        self.finish_on[k] = self.finish_on[k].max(finish);
+        self.bytes_from[k] += bytes;
+        self.bytes += bytes;
+        let message = finish + cost;
+        if k != self.arrival_from {
+            self.other_arrival = self.other_arrival.max(message.min(self.arrival));
+        }
+        if message > self.arrival {
+            (self.arrival, self.arrival_from) = (message, k);
+        }
+    }
+
+    /// The start on processor k, by its end and the placed predecessors.
+    fn start(&self, k: usize, end: u32) -> u32 {
+        let message = if k == self.arrival_from { self.other_arrival } else { self.arrival };
+        end.max(self.finish_on[k]).max(message)
+    }
+}
+
+/// A task's rank as one number: its priority, then its level, then the lower task number.
+/// Priorities stay below 2^28 and levels below 2^26, since all works and costs are u16.
+fn key(priority: u32, level: u32, task: usize) -> u64 {
+    u64::from(priority) << 34 | u64::from(level) << 8 | (MOST_TASKS - 1 - task) as u64
+}
+
+/// The task of a key.
+fn task_of(key: u64) -> usize {
+    MOST_TASKS - 1 - (key & 0xFF) as usize
+}
+
+/// Tasks whose keys may rise, of which the one with the greatest key is known.
+struct Queue {
+    keys: Vec<u64>,
+    /// Where the key of each task stands, if it does.
+    slots: [Option<u8>; MOST_TASKS],
+    /// The greatest key, 0 without tasks.
+    greatest: u64,
+}
+
+impl Queue {
+    fn new() -> Self {
+        Queue { keys: Vec::with_capacity(MOST_TASKS), slots: [None; MOST_TASKS], greatest: 0 }
+    }
+
+    fn first(&self) -> Option<usize> {
+        (self.greatest > 0).then_some(task_of(self.greatest))
+    }
+
+    /// Puts a task in, or raises its key.
+    fn set(&mut self, task: usize, key: u64) {
+        match self.slots[task] {
+            Some(slot) => self.keys[usize::from(slot)] = key,
+            None => {
+                self.slots[task] = Some(self.keys.len() as u8);
+                self.keys.push(key);
+            }
+        }
+        self.greatest = self.greatest.max(key);
+    }
+
+    /// Takes a task out, if it is in.
+    fn remove(&mut self, task: usize) {
+        let Some(slot) = self.slots[task].take() else { return };
+        let key = self.keys.swap_remove(slot.into());
+        if let Some(&moved) = self.keys.get(usize::from(slot)) {
+            self.slots[task_of(moved)] = Some(slot);
+        }
+        if key == self.greatest {
+            self.greatest = self.keys.iter().copied().max().unwrap_or(0);
+        }
+    }
+}
+
+#[cfg(test)]
+mod tests {
+    use super::*;
+    use crate::trials;
+
+    /// K3: the guard gives claim 6, its absence 7.
+    #[test]
+    fn guard_is_needed_in_k3() {
+        let sheet = Sheet::read(&trials::k3_sheet()).unwrap();
+        assert_eq!(Board::new(&sheet, true).place_all().unwrap().claim, 6);
+        assert_eq!(Board::new(&sheet, false).place_all().unwrap().claim, 7);
+    }
+
+    #[test]
+    fn keys_rank_by_priority_then_level_then_number() {
+        assert!(key(8, 1, 255) > key(7, 9, 0));
+        assert!(key(7, 9, 255) > key(7, 8, 0));
+        assert!(key(7, 8, 3) > key(7, 8, 4));
+        assert_eq!(task_of(key(7, 8, 200)), 200);
+    }
+}

@@ -1,0 +1,253 @@
+//! A task sheet: its values, reading it from bytes (1 to 10), making it from values, and writing it.
+
+use crate::graph::Graph;
+use crate::refusal::*;
+use crate::task_set::TaskSet;
+
+/// The most processors of a board.
+pub const MOST_PROCESSORS: usize = 16;
+/// The most tasks of a sheet.
+pub const MOST_TASKS: usize = 256;
+/// The most links of a sheet.
+pub const MOST_LINKS: usize = 1024;
+
+const BOARD: u8 = 0x4D;
+const TASK: u8 = 0x54;
+const LINK: u8 = 0x45;
+const END: u8 = 0x51;
+
+/// The bytes of each command.
+const BOARD_LENGTH: usize = 6;
+const TASK_LENGTH: usize = 5;
+const LINK_LENGTH: usize = 7;
+const END_LENGTH: usize = 1;
+
+/// A task: how long it runs and the store it takes.
+#[derive(Clone, Copy, Debug, PartialEq, Eq)]
+pub struct Task {
+    pub work: u16,
+    pub store: u16,
+}
+
+/// A link: the target needs what the source makes, as a message if they run on two processors.
+#[derive(Clone, Copy, Debug, PartialEq, Eq)]
+pub struct Link {
+    pub source: u8,
+    pub target: u8,
+    pub cost: u16,
+    pub bytes: u16,
+}
+
+/// A valid sheet, in which 1 to 10 do not apply.
+#[derive(Clone, Debug)]
+pub struct Sheet {
+    pub processors: u8,
+    /// The store limit M of each processor.
+    pub limit: u32,
+    pub tasks: Vec<Task>,
+    pub links: Vec<Link>,
+    /// The tasks to which each task has a link.
+    pub(crate) successors: Vec<TaskSet>,
+    pub(crate) graph: Graph,
+}
+
+impl Sheet {
+    /// Reads a sheet from its bytes (1 to 10).
+    pub fn read(bytes: &[u8]) -> Result<Sheet, Refusal> {
+        let mut rest = bytes;
+        let draft = Draft::read(&mut rest);
+        let at = bytes.len() - rest.len();
+        let draft = draft.map_err(|number| Refusal::new(number, at))?;
+        if rest.len() > END_LENGTH {
+            return Err(Refusal::new(SHEET_TAIL, at + END_LENGTH));
+        }
+        draft.finish(at)
+    }
+
+    /// Makes a sheet of values: two for a task (work, store), four for a link (source, target,
+    /// cost, bytes). It refuses as [`Sheet::read`] refuses their bytes; a list that stops inside a
+    /// record is a cut command.
+    pub fn from_values(
+        processors: u8,
+        limit: u32,
+        tasks: &[u16],
+        links: &[u16],
+    ) -> Result<Sheet, Refusal> {
+        let mut at = 0;
+        let draft = Draft::take(processors, limit, tasks, links, &mut at);
+        draft.map_err(|number| Refusal::new(number, at))?.finish(at)
+    }
+
+    /// The sheet's bytes.
+    pub fn to_bytes(&self) -> Vec<u8> {
+        let mut bytes = Vec::with_capacity(
+            BOARD_LENGTH
+                + TASK_LENGTH * self.tasks.len()
+                + LINK_LENGTH * self.links.len()
+                + END_LENGTH,
+        );
+        bytes.extend([BOARD, self.processors]);
+        bytes.extend(self.limit.to_le_bytes());
+        for task in &self.tasks {
+            let ([w0, w1], [s0, s1]) = (task.work.to_le_bytes(), task.store.to_le_bytes());
+            bytes.extend([TASK, w0, w1, s0, s1]);
+        }
+        for link in &self.links {
+            let ([c0, c1], [b0, b1]) = (link.cost.to_le_bytes(), link.bytes.to_le_bytes());
+            bytes.extend([LINK, link.source, link.target, c0, c1, b0, b1]);
+        }
+        bytes.push(END);
+        bytes
+    }
+
+    /// Puts the values into lent tables, two for a task and four for a link (12).
+    pub fn put_values(&self, tasks: &mut [u16], links: &mut [u16]) -> Result<(), Refusal> {
+        let (task_values, link_values) = (2 * self.tasks.len(), 4 * self.links.len());
+        room(task_values, tasks)?;
+        room(link_values, links)?;
+        for (values, task) in tasks.as_chunks_mut().0.iter_mut().zip(&self.tasks) {
+            *values = [task.work, task.store];
+        }
+        for (values, link) in links.as_chunks_mut().0.iter_mut().zip(&self.links) {
+            *values = [link.source.into(), link.target.into(), link.cost, link.bytes];
+        }
+        Ok(())
+    }
+}
+
+/// A sheet up to some command; it judges the next one for reader and writer alike.
+struct Draft {
+    processors: u8,
+    limit: u32,
+    tasks: Vec<Task>,
+    links: Vec<Link>,
+    successors: Vec<TaskSet>,
+}
+
+impl Draft {
+    /// Reads up to the end command or the first command in fault, where `rest` then starts.
+    fn read(rest: &mut &[u8]) -> Result<Draft, u8> {
+        let [BOARD, processors, l0, l1, l2, l3, ref behind @ ..] = **rest else {
+            return Err(fault(rest, &[BOARD]));
+        };
+        let most = (rest.len() / TASK_LENGTH, rest.len() / LINK_LENGTH);
+        let mut draft = Draft::new(processors, u32::from_le_bytes([l0, l1, l2, l3]), most)?;
+        *rest = behind;
+        while let [TASK, w0, w1, s0, s1, ref behind @ ..] = **rest {
+            draft.task(u16::from_le_bytes([w0, w1]), u16::from_le_bytes([s0, s1]))?;
+            *rest = behind;
+        }
+        while let [LINK, source, target, c0, c1, b0, b1, ref behind @ ..] = **rest {
+            let (cost, bytes) = (u16::from_le_bytes([c0, c1]), u16::from_le_bytes([b0, b1]));
+            draft.link(source.into(), target.into(), cost, bytes)?;
+            *rest = behind;
+        }
+        match rest.first() {
+            Some(&END) => Ok(draft),
+            _ if draft.links.is_empty() => Err(fault(rest, &[TASK, LINK])),
+            _ => Err(fault(rest, &[LINK])),
+        }
+    }
+
+    /// Takes the values in the order of their bytes; `at` is the offset of each in turn.
+    fn take(
+        processors: u8,
+        limit: u32,
+        tasks: &[u16],
+        links: &[u16],
+        at: &mut usize,
+    ) -> Result<Draft, u8> {
+        let mut draft = Draft::new(processors, limit, (tasks.len() / 2, links.len() / 4))?;
+        *at += BOARD_LENGTH;
+        let (records, cut) = tasks.as_chunks();
+        for &[work, store] in records {
+            draft.task(work, store)?;
+            *at += TASK_LENGTH;
+        }
+        if !cut.is_empty() {
+            return Err(CUT_SHEET);
+        }
+        let (records, cut) = links.as_chunks();
+        for &[source, target, cost, bytes] in records {
+            draft.link(source, target, cost, bytes)?;
+            *at += LINK_LENGTH;
+        }
+        if !cut.is_empty() {
+            return Err(CUT_SHEET);
+        }
+        Ok(draft)
+    }
+
+    /// The board (6), with room for so many tasks and links.
+    fn new(processors: u8, limit: u32, most: (usize, usize)) -> Result<Draft, u8> {
+        if !(1..=MOST_PROCESSORS).contains(&processors.into()) {
+            return Err(RANGE);
+        }
+        Ok(Draft {
+            processors,
+            limit,
+            tasks: Vec::with_capacity(most.0.min(MOST_TASKS)),
+            links: Vec::with_capacity(most.1.min(MOST_LINKS)),
+            successors: Vec::with_capacity(most.0.min(MOST_TASKS)),
+        })
+    }
+
+    /// The next task (5, 6).
+    #[inline]
+    fn task(&mut self, work: u16, store: u16) -> Result<(), u8> {
+        if self.tasks.len() == MOST_TASKS {
+            return Err(OVER_FULL);
+        }
+        if work == 0 {
+            return Err(RANGE);
+        }
+        self.tasks.push(Task { work, store });
+        self.successors.push(TaskSet::default());
+        Ok(())
+    }
+
+    /// The next link (5, 7, 8); an end of 256 or more names no task.
+    #[inline]
+    fn link(&mut self, source: u16, target: u16, cost: u16, bytes: u16) -> Result<(), u8> {
+        if self.links.len() == MOST_LINKS {
+            return Err(OVER_FULL);
+        }
+        let tasks = self.successors.len();
+        let (from, to) = (usize::from(source), usize::from(target));
+        if from >= tasks || to >= tasks {
+            return Err(LOOSE_LINK);
+        }
+        if !self.successors[from].insert(to) {
+            return Err(DOUBLED_LINK);
+        }
+        let (source, target) = (source as u8, target as u8);
+        self.links.push(Link { source, target, cost, bytes });
+        Ok(())
+    }
+
+    /// The whole sheet (9, 10); its end command stands at `end`.
+    fn finish(self, end: usize) -> Result<Sheet, Refusal> {
+        if self.tasks.is_empty() {
+            return Err(Refusal::new(BARE_SHEET, end));
+        }
+        let graph = Graph::new(self.tasks.len(), &self.links)?;
+        Ok(Sheet {
+            processors: self.processors,
+            limit: self.limit,
+            tasks: self.tasks,
+            links: self.links,
+            successors: self.successors,
+            graph,
+        })
+    }
+}
+
+/// What is wrong with a command that is not whole, or not one that may stand here (2, 3, 1).
+fn fault(rest: &[u8], allowed: &[u8]) -> u8 {
+    match rest.first() {
+        None => CUT_SHEET,
+        Some(byte) if allowed.contains(byte) => CUT_SHEET,
+        Some(&(BOARD | TASK | LINK | END)) => SHEET_OUT_OF_TURN,
+        Some(_) => STRANGE_IN_SHEET,
+    }
+}

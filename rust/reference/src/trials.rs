@@ -1,0 +1,138 @@
+//! The trial sheets K1 to K8 with their bundles, as bytes and as files.
+
+use crate::bundle::{write_claim, Command};
+use crate::planner;
+use crate::sheet::Sheet;
+use Command::{Open, Receive, Run, Send};
+
+/// K1: four tasks of store 10 and three links of 4 bytes on three processors.
+pub fn k1_sheet() -> Vec<u8> {
+    like_k1(3, 100, 2)
+}
+
+/// The bundle of K1 as it is published.
+pub const K1_BUNDLE: [u8; 29] = [
+    0x50, 0x00, 0x52, 0x03, 0x53, 0x00, 0x00, 0x56, 0x02, 0x00, 0x52, 0x01, // processor 0
+    0x50, 0x01, 0x52, 0x00, 0x53, 0x02, 0x00, 0x56, 0x00, 0x00, 0x52, 0x02, // processor 1
+    0x5A, 0x05, 0x00, 0x00, 0x00,
+];
+
+/// The listing of K1 as it is published.
+pub const K1_LISTING: &[u8] = b"PLAN 2 5\n0 1 0 1\n1 0 2 5\n2 1 3 5\n3 0 0 2\n";
+
+/// K2: K1 with one processor.
+pub fn k2_sheet() -> Vec<u8> {
+    like_k1(1, 100, 2)
+}
+
+/// K3: K1 with work 3 for task 2.
+pub fn k3_sheet() -> Vec<u8> {
+    like_k1(3, 100, 3)
+}
+
+/// K4: K1 with another store limit.
+pub fn k4_sheet(limit: u32) -> Vec<u8> {
+    like_k1(3, limit, 2)
+}
+
+/// K5: five unlinked tasks that fit two processors, though the planner does not see how.
+pub fn k5_sheet() -> Vec<u8> {
+    valid_sheet(2, 6, &[1, 3, 1, 3, 1, 2, 1, 2, 1, 2], &[])
+}
+
+/// The bundle that fits K5.
+pub fn k5_bundle() -> Vec<u8> {
+    bundle(&[Open(0), Run(0), Run(1), Open(1), Run(2), Run(3), Run(4)], 3)
+}
+
+/// K6: two links between four tasks of work 1.
+pub fn k6_sheet() -> Vec<u8> {
+    valid_sheet(2, 0, &[1, 0, 1, 0, 1, 0, 1, 0], &[0, 1, 1, 0, 2, 3, 1, 0])
+}
+
+/// The bundle of K6 in which both processors wait for each other.
+pub fn k6_bundle() -> Vec<u8> {
+    let commands = [
+        [Open(0), Receive(1), Run(3), Run(0), Send(0)],
+        [Open(1), Receive(0), Run(1), Run(2), Send(1)],
+    ];
+    bundle(commands.as_flattened(), 4)
+}
+
+/// K7: K1's bundle with the claim 6.
+pub fn k7_bundle() -> Vec<u8> {
+    let mut bundle = K1_BUNDLE.to_vec();
+    bundle[25] = 6;
+    bundle
+}
+
+/// K8: a task that links to itself.
+pub fn k8_self_sheet() -> Vec<u8> {
+    circle_sheet(1, &[[0, 0]])
+}
+
+/// K8: a task before a circle of two.
+pub fn k8_circle_sheet() -> Vec<u8> {
+    circle_sheet(3, &[[0, 1], [1, 2], [2, 1]])
+}
+
+/// The files of the examples: their names and bytes.
+pub fn files() -> Vec<(&'static str, Vec<u8>)> {
+    vec![
+        ("k1.sheet", k1_sheet()),
+        ("k1.bundle", K1_BUNDLE.to_vec()),
+        ("k2.sheet", k2_sheet()),
+        ("k2.bundle", planned(&k2_sheet())),
+        ("k3.sheet", k3_sheet()),
+        ("k3.bundle", planned(&k3_sheet())),
+        ("k4-24.sheet", k4_sheet(24)),
+        ("k4-24.bundle", planned(&k4_sheet(24))),
+        ("k4-23.sheet", k4_sheet(23)),
+        ("k4-23.bundle", planned(&k4_sheet(23))),
+        ("k5.sheet", k5_sheet()),
+        ("k5.bundle", k5_bundle()),
+        ("k6.sheet", k6_sheet()),
+        ("k6.bundle", k6_bundle()),
+        ("k7.bundle", k7_bundle()),
+        ("k8-self.sheet", k8_self_sheet()),
+        ("k8-circle.sheet", k8_circle_sheet()),
+    ]
+}
+
+/// K1 but for the processors, the store limit and the work of task 2.
+fn like_k1(processors: u8, limit: u32, work_2: u16) -> Vec<u8> {
+    let tasks = [1, 10, 3, 10, work_2, 10, 2, 10];
+    let links = [3, 2, 1, 4, 3, 1, 2, 4, 0, 1, 1, 4];
+    valid_sheet(processors, limit, &tasks, &links)
+}
+
+fn valid_sheet(processors: u8, limit: u32, tasks: &[u16], links: &[u16]) -> Vec<u8> {
+    Sheet::from_values(processors, limit, tasks, links)
+        .expect("the trial sheet is valid")
+        .to_bytes()
+}
+
+/// A sheet that no writer writes: tasks of work 1 and store 0, links of cost and bytes 0.
+fn circle_sheet(tasks: usize, links: &[[u8; 2]]) -> Vec<u8> {
+    let mut sheet = vec![0x4D, 1, 0, 0, 0, 0];
+    for _ in 0..tasks {
+        sheet.extend([0x54, 1, 0, 0, 0]);
+    }
+    for &[source, target] in links {
+        sheet.extend([0x45, source, target, 0, 0, 0, 0]);
+    }
+    sheet.push(0x51);
+    sheet
+}
+
+fn bundle(commands: &[Command], claim: u32) -> Vec<u8> {
+    let mut bundle = Vec::new();
+    commands.iter().for_each(|command| command.write(&mut bundle));
+    write_claim(claim, &mut bundle);
+    bundle
+}
+
+fn planned(sheet: &[u8]) -> Vec<u8> {
+    let sheet = Sheet::read(sheet).expect("the trial sheet is valid");
+    planner::plan(&sheet).expect("the trial sheet has a plan").to_bundle(&sheet)
+}

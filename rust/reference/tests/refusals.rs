@@ -1,0 +1,231 @@
+//! Each refusal of the two formats by hand, from bytes and from values.
+
+use reference::bundle::{from_values, Bundle};
+use reference::interface;
+use reference::sheet::Sheet;
+use reference::trials::*;
+
+/// Number and place of a refusal, if there is one.
+type Verdict = Option<(u8, u64)>;
+
+/// Number and place of the refusal of a sheet's bytes.
+fn sheet(bytes: &[u8]) -> Verdict {
+    Sheet::read(bytes).err().map(|refusal| (refusal.number, refusal.place))
+}
+
+/// Number and place of the refusal of a sheet's values, on two processors.
+fn sheet_values(tasks: &[u16], links: &[u16]) -> Verdict {
+    let answer = Sheet::from_values(2, 9, tasks, links);
+    answer.err().map(|refusal| (refusal.number, refusal.place))
+}
+
+/// Number and place of the refusal of a bundle's bytes for K1's sheet.
+fn bundle(bytes: &[u8]) -> Verdict {
+    let sheet = Sheet::read(&k1_sheet()).unwrap();
+    let answer = Bundle::read(&sheet, bytes).map(|_| ());
+    answer.err().map(|refusal| (refusal.number, refusal.place))
+}
+
+/// Number and place of the refusal of a bundle's values for K1's sheet.
+fn bundle_values(commands: &[u16]) -> Verdict {
+    let sheet = Sheet::read(&k1_sheet()).unwrap();
+    let answer = from_values(&sheet, commands, 7);
+    answer.err().map(|refusal| (refusal.number, refusal.place))
+}
+
+/// An input in parts, and what is said of it.
+type Case<'a, T> = (&'a [T], Verdict);
+
+const BOARD: [u8; 6] = [0x4D, 2, 9, 0, 0, 0];
+const TASK: [u8; 5] = [0x54, 1, 0, 0, 0];
+const END: [u8; 1] = [0x51];
+
+fn link(source: u8, target: u8) -> [u8; 7] {
+    [0x45, source, target, 0, 0, 0, 0]
+}
+
+fn join(parts: &[&[u8]]) -> Vec<u8> {
+    parts.concat()
+}
+
+#[test]
+fn sheet_in_order() {
+    let cases: &[Case<&[u8]>] = &[
+        (&[&BOARD, &TASK, &END], None),
+        (&[&BOARD, &TASK, &TASK, &link(1, 0), &END], None),
+        // 1: nothing, cut operands, no end
+        (&[], Some((1, 0))),
+        (&[&BOARD[..5]], Some((1, 0))),
+        (&[&BOARD, &TASK[..4]], Some((1, 6))),
+        (&[&BOARD, &TASK, &TASK, &link(0, 1)[..6]], Some((1, 16))),
+        (&[&BOARD], Some((1, 6))),
+        (&[&BOARD, &TASK], Some((1, 11))),
+        // 2 before 3 and 1
+        (&[&[0]], Some((2, 0))),
+        (&[&BOARD, &[0x52]], Some((2, 6))),
+        // 3, also for a cut command
+        (&[&TASK, &END], Some((3, 0))),
+        (&[&END], Some((3, 0))),
+        (&[&BOARD, &BOARD[..1]], Some((3, 6))),
+        (&[&BOARD, &TASK, &TASK, &link(0, 1), &[0x54]], Some((3, 23))),
+        // 4 before 9 and 10
+        (&[&BOARD, &END, &[0]], Some((4, 7))),
+        (&[&BOARD, &TASK, &link(0, 0), &END, &END], Some((4, 19))),
+        // 6: processors and work
+        (&[&[0x4D, 0, 0, 0, 0, 0]], Some((6, 0))),
+        (&[&[0x4D, 17, 0, 0, 0, 0]], Some((6, 0))),
+        (&[&BOARD, &[0x54, 0, 0, 1, 0]], Some((6, 6))),
+        // 7, also before any task; 8 behind it
+        (&[&BOARD, &link(0, 0)], Some((7, 6))),
+        (&[&BOARD, &TASK, &link(0, 1)], Some((7, 11))),
+        (&[&BOARD, &TASK, &link(1, 0)], Some((7, 11))),
+        (&[&BOARD, &TASK, &TASK, &link(0, 1), &link(1, 0), &link(0, 1)], Some((8, 30))),
+        // 9 and 10
+        (&[&BOARD, &END], Some((9, 6))),
+        (&[&BOARD, &TASK, &link(0, 0), &END], Some((10, 0))),
+        (&[&BOARD, &TASK, &TASK, &link(0, 1), &link(1, 0), &END], Some((10, 0))),
+    ];
+    for (parts, expected) in cases {
+        assert_eq!(sheet(&join(parts)), *expected, "{:02X?}", join(parts));
+    }
+}
+
+#[test]
+fn sheet_over_full() {
+    let tasks = TASK.repeat(256);
+    assert_eq!(sheet(&join(&[&BOARD, &tasks, &END])), None);
+    // 1 before 5, 5 before 6
+    assert_eq!(sheet(&join(&[&BOARD, &tasks, &TASK])), Some((5, 1286)));
+    assert_eq!(sheet(&join(&[&BOARD, &tasks, &TASK[..4]])), Some((1, 1286)));
+    assert_eq!(sheet(&join(&[&BOARD, &tasks, &[0x54, 0, 0, 0, 0]])), Some((5, 1286)));
+    let links: Vec<u8> =
+        (0..1024usize).flat_map(|i| link((i / 32) as u8, (100 + i % 32) as u8)).collect();
+    assert_eq!(sheet(&join(&[&BOARD, &tasks, &links, &END])), None);
+    assert_eq!(join(&[&BOARD, &tasks, &links, &END]).len(), 8455);
+    // 1 before 5, 5 before 8
+    assert_eq!(sheet(&join(&[&BOARD, &tasks, &links, &links[..7]])), Some((5, 8454)));
+    assert_eq!(sheet(&join(&[&BOARD, &tasks, &links, &links[..6]])), Some((1, 8454)));
+}
+
+#[test]
+fn sheet_circles() {
+    let circle = |links: &[[u16; 2]]| {
+        let links: Vec<u16> =
+            links.iter().flat_map(|&[source, target]| [source, target, 0, 0]).collect();
+        sheet_values(&[1; 12], &links)
+    };
+    // between two circles, behind one and before one is not on one
+    assert_eq!(circle(&[[4, 5], [5, 4], [5, 0], [0, 2], [2, 3], [3, 2]]), Some((10, 2)));
+    assert_eq!(circle(&[[4, 5], [5, 4], [5, 0], [1, 4]]), Some((10, 4)));
+    assert_eq!(circle(&[[5, 4], [4, 3], [3, 5], [3, 0], [1, 5]]), Some((10, 3)));
+    assert_eq!(circle(&[[5, 4], [4, 3], [3, 2], [2, 1], [1, 0]]), None);
+}
+
+#[test]
+fn sheet_of_values() {
+    let tasks = [1, 0, 1, 0];
+    assert_eq!(sheet_values(&tasks, &[0, 1, 2, 3]), None);
+    assert_eq!(sheet_values(&[1, 0, 1], &[9]), Some((1, 11)));
+    assert_eq!(sheet_values(&[0, 0, 1], &[9]), Some((6, 6)));
+    assert_eq!(sheet_values(&tasks, &[0, 1, 2]), Some((1, 16)));
+    assert_eq!(sheet_values(&[], &[0]), Some((1, 6)));
+    assert_eq!(sheet_values(&[], &[0, 0, 0, 0]), Some((7, 6)));
+    assert_eq!(sheet_values(&[], &[]), Some((9, 6)));
+    assert_eq!(sheet_values(&tasks, &[0, 256, 0, 0]), Some((7, 16)));
+    assert_eq!(sheet_values(&tasks, &[257, 1, 0, 0]), Some((7, 16)));
+    assert_eq!(sheet_values(&tasks, &[0, 1, 0, 0, 0, 1, 0, 0]), Some((8, 23)));
+    assert_eq!(sheet_values(&[1; 512], &[0, 256, 0, 0]), Some((7, 1286)));
+    assert_eq!(sheet_values(&[1; 513], &[]), Some((1, 1286)));
+    assert_eq!(sheet_values(&[1; 514], &[]), Some((5, 1286)));
+    assert_eq!(sheet_values(&[1; 515], &[]), Some((5, 1286)));
+}
+
+#[test]
+fn bundle_in_order() {
+    const OPEN: [u8; 2] = [0x50, 0];
+    const CLAIM: [u8; 5] = [0x5A, 0, 0, 0, 0];
+    let cases: &[Case<&[u8]>] = &[
+        (&[&K1_BUNDLE], None),
+        (&[&OPEN, &CLAIM], None),
+        (&[&OPEN, &[0x50, 1], &[0x50, 2], &CLAIM], None),
+        // 21: nothing, cut operands, no claim
+        (&[], Some((21, 0))),
+        (&[&[0x50]], Some((21, 0))),
+        (&[&OPEN], Some((21, 2))),
+        (&[&OPEN, &[0x52]], Some((21, 2))),
+        (&[&OPEN, &[0x53, 9]], Some((21, 2))),
+        (&[&OPEN, &[0x56, 9]], Some((21, 2))),
+        (&[&OPEN, &CLAIM[..4]], Some((21, 2))),
+        // 22 before 23
+        (&[&[0x51]], Some((22, 0))),
+        (&[&OPEN, &[0x00]], Some((22, 2))),
+        // 23 before 21 where no programme is open, behind it for the number
+        (&[&CLAIM], Some((23, 0))),
+        (&[&CLAIM[..1]], Some((23, 0))),
+        (&[&[0x52]], Some((23, 0))),
+        (&[&[0x50, 1]], Some((23, 0))),
+        (&[&OPEN, &OPEN], Some((23, 2))),
+        (&[&OPEN, &[0x50, 1, 0x50, 2, 0x50, 3]], Some((23, 6))),
+        // 24
+        (&[&OPEN, &CLAIM, &[0]], Some((24, 7))),
+        (&[&OPEN, &CLAIM, &CLAIM], Some((24, 7))),
+        // 25
+        (&[&OPEN, &[0x52, 4]], Some((25, 2))),
+        (&[&OPEN, &[0x53, 3, 0]], Some((25, 2))),
+        (&[&OPEN, &[0x56, 0, 1]], Some((25, 2))),
+    ];
+    for (parts, expected) in cases {
+        assert_eq!(bundle(&join(parts)), *expected, "{:02X?}", join(parts));
+    }
+}
+
+#[test]
+fn bundle_of_values() {
+    let cases: &[Case<u16>] = &[
+        (&[0x50, 0, 0x52, 3, 0x53, 2, 0x56, 0, 0x50, 1], None),
+        (&[], Some((23, 0))),
+        (&[0x50], Some((21, 0))),
+        (&[0x52], Some((23, 0))),
+        (&[0x5A], Some((23, 0))),
+        (&[0x5A, 0], Some((23, 0))),
+        (&[0x150, 0], Some((22, 0))),
+        (&[0x50, 256], Some((23, 0))),
+        (&[0x50, 0, 0x5A, 0], Some((24, 7))),
+        (&[0x50, 0, 0x5A, 0, 0x5A], Some((24, 7))),
+        (&[0x50, 0, 0x5A], Some((21, 2))),
+        (&[0x50, 0, 0x53], Some((21, 2))),
+        (&[0x50, 0, 0x152], Some((22, 2))),
+        (&[0x50, 0, 0x52, 256], Some((25, 2))),
+        (&[0x50, 0, 0x52, 0, 0x56, 0, 0x53, 3], Some((25, 7))),
+        (&[0x50, 0, 0x52, 0, 0x4D, 0], Some((22, 4))),
+    ];
+    for (commands, expected) in cases {
+        assert_eq!(bundle_values(commands), *expected, "{commands:X?}");
+    }
+}
+
+#[test]
+fn short_outputs() {
+    let place = |answer: Result<(), reference::Refusal>| {
+        answer.err().map(|refusal| (refusal.number, refusal.place))
+    };
+    let sheet = k1_sheet();
+    let read = |tasks, links| {
+        place(interface::read_sheet(&sheet, &mut vec![0; tasks], &mut vec![0; links]).map(|_| ()))
+    };
+    assert_eq!(read(8, 12), None);
+    assert_eq!(read(7, 11), Some((12, 8)));
+    assert_eq!(read(8, 11), Some((12, 12)));
+    assert_eq!(place(interface::levels(&sheet, &mut [0; 3]).map(|_| ())), Some((12, 4)));
+    assert_eq!(place(interface::plan(&sheet, &mut [0; 28]).map(|_| ())), Some((12, 29)));
+    let bundle = |length| interface::read_bundle(&sheet, &K1_BUNDLE, &mut vec![0; length]);
+    assert_eq!(bundle(20), Ok((20, 5)));
+    assert_eq!(place(bundle(19).map(|_| ())), Some((12, 20)));
+    let tasks = [1, 10, 3, 10, 2, 10, 2, 10];
+    let links = [3, 2, 1, 4, 3, 1, 2, 4, 0, 1, 1, 4];
+    let mut out = [0xAA; 50];
+    assert_eq!(interface::write_sheet(3, 100, &tasks, &links, &mut out), Ok(48));
+    assert_eq!((&out[..48], &out[48..]), (&sheet[..], &[0xAA; 2][..]));
+    let write = interface::write_sheet(3, 100, &tasks, &links, &mut out[..47]);
+    assert_eq!(place(write.map(|_| ())), Some((12, 48)));
+}

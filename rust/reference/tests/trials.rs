@@ -1,0 +1,124 @@
+//! The trial sheets K1 to K10, with every number that is published for them.
+
+use reference::checker::check;
+use reference::graph::levels;
+use reference::listing;
+use reference::planner::{plan, Plan};
+use reference::sheet::Sheet;
+use reference::trials::*;
+use reference::Refusal;
+
+fn read(bytes: &[u8]) -> Sheet {
+    Sheet::read(bytes).expect("a valid sheet")
+}
+
+fn planned(bytes: &[u8]) -> Plan {
+    plan(&read(bytes)).expect("a plan")
+}
+
+/// Processor, start and finish of each task.
+fn rows(plan: &Plan) -> Vec<(u8, u32, u32)> {
+    plan.placements.iter().map(|p| (p.processor, p.start, p.finish)).collect()
+}
+
+fn refused<T>(number: u8, place: u64) -> Result<T, Refusal> {
+    Err(Refusal { number, place })
+}
+
+/// The plan's own bundle is accepted.
+fn accepted(sheet: &[u8]) {
+    let sheet = read(sheet);
+    let bundle = plan(&sheet).unwrap().to_bundle(&sheet);
+    assert_eq!(check(&sheet, &bundle), Ok(()));
+}
+
+#[test]
+fn k1() {
+    let sheet = read(&k1_sheet());
+    assert_eq!(levels(&sheet), [5, 3, 2, 7]);
+    let plan = plan(&sheet).unwrap();
+    assert_eq!(plan.to_bundle(&sheet), K1_BUNDLE);
+    assert_eq!(listing::print(&k1_sheet()), K1_LISTING);
+    assert_eq!(check(&sheet, &K1_BUNDLE), Ok(()));
+}
+
+#[test]
+fn k2() {
+    let plan = planned(&k2_sheet());
+    assert_eq!(plan.programmes, [[3, 0, 1, 2]]);
+    assert_eq!([3, 0, 1, 2].map(|task: usize| plan.placements[task].start), [0, 2, 3, 6]);
+    assert_eq!(plan.claim, 8);
+    accepted(&k2_sheet());
+}
+
+#[test]
+fn k3() {
+    let plan = planned(&k3_sheet());
+    assert_eq!((plan.placements[2].processor, plan.placements[2].start), (1, 3));
+    assert_eq!(plan.placements[0].processor, 2);
+    assert_eq!(plan.claim, 6);
+    accepted(&k3_sheet());
+}
+
+#[test]
+fn k4() {
+    assert_eq!(planned(&k4_sheet(24)), planned(&k1_sheet()));
+    let plan = planned(&k4_sheet(23));
+    assert_eq!((plan.placements[1].processor, plan.placements[1].start), (2, 4));
+    assert_eq!((plan.placements[2].processor, plan.placements[2].start), (0, 2));
+    assert_eq!(plan.claim, 7);
+    accepted(&k4_sheet(24));
+    accepted(&k4_sheet(23));
+}
+
+#[test]
+fn k5() {
+    let sheet = read(&k5_sheet());
+    assert_eq!(plan(&sheet), refused(11, 4));
+    assert_eq!(listing::print(&k5_sheet()), b"REFUSED 11 4\n");
+    assert_eq!(check(&sheet, &k5_bundle()), Ok(()));
+}
+
+#[test]
+fn k6() {
+    assert_eq!(check(&read(&k6_sheet()), &k6_bundle()), refused(29, 0));
+}
+
+#[test]
+fn k7() {
+    assert_eq!(check(&read(&k1_sheet()), &k7_bundle()), refused(30, 5));
+}
+
+#[test]
+fn k8() {
+    assert_eq!(Sheet::read(&k8_self_sheet()).err(), refused::<()>(10, 0).err());
+    assert_eq!(Sheet::read(&k8_circle_sheet()).err(), refused::<()>(10, 1).err());
+    assert_eq!(listing::print(&k8_circle_sheet()), b"REFUSED 10 1\n");
+}
+
+#[test]
+fn k9() {
+    let mut sheet = k1_sheet();
+    assert_eq!(sheet.len(), 48);
+    assert_eq!(Sheet::read(&sheet[..47]).err(), refused::<()>(1, 47).err());
+    sheet.push(0);
+    assert_eq!(Sheet::read(&sheet).err(), refused::<()>(4, 48).err());
+}
+
+#[test]
+fn k10() {
+    let with = |processors| {
+        let mut sheet = k1_sheet();
+        sheet[1] = processors;
+        Sheet::read(&sheet).map(|sheet| sheet.processors)
+    };
+    assert_eq!([with(1), with(16)], [Ok(1), Ok(16)]);
+    assert_eq!([with(0), with(17)], [refused(6, 0), refused(6, 0)]);
+    assert_eq!(Sheet::read(&[]).err(), refused::<()>(1, 0).err());
+}
+
+#[test]
+fn starts_are_those_of_the_runs() {
+    let plan = planned(&k1_sheet());
+    assert_eq!(rows(&plan), [(1, 0, 1), (0, 2, 5), (1, 3, 5), (0, 0, 2)]);
+}
