@@ -12,7 +12,9 @@ use Rattle.folds.specs.Folds.{pick, bit, both, sum, gather}
 use Rattle.folds.proofs.Tests.{equal-or, parts-both}
 use Rattle.folds.proofs.Laws.{sum-cong, sum-add, sum-zeros, sum-only}
 use Rattle.sheet.specs.Sheet.{Sheet, taskCount, linkCount, sourceOf, targetOf, storeOf, bytesOf}
+use Rattle.graph.proofs.Proper.{Proper}
 use Rattle.bundle.specs.Bundle.{Command, run, send, receive}
+use Rattle.bundle.specs.Fits.{Each}
 use Rattle.messages.specs.Counting.{weigh, is, need}
 use Rattle.messages.specs.Messages.{before}
 use Rattle.messages.proofs.Weights.{weigh-append, weigh-gather, same-refl, is-refl}
@@ -20,10 +22,8 @@ use Rattle.messages.proofs.Before.{before-skip, before-here, before-split}
 use Rattle.planner.specs.Schedule.{Schedule, placeOf, placed, stands}
 use Rattle.planner.specs.Placing.{storeBy, bytesBy}
 use Rattle.planner.specs.Planner.{brings, takesAway, receiveOf, sendOf, blockOf, blocks}
-use Rattle.planner.proofs.Proper.{Proper}
 use Rattle.planner.proofs.Ready.{ready-source}
 use Rattle.planner.proofs.Schedules.{Fair, Built, built, placing, tally, placed-other, fair-place, plan-of}
-use Rattle.assurance.proofs.Fits.{Each}
 
 -- choices of a number or of none
 pick-same : (b : Bool) (x : ℕ) → pick b x x ≡ x

@@ -1,5 +1,5 @@
 pub mod Holding
-pub mod Fits
+pub mod Each
 pub mod Blocks
 pub mod Written
 pub mod Running

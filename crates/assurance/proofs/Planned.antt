@@ -14,7 +14,10 @@ use Rattle.folds.specs.Answers.{value}
 use Rattle.folds.proofs.Tests.{equal-or, both-parts, parts-both}
 use Rattle.folds.proofs.Laws.{sum-zeros, greatest-cong}
 use Rattle.sheet.specs.Sheet.{Sheet, linkCount, sourceOf, targetOf, costOf, workOf}
+use Rattle.graph.proofs.Forms.{Sized}
+use Rattle.graph.proofs.Proper.{Proper}
 use Rattle.bundle.specs.Bundle.{Command, run, Bundle, programmeCount, programmeOf}
+use Rattle.bundle.specs.Fits.{Fits}
 use Rattle.messages.specs.Counting.{weigh, each}
 use Rattle.machine.specs.Machine.{State, freshState, processorOf, stampOf, moved}
 use Rattle.machine.specs.Runs.{leftOf, left, clockOf, latest}
@@ -24,11 +27,9 @@ use Rattle.checker.proofs.Accepted.{accepted}
 use Rattle.planner.specs.Schedule.{Schedule, nowhere, empty, placeOf, finishOf, placed, stands}
 use Rattle.planner.specs.Placing.{endOf, startOn}
 use Rattle.planner.specs.Planner.{brings, takesAway, receiveOf, sendOf, blockOf, blocks, claimOf, bundleOf, plannedBy}
-use Rattle.planner.proofs.Proper.{Proper, Sized}
 use Rattle.planner.proofs.Ready.{ready-source}
 use Rattle.planner.proofs.Schedules.{Fair, place, Placing, Built, built, placing, plan-of, Whole, on-same, finish-same, finish-other, placed-same, placed-other, fair-place, empty-free, empty-fair, planned-build}
 use Rattle.planner.proofs.Times.{messageAt, end-same, end-other, starts, empty-end, claim-end}
-use Rattle.assurance.proofs.Fits.{Fits}
 use Rattle.assurance.proofs.Written.{plan, programmes, programme-is, published, few, within, fits}
 use Rattle.assurance.proofs.Running.{Did, did-one, did-at, receive-all, Sent, send-all}
 

@@ -12,7 +12,11 @@ use Rattle.folds.proofs.Tests.{equal-or, parts-both}
 use Rattle.folds.proofs.Laws.{sum-cong, greatest-le, none-first}
 use Rattle.folds.proofs.Lists.{length-listed, getD-listed}
 use Rattle.sheet.specs.Sheet.{Sheet, taskCount, linkCount, sourceOf, targetOf}
+use Rattle.graph.proofs.Forms.{Sized}
+use Rattle.graph.proofs.Proper.{Proper}
 use Rattle.bundle.specs.Bundle.{Command, run, send, receive, Bundle, programmeCount, programmeOf}
+use Rattle.bundle.specs.Fits.{Known, Each, Fits}
+use Rattle.bundle.proofs.Parts.{each-append}
 use Rattle.messages.specs.Counting.{weigh, wholeOf, whole, is, need}
 use Rattle.messages.specs.Messages.{notOnce, home, before, insideOk, acrossOk, linkOk, wrongMessage, at26, at27, Published}
 use Rattle.messages.proofs.Weights.{programme-or}
@@ -20,10 +24,9 @@ use Rattle.messages.proofs.Messages.{home-is}
 use Rattle.planner.specs.Schedule.{Schedule, nowhere, empty, placeOf, finishOf, stands}
 use Rattle.planner.specs.Placing.{storeBy, bytesBy, storeOn}
 use Rattle.planner.specs.Planner.{brings, takesAway, receiveOf, sendOf, blockOf, blocks, programme, claimOf, bundleOf}
-use Rattle.planner.proofs.Proper.{Proper, Sized}
 use Rattle.planner.proofs.Schedules.{Built, built, placing, tally, Plan, plan-of, Whole, empty-free, empty-fair}
 use Rattle.planner.proofs.Finishes.{finish-small}
-use Rattle.assurance.proofs.Fits.{Known, Each, Fits, each-append, each-gather, each-listed, each-map}
+use Rattle.assurance.proofs.Each.{each-gather, each-listed, each-map}
 use Rattle.assurance.proofs.Blocks.{total, sum-blocks, total-run, total-send, total-receive, need-blocks, send-in-order, receive-in-order, blocks-run, run-in-order}
 
 each-below : {s : Sheet} {σ φ : Schedule} {ts : List ℕ} → Built s σ φ ts → Each (λ u. u < taskCount s) ts

@@ -11,9 +11,10 @@ use Rattle.folds.proofs.Tests.{equal-or, pick-le}
 use Rattle.folds.proofs.Laws.{sum-cong, sum-add, sum-le, sum-only, term-le-sum, greatest-le}
 use Rattle.folds.proofs.Lists.{getD-replicate}
 use Rattle.sheet.specs.Sheet.{Sheet, taskCount, linkCount, sourceOf, targetOf, workOf, costOf}
+use Rattle.graph.proofs.Forms.{Sized}
+use Rattle.graph.proofs.Proper.{Proper}
 use Rattle.planner.specs.Schedule.{Schedule, empty, finishOf, placed, stands}
 use Rattle.planner.specs.Placing.{comes, endBy, endOf, startBy, startFrom, startOn}
-use Rattle.planner.proofs.Proper.{Proper, Sized}
 use Rattle.planner.proofs.Schedules.{Fair, place, Placing, Built, built, placing, finish-same, finish-other, once-place, fair-place, empty-fair}
 
 module _ (s : Sheet) (proper : Proper s) where

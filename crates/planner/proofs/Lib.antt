@@ -1,6 +1,3 @@
-pub mod Pigeonhole
-pub mod Reading
-pub mod Proper
 pub mod Ready
 pub mod Choosing
 pub mod Schedules

@@ -16,10 +16,10 @@ use Rattle.folds.proofs.Tests.{equal-or, not-value}
 use Rattle.folds.proofs.Laws.{sum-cong, sum-zeros, sum-differ, sum-le, term-le-sum}
 use Rattle.folds.proofs.Lists.{getD-replicate}
 use Rattle.sheet.specs.Sheet.{Sheet, taskCount, linkCount, sourceOf, targetOf, workOf}
+use Rattle.graph.proofs.Proper.{Proper}
 use Rattle.planner.specs.Schedule.{Schedule, nowhere, empty, placeOf, finishOf, placed, stands, put}
 use Rattle.planner.specs.Placing.{ready, ahead, firstReady, startOn, storeBy, bytesBy, storeOn, fits}
 use Rattle.planner.specs.Planner.{choice, placeOn, placeTask, turn, turns, plannedBy}
-use Rattle.planner.proofs.Proper.{Proper}
 use Rattle.planner.proofs.Ready.{ready-free, all-placed}
 use Rattle.planner.proofs.Choosing.{leading-some, leading-none, Room, chosen}
 

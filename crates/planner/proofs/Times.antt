@@ -9,10 +9,10 @@ use Rattle.folds.specs.Folds.{pick, greatest}
 use Rattle.folds.proofs.Tests.{equal-or, pick-le}
 use Rattle.folds.proofs.Laws.{term-le-greatest, greatest-le, greatest-cong, greatest-past, greatest-is}
 use Rattle.sheet.specs.Sheet.{Sheet, taskCount, linkCount, sourceOf, targetOf, workOf, costOf}
+use Rattle.graph.proofs.Proper.{Proper}
 use Rattle.planner.specs.Schedule.{Schedule, nowhere, empty, placeOf, finishOf, placed, stands}
 use Rattle.planner.specs.Placing.{comes, endBy, endOf, startBy, startFrom, startOn}
 use Rattle.planner.specs.Planner.{brings, claimOf}
-use Rattle.planner.proofs.Proper.{Proper}
 use Rattle.planner.proofs.Ready.{ready-source}
 use Rattle.planner.proofs.Schedules.{Fair, place, Placing, on-same, on-other, finish-same, finish-other, stands-not, stands-other, empty-stands, Whole}
 
