@@ -4,10 +4,10 @@ ghost use Rattle.graph.specs.Found.{LevelsAre};
 use sheet::tables;
 
 mod chains;
+pub mod open;
 mod peel;
 mod queue;
 mod search;
-pub mod open;
 
 // The lowest task on a circle.
 pub enum Found {

@@ -9,9 +9,9 @@ ghost use Rattle.sheet.specs.Tables.{sheetIn, Loaded};
 ghost use Rattle.graph.specs.Graph.{circle, readSheet};
 ghost use Rattle.graph.specs.Opened.{OpenIs};
 use crate::Found;
+use sheet::Reading;
 use sheet::reader;
 use sheet::values;
-use sheet::Reading;
 
 // Refusal 10 for a sheet that has the form, or its levels beside it.
 fn level(w: &mut [u32]) -> Reading

@@ -141,7 +141,6 @@ module _ (p l : ℕ) (tv lv : List ℕ) (s : Sheet) (ts : (k : ℕ) → getD tv 
 
 -- the tables of a sheet
 module _ (t l b : List ℕ) {a : Answer Sheet} {work mid : List ℕ} {o : Reading} (h : OpenIs a work mid o) where
-
   sheet-refusal : (x : Answer Sheet) (r e : ℕ) → x ≡ refused r e → (mid′ : List ℕ) → length mid′ ≡ length work → SheetIs x work mid′ t t l l b b (ends.Refused r e)
   sheet-refusal x r e q mid′ m =
       record {

@@ -8,14 +8,14 @@ ghost use Rattle.graph.specs.Graph.{readSheet};
 ghost use Rattle.bundle.specs.Format.{readBundle};
 ghost use Rattle.bundle.specs.Writing.{bundleValues, valueBytes};
 ghost use Rattle.zeldrupa.specs.Parts.{PartIs, BundleIs};
+use crate::ending::Outcome;
 use bundle::values;
 use bundle::values::Copied;
 use bundle::writer;
 use bundle::writer::Judged;
-use crate::ending::Outcome;
 use graph::open;
-use sheet::tables;
 use sheet::Reading;
+use sheet::tables;
 
 // The values of a bundle.
 pub fn read(

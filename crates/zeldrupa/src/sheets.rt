@@ -15,10 +15,10 @@ ghost use Rattle.zeldrupa.specs.Promises.{levelsOf, tabled, boardOf};
 ghost use Rattle.zeldrupa.specs.Parts.{PartIs, SheetIs};
 use crate::ending::Outcome;
 use graph::open;
+use sheet::Reading;
 use sheet::tables;
 use sheet::unload;
 use sheet::writer;
-use sheet::Reading;
 
 // The level words, at the front of `out`.
 fn copy_levels(w: &[u32], out: &mut [u32])

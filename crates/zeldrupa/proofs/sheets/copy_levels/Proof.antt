@@ -50,9 +50,11 @@ loop-less c = search needs
 loop-again : tie.Need-loop-again Inv-loop μ-loop
 loop-again c =
     let s = sheetIn (now (c .before .before .before .before .before .before .args .w)) in
-    let t = c .before .before .loop .t in
-    (omega (arith, c .before .loop-test .taken), length-set (c .before .before .loop .out) t (getD (now (c .before .before .before .before .before .before .args .w)) (4624 + t) 0) ∙ c .before .before .loop .inv .1,
-    level-next (level s) (now (c .before .before .before .before .before .before .args .out)) (c .before .before .loop .out) t _ (c .before .before .loop .inv .2) (omega (arith, c .before .before .before .tasks .ensures .0, c .before .before .before .before .before .before .pre .1 .1, c .before .before .loop .inv .1, c .before .loop-test .taken)) (c .before .before .before .before .before .before .pre .1 .0 .levels t (omega (arith, c .before .before .before .tasks .ensures .0, c .before .loop-test .taken))))
+    let t = c .before .before .loop .t in (
+      omega (arith, c .before .loop-test .taken),
+      length-set (c .before .before .loop .out) t (getD (now (c .before .before .before .before .before .before .args .w)) (4624 + t) 0) ∙ c .before .before .loop .inv .1,
+      level-next (level s) (now (c .before .before .before .before .before .before .args .out)) (c .before .before .loop .out) t _ (c .before .before .loop .inv .2) (omega (arith, c .before .before .before .tasks .ensures .0, c .before .before .before .before .before .before .pre .1 .1, c .before .before .loop .inv .1, c .before .loop-test .taken)) (c .before .before .before .before .before .before .pre .1 .0 .levels t (omega (arith, c .before .before .before .tasks .ensures .0, c .before .loop-test .taken))),
+    )
 
 same-length : tie.Need-same-length Inv-loop μ-loop
 same-length c = c .before .loop .inv .1
