@@ -1,1 +1,4 @@
 pub mod Accepted
+pub mod Going
+pub mod Closing
+pub mod Areas

@@ -1,1 +1,3 @@
 pub mod Checker
+pub mod Settling
+pub mod Verdicts

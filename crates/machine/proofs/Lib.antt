@@ -1,3 +1,10 @@
 pub mod Steps
 pub mod Runs
 pub mod Orders
+pub mod Lows
+pub mod Moves
+pub mod Chosen
+pub mod Lists
+pub mod Asks
+pub mod Fresh
+pub mod Opens

@@ -1,2 +1,5 @@
 pub mod Machine
 pub mod Runs
+pub mod Words
+pub mod Keeps
+pub mod Starts

@@ -1,3 +1,14 @@
 pub mod Weights
 pub mod Before
 pub mod Messages
+pub mod Walking
+pub mod Ranks
+pub mod Rows
+pub mod Noted
+pub mod Places
+pub mod Ruled
+pub mod Needs
+pub mod Few
+pub mod Admits
+pub mod Written
+pub mod Areas

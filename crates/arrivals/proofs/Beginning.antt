@@ -1,0 +1,69 @@
+-- Before the first turn all that is kept is 0.
+use Prim.Native.Nat.{ℕ, _+_, _*_, _≤_, _<_}
+use mathlib.Core.Bool.{Bool, true, false, true≢false}
+use mathlib.Core.Path.{_≡_, refl, sym, _∙_}
+use mathlib.Core.List.{List}
+use native.Mathlib.Omega.{arith}
+use borrow.Author.Tests.{ne-eqb, le-ltb}
+use lib.ListN.{getD}
+use Rattle.folds.specs.Folds.{pick, both, sum, greatest}
+use Rattle.folds.proofs.Laws.{sum-zeros, greatest-le}
+use Rattle.sheet.specs.Sheet.{Sheet, taskCount, linkCount, sourceOf, targetOf, bytesOf}
+use Rattle.planner.specs.Schedule.{Schedule, placed, stands, placeOf}
+use Rattle.planner.specs.Placing.{endBy, endOf, storeBy, bytesBy, storeOn}
+use Rattle.arrivals.specs.Kept.{countedBy, into, intoFrom, intoOff, waits, reachBy, oneBy, known, Counted, Ends, Closed}
+
+module _ (s : Sheet) (σ : Schedule) (free : (u : ℕ) → placeOf σ u ≡ 16) where
+  not-placed : (u : ℕ) → placed σ u ≡ false
+  unfolding placed
+  not-placed u = le-ltb (placeOf σ u) 16 (omega (arith, free u))
+
+  nowhere-on : (u k : ℕ) → k < 16 → stands σ u k ≡ false
+  unfolding stands
+  nowhere-on u k h = ne-eqb (placeOf σ u) k (λ x. absurd (omega (arith, free u)))
+
+  unknown : (q : ℕ → Bool) (x : ℕ → ℕ) (l : ℕ) → countedBy q x (known s σ) l ≡ 0
+  unfolding countedBy
+  unknown q x l = rw (not-placed (sourceOf s l)) (go (q l))
+    where
+      go : (b : Bool) → pick (both b false) (x l) 0 ≡ 0
+      go true = refl
+      go false = refl
+
+  no-sum : (q : ℕ → Bool) (x : ℕ → ℕ) → sum (linkCount s) (countedBy q x (known s σ)) ≡ 0
+  no-sum q x = sum-zeros (linkCount s) (countedBy q x (known s σ)) (λ l h. unknown q x l)
+
+  no-most : (q : ℕ → Bool) (x : ℕ → ℕ) → greatest (linkCount s) (countedBy q x (known s σ)) ≡ 0
+  no-most q x = omega (arith, greatest-le (linkCount s) (countedBy q x (known s σ)) 0 (λ l h. omega (arith, unknown q x l)))
+
+  pub counted-zero : {w : List ℕ} → taskCount s ≤ 256 → ((i : ℕ) → 12304 ≤ i → i < 22528 → getD w i 0 ≡ 0) → Counted s σ (known s σ) w
+  counted-zero {w} few z =
+      record {
+        seen = λ t h. z (12304 + t) (omega arith) (omega arith) ∙ sym (no-sum (into s t) oneBy);
+        arrived = λ t h. z (12560 + t) (omega arith) (omega arith) ∙ sym (no-most (into s t) (reachBy s σ));
+        main = λ t h. z (12560 + t) (omega arith) (omega arith) ∙ sym (no-most (intoFrom s σ t (getD w (13072 + t) 0)) (reachBy s σ));
+        off = λ t h. z (12816 + t) (omega arith) (omega arith) ∙ sym (no-most (intoOff s σ t (getD w (13072 + t) 0)) (reachBy s σ));
+        pending = λ k h. z (13360 + k) (omega arith) (omega arith) ∙ sym (no-sum (waits s σ k) oneBy);
+        count = λ t k h g. z (14336 + (16 * t + k)) (omega arith) (omega arith) ∙ sym (no-sum (intoFrom s σ t k) oneBy);
+        local = λ t k h g. z (18432 + (16 * t + k)) (omega arith) (omega arith) ∙ sym (no-sum (intoFrom s σ t k) (bytesOf s));
+      }
+
+  no-end : (k : ℕ) → k < 16 → endOf s σ k ≡ 0
+  unfolding endOf endBy
+  no-end k h = omega (arith, greatest-le (taskCount s) (endBy s σ k) 0 (λ u l. rw (nowhere-on u k h) (omega arith)))
+
+  no-store : (k : ℕ) → k < 16 → storeOn s σ k ≡ 0
+  unfolding storeOn storeBy bytesBy
+  no-store k h =
+      omega (
+        arith,
+        sum-zeros (taskCount s) (storeBy s σ k) (λ u l. rw (nowhere-on u k h)),
+        sum-zeros (linkCount s) (bytesBy s σ k) (λ l g. rw (nowhere-on (targetOf s l) k h)),
+      )
+
+  pub ends-zero : {w : List ℕ} → ((i : ℕ) → 12304 ≤ i → i < 22528 → getD w i 0 ≡ 0) → Ends s σ w
+  ends-zero z =
+      record { ends = λ k h. z (13328 + k) (omega arith) (omega arith) ∙ sym (no-end k h); stores = λ k h. z (13344 + k) (omega arith) (omega arith) ∙ sym (no-store k h) }
+
+  pub closed-zero : Closed s σ
+  closed-zero l h e = absurd (true≢false (sym e ∙ not-placed (targetOf s l)))

@@ -1,0 +1,99 @@
+-- Folds over the links that are counted: one more is counted.
+use Prim.Native.Nat.{ℕ, _+_, _≤_, _<_, max}
+use mathlib.Core.Bool.{Bool, true, false, not, true≢false}
+use mathlib.Core.Path.{_≡_, refl, sym, _∙_}
+use mathlib.Core.Logic.{_≢_}
+use native.Mathlib.Omega.{arith}
+use Rattle.folds.specs.Folds.{pick, both, sum, greatest}
+use Rattle.folds.proofs.Laws.{sum-point, greatest-point, greatest-le, greatest-mono, term-le-greatest}
+use Rattle.arrivals.specs.Kept.{countedBy}
+
+module _ (q : ℕ → Bool) (x : ℕ → ℕ) (c c′ : ℕ → Bool) (i : ℕ) (was : c i ≡ false) (now : c′ i ≡ true) where
+  pub count-old : countedBy q x c i ≡ 0
+  unfolding countedBy
+  count-old = rw was (go (q i))
+    where
+      go : (b : Bool) → pick (both b false) (x i) 0 ≡ 0
+      go true = refl
+      go false = refl
+
+  pub count-new : countedBy q x c′ i ≡ pick (q i) (x i) 0
+  unfolding countedBy
+  count-new = rw now (go (q i))
+    where
+      go : (b : Bool) → pick (both b true) (x i) 0 ≡ pick b (x i) 0
+      go true = refl
+      go false = refl
+
+  module _ (n : ℕ) (h : i < n) (same : (j : ℕ) → j < n → j ≢ i → c′ j ≡ c j) where
+    count-same : (j : ℕ) → j < n → j ≢ i → countedBy q x c′ j ≡ countedBy q x c j
+    unfolding countedBy
+    count-same j k d = rw (same j k d)
+
+    pub sum-count : sum n (countedBy q x c′) ≡ sum n (countedBy q x c) + pick (q i) (x i) 0
+    sum-count = sum-point n (countedBy q x c) (countedBy q x c′) i (pick (q i) (x i) 0) h (let a = count-old in let b = count-new in omega arith) count-same
+
+    pub greatest-count : greatest n (countedBy q x c′) ≡ max (greatest n (countedBy q x c)) (pick (q i) (x i) 0)
+    greatest-count = greatest-point n (countedBy q x c) (countedBy q x c′) i (pick (q i) (x i) 0) h (let a = count-old in let b = count-new in omega arith) count-same
+
+-- what is asked for and given need agree for the counted links alone
+pub count-agree : (q q′ : ℕ → Bool) (x x′ : ℕ → ℕ) (c c′ : ℕ → Bool) (l : ℕ) → c l ≡ c′ l → (c l ≡ true → (q l ≡ q′ l) × (x l ≡ x′ l)) → countedBy q x c l ≡ countedBy q′ x′ c′ l
+unfolding countedBy
+count-agree q q′ x x′ c c′ l e h = go (c l) refl
+  where
+    off : (b : Bool) (y : ℕ) → pick (both b false) y 0 ≡ 0
+    off true y = refl
+    off false y = refl
+
+    go : (b : Bool) → c l ≡ b → pick (both (q l) (c l)) (x l) 0 ≡ pick (both (q′ l) (c′ l)) (x′ l) 0
+    go true p = let a = h p in rw (← e, a .0, a .1)
+    go false p = rw (← e, p) (off (q l) (x l) ∙ sym (off (q′ l) (x′ l)))
+
+-- The two greatest: from those links that p marks, and from the others.
+module _ (n : ℕ) (q : ℕ → Bool) (x : ℕ → ℕ) (c : ℕ → Bool) where
+  abbrev pub from : (ℕ → Bool) → ℕ
+  from p = greatest n (countedBy (λ l. both (q l) (p l)) x c)
+
+  abbrev pub off : (ℕ → Bool) → ℕ
+  off p = greatest n (countedBy (λ l. both (q l) (not (p l))) x c)
+
+  abbrev pub whole : ℕ
+  whole = greatest n (countedBy q x c)
+
+  term : (a p b : Bool) (y : ℕ) → pick (both (both a p) b) y 0 ≤ pick (both a b) y 0
+  term true true b y = omega arith
+  term true false b y = omega arith
+  term false p b y = omega arith
+
+  pub from-le : (p : ℕ → Bool) → from p ≤ whole
+  unfolding countedBy
+  from-le p = greatest-mono n _ _ (λ i h. term (q i) (p i) (c i) (x i))
+
+  pub off-le : (p : ℕ → Bool) → off p ≤ whole
+  unfolding countedBy
+  off-le p = greatest-mono n _ _ (λ i h. term (q i) (not (p i)) (c i) (x i))
+
+  halves : (a p b : Bool) (y u v : ℕ) → pick (both (both a p) b) y 0 ≤ u → pick (both (both a (not p)) b) y 0 ≤ v → pick (both a b) y 0 ≤ max u v
+  halves true true b y u v h k = omega arith
+  halves true false b y u v h k = omega arith
+  halves false p b y u v h k = omega arith
+
+  -- the whole is the greater of the two
+  pub whole-is : (p : ℕ → Bool) → whole ≡ max (from p) (off p)
+  unfolding countedBy
+  whole-is p = let a = from-le p in let b = off-le p in let d = le in omega arith
+    where
+      le : whole ≤ max (from p) (off p)
+      le = greatest-le n _ _ (λ i h. halves (q i) (p i) (c i) (x i) (from p) (off p) (term-le-greatest n _ i h) (term-le-greatest n _ i h))
+
+  apart : (a p r b : Bool) (y : ℕ) → both p r ≡ false → pick (both (both a p) b) y 0 ≤ pick (both (both a (not r)) b) y 0
+  apart a true true b y e = absurd (true≢false e)
+  apart true true false b y e = omega arith
+  apart false true false b y e = omega arith
+  apart true false r b y e = omega arith
+  apart false false r b y e = omega arith
+
+  -- what p marks is off r, if nothing is marked by both
+  pub from-le-off : (p r : ℕ → Bool) → ((i : ℕ) → i < n → both (p i) (r i) ≡ false) → from p ≤ off r
+  unfolding countedBy
+  from-le-off p r h = greatest-mono n _ _ (λ i k. apart (q i) (p i) (r i) (c i) (x i) (h i k))

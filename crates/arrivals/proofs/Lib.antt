@@ -1,0 +1,9 @@
+pub mod Counts
+pub mod Reaches
+pub mod Words
+pub mod Links
+pub mod Walks
+pub mod Placing
+pub mod Settling
+pub mod Gathering
+pub mod Beginning

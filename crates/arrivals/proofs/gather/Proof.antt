@@ -1,0 +1,46 @@
+use Rattle.arrivals.specs.Steps.{GatheredTo}
+use Rattle.chains.specs.Frames.{Only}
+use Prim.Native.Nat.{_-_, _≤_}
+use native.Mathlib.Omega.{arith}
+use Rattle.arrivals.proofs.Gathering.{gathers-at, gathers-more, gathers-still}
+use borrow.Author.Needs.{needs}
+use Rattle.chains.proofs.Frames.{only-loaded, only-none, only-sheet}
+use Rattle.sheet.specs.Tables.{sheetIn}
+use Rattle.arrivals.proofs.gather.Statement.{statement}
+use Rattle.arrivals.proofs.gather.Tie as tie
+
+abbrev Inv-loop : tie.InvT-loop
+Inv-loop w₀ m l₀ w l = (l ≤ m) × Only 11792 12304 w₀ w × GatheredTo (sheetIn w₀) l w
+
+abbrev μ-loop : tie.MeasureT-loop
+μ-loop w₀ m l₀ w l = m - l
+
+loop-holds : tie.Need-loop-holds Inv-loop μ-loop
+loop-holds c = (omega arith, only-none _ _ _, c .before .before .before .pre .1)
+
+gather-one-requires : tie.Need-gather-one-requires Inv-loop μ-loop
+gather-one-requires c κs = let v = c .before .before .loop .inv in let e = only-sheet (omega arith) (c .before .before .before .before .before .before .pre .0) (v .1) in (only-loaded (omega arith) (c .before .before .before .before .before .before .pre .0) (v .1), (rw e (omega (arith, c .before .loop-test .taken, c .before .before .before .links .ensures .0)), gathers-still (c .before .before .before .before .before .before .pre .0) (v .1) (v .2)))
+
+loop-again : tie.Need-loop-again Inv-loop μ-loop
+loop-again c = let v = c .before .before .before .before .before .loop .inv in let d = gathers-more (c .before .before .before .before .before .before .before .before .before .pre .0) (v .1) (c .before .before .gather-one .ensures) in (omega arith, d .0, d .1)
+
+same-length : tie.Need-same-length Inv-loop μ-loop
+same-length c = c .before .loop .inv .1 .long
+
+returns : tie.Need-returns Inv-loop μ-loop
+returns c = (c .before .loop .inv .1, gathers-at (omega (arith, c .before .loop .inv .0, c .loop-test .left, c .before .before .links .ensures .0)) (c .before .loop .inv .2))
+
+pub gather-spec : {M : Type 1} → statement M
+gather-spec =
+    tie.close
+    (tie.spec
+    Inv-loop
+    μ-loop
+    (λ c κs. search needs)
+    loop-holds
+    gather-one-requires
+    (λ c. search needs)
+    (λ c. search needs)
+    loop-again
+    same-length
+    returns)

@@ -1,0 +1,84 @@
+-- What is kept beside the schedule, so that nothing is computed twice. A link is known once its source is placed.
+use Prim.Native.Nat.{ℕ, _+_, _*_, _≤_, _<_}
+use mathlib.Core.Bool.{Bool, true, not}
+use mathlib.Core.Path.{_≡_}
+use mathlib.Core.List.{List}
+use lib.ListN.{getD}
+use lib.Dec.{eqb}
+use Rattle.folds.specs.Folds.{pick, both, sum, greatest}
+use Rattle.sheet.specs.Sheet.{Sheet, taskCount, linkCount, sourceOf, targetOf, costOf, bytesOf}
+use Rattle.sheet.specs.Tables.{sheetIn, Loaded, Ranged}
+use Rattle.planner.specs.Schedule.{Schedule, finishOf, placed, stands}
+use Rattle.planner.specs.Placing.{endOf, storeOn}
+use Rattle.schedule.specs.Layout.{scheduleIn}
+use Rattle.chains.specs.Chains.{Chained}
+use Rattle.chains.specs.declared.End.the-variants.{Source, Target}
+
+-- what link l gives, if it is counted (c) and of those that are asked for (q)
+unfoldable pub countedBy : (ℕ → Bool) → (ℕ → ℕ) → (ℕ → Bool) → ℕ → ℕ
+countedBy q x c l = pick (both (q l) (c l)) (x l) 0
+
+-- link l leads to t
+abbrev pub into : Sheet → ℕ → ℕ → Bool
+into s t l = eqb (targetOf s l) t
+
+-- .. from a task on k
+abbrev pub intoFrom : Sheet → Schedule → ℕ → ℕ → ℕ → Bool
+intoFrom s σ t k l = both (eqb (targetOf s l) t) (stands σ (sourceOf s l) k)
+
+-- .. from a task that is not on k
+abbrev pub intoOff : Sheet → Schedule → ℕ → ℕ → ℕ → Bool
+intoOff s σ t k l = both (eqb (targetOf s l) t) (not (stands σ (sourceOf s l) k))
+
+-- link l leads from a task on k to one that is not placed
+abbrev pub waits : Sheet → Schedule → ℕ → ℕ → Bool
+waits s σ k l = both (stands σ (sourceOf s l) k) (not (placed σ (targetOf s l)))
+
+abbrev pub known : Sheet → Schedule → ℕ → Bool
+known s σ l = placed σ (sourceOf s l)
+
+-- when the message of l would be there
+abbrev pub reachBy : Sheet → Schedule → ℕ → ℕ
+reachBy s σ l = finishOf σ (sourceOf s l) + costOf s l
+
+abbrev pub oneBy : ℕ → ℕ
+oneBy l = 1
+
+-- all the links into each task
+pub record Gathered (s : Sheet) (w : List ℕ) : Type 0 where
+  pub number : (t : ℕ) → t < taskCount s → getD w (11792 + t) 0 ≡ sum (linkCount s) (countedBy (into s t) oneBy (λ l. true))
+  pub bytes : (t : ℕ) → t < taskCount s → getD w (12048 + t) 0 ≡ sum (linkCount s) (countedBy (into s t) (bytesOf s) (λ l. true))
+
+-- the links that are counted
+pub record Counted (s : Sheet) (σ : Schedule) (c : ℕ → Bool) (w : List ℕ) : Type 0 where
+  pub seen : (t : ℕ) → t < taskCount s → getD w (12304 + t) 0 ≡ sum (linkCount s) (countedBy (into s t) oneBy c)
+  pub arrived : (t : ℕ) → t < taskCount s → getD w (12560 + t) 0 ≡ greatest (linkCount s) (countedBy (into s t) (reachBy s σ) c)
+  pub main : (t : ℕ) → t < taskCount s → getD w (12560 + t) 0 ≡ greatest (linkCount s) (countedBy (intoFrom s σ t (getD w (13072 + t) 0)) (reachBy s σ) c)
+  pub off : (t : ℕ) → t < taskCount s → getD w (12816 + t) 0 ≡ greatest (linkCount s) (countedBy (intoOff s σ t (getD w (13072 + t) 0)) (reachBy s σ) c)
+  pub pending : (k : ℕ) → k < 16 → getD w (13360 + k) 0 ≡ sum (linkCount s) (countedBy (waits s σ k) oneBy c)
+  pub count : (t k : ℕ) → t < taskCount s → k < 16 → getD w (14336 + (16 * t + k)) 0 ≡ sum (linkCount s) (countedBy (intoFrom s σ t k) oneBy c)
+  pub local : (t k : ℕ) → t < taskCount s → k < 16 → getD w (18432 + (16 * t + k)) 0 ≡ sum (linkCount s) (countedBy (intoFrom s σ t k) (bytesOf s) c)
+
+-- the processors
+pub record Ends (s : Sheet) (σ : Schedule) (w : List ℕ) : Type 0 where
+  pub ends : (k : ℕ) → k < 16 → getD w (13328 + k) 0 ≡ endOf s σ k
+  pub stores : (k : ℕ) → k < 16 → getD w (13344 + k) 0 ≡ storeOn s σ k
+
+-- no task is placed before its predecessors
+abbrev pub Closed : Sheet → Schedule → Type 0
+Closed s σ = (l : ℕ) → l < linkCount s → placed σ (targetOf s l) ≡ true → placed σ (sourceOf s l) ≡ true
+
+pub record Caches (s : Sheet) (σ : Schedule) (w : List ℕ) : Type 0 where
+  pub outward : Chained Source s w
+  pub inward : Chained Target s w
+  pub gathered : Gathered s w
+  pub counted : Counted s σ (known s σ) w
+  pub ends : Ends s σ w
+  pub closed : Closed s σ
+
+-- an area that holds a sheet, a schedule, and all that is kept beside it
+pub record Kept (w : List ℕ) : Type 0 where
+  pub loaded : Loaded w
+  pub ranged : Ranged (sheetIn w)
+  pub few-opened : scheduleIn w .opened ≤ 16
+  pub caches : Caches (sheetIn w) (scheduleIn w) w

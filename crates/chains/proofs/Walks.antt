@@ -1,0 +1,53 @@
+-- A walk along a chain passes over links that give nothing.
+use Prim.Native.Nat.{ℕ, _+_, _-_, _≤_, _<_, max}
+use mathlib.Core.Path.{_≡_, ap, _∙_}
+use mathlib.Core.Logic.{_≢_}
+use mathlib.Core.List.{List}
+use native.Mathlib.Omega.{arith}
+use lib.ListN.{getD}
+use Rattle.folds.specs.Folds.{sum}
+use Rattle.folds.proofs.Loops.{sum-more}
+use Rattle.folds.proofs.Laws.{sum-skip}
+use Rattle.sheet.specs.Sheet.{Sheet, taskCount, linkCount}
+use Rattle.chains.specs.Chains.{endBy, headAt, Chained}
+use Rattle.chains.specs.declared.End.{End}
+use Rattle.chains.proofs.Building.{head-place}
+
+-- the chains stand in other words as they did
+pub chained-frame : {e : End} {s : Sheet} {w w′ : List ℕ} → taskCount s ≤ 256 → linkCount s ≤ 1024 → ((i : ℕ) → headAt e ≤ i → i < headAt e + 1280 → getD w′ i 0 ≡ getD w i 0) → Chained e s w → Chained e s w′
+chained-frame {e} {s} {w} {w′} n m f d =
+    record {
+      head-few = λ t h. rw (f (headAt e + t) (omega arith) (omega arith)) (d .head-few t h);
+      head-own = λ t h. rw (f (headAt e + t) (omega arith) (omega arith)) (d .head-own t h);
+      head-none = λ t h. rw (f (headAt e + t) (omega arith) (omega arith)) (d .head-none t h);
+      next-few = λ l h. rw (f (headAt e + 256 + l) (omega arith) (omega arith)) (d .next-few l h);
+      next-more = λ l h. rw (f (headAt e + 256 + l) (omega arith) (omega arith)) (d .next-more l h);
+      next-own = λ l h. rw (f (headAt e + 256 + l) (omega arith) (omega arith)) (d .next-own l h);
+      next-none = λ l h. rw (f (headAt e + 256 + l) (omega arith) (omega arith)) (d .next-none l h);
+    }
+
+-- a sum to which only the links of t give something
+module _ {e : End} {s : Sheet} {w : List ℕ} (d : Chained e s w) (t : ℕ) (t-in : t < taskCount s) (f : ℕ → ℕ) (else : (l : ℕ) → l < linkCount s → endBy e s l ≢ t → f l ≡ 0) where
+  pub own-first : {l : ℕ} → l ≡ getD w (headAt e + t) 0 → l < linkCount s → endBy e s l ≡ t
+  own-first q h = rw q (d .head-own t t-in (rw q at h))
+
+  pub sum-first : {l : ℕ} → l ≡ getD w (headAt e + t) 0 → l ≤ linkCount s → 0 ≡ sum l f
+  unfolding sum
+  sum-first {l} q h = let z : l ≡ 0 + l = omega arith in ap (λ (k : ℕ). 0) z ∙ rest z
+    where
+      rest : l ≡ 0 + l → 0 ≡ sum l f
+      rest z = omega (arith, sum-skip f 0 l (λ i p k. else i (omega arith) (d .head-none t t-in i (omega arith))), ap (λ (k : ℕ). sum k f) z)
+
+  module _ {l l′ : ℕ} (l-in : l < linkCount s) (own : endBy e s l ≡ t) (q : l′ ≡ getD w (headAt e + 256 + l) 0) (more : l < l′) (few : l′ ≤ linkCount s) where
+    pub own-next : l′ < linkCount s → endBy e s l′ ≡ t
+    own-next h = rw q (d .next-own l l-in (rw q at h)) ∙ own
+
+    pub sum-next : {a v : ℕ} → a ≡ sum l f → v ≡ f l → a + v ≡ sum l′ f
+    sum-next {a} {v} p r =
+        let z : l + 1 + (l′ - (l + 1)) ≡ l′ = omega arith in
+        omega (
+          arith,
+          sum-more l f p r,
+          sum-skip f (l + 1) (l′ - (l + 1)) (λ i x y. else i (omega arith) (λ g. d .next-none l l-in i (omega arith) (omega arith) (rw own g))),
+          ap (λ (k : ℕ). sum k f) z,
+        )

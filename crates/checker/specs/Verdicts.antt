@@ -1,0 +1,49 @@
+-- What the checker's code promises: the definition's number and place.
+use Prim.Native.Nat.{ℕ, _≤_, _<_}
+use mathlib.Core.Path.{_≡_}
+use mathlib.Core.List.{List}
+use lib.ListN.{length, getD}
+use Rattle.folds.specs.Answers.{Answer, value, refused, andThen}
+use Rattle.sheet.specs.Sheet.{Sheet}
+use Rattle.sheet.specs.Tables.{sheetIn}
+use Rattle.bundle.specs.Bundle.{Bundle}
+use Rattle.bundle.specs.Format.{readBundle}
+use Rattle.messages.specs.Fields.{Fields}
+use Rattle.messages.specs.Rules.{foundOf}
+use Rattle.messages.specs.Admitted.{Known}
+use Rattle.messages.specs.declared.Found.{Found}
+use Rattle.machine.specs.Machine.{State}
+use Rattle.machine.specs.Runs.{latest}
+use Rattle.machine.specs.Keeps.{Keeps}
+use Rattle.checker.specs.Checker.{at29, closing, checked}
+use Rattle.checker.specs.declared.Verdict.{Verdict}
+use Rattle.checker.specs.declared.Verdict.the-variants.{Good, Refused}
+
+abbrev pub verdictOf : Answer Bundle → Verdict
+verdictOf (value b) = Good
+verdictOf (refused n at) = Refused n at
+
+-- of a bundle's bytes, for a sheet
+unfoldable pub checkedBytes : Sheet → List ℕ → Answer Bundle
+checkedBytes s bundle = andThen (readBundle s bundle) (checked s)
+
+-- by words that keep a state: 29's place, the latest clock, and the end
+pub record UnfinishedIs (w : List ℕ) (r : Found) : Type 0 where
+  pub is-29 : (s : Sheet) (b : Bundle) (sheet bundle : List ℕ) (σ : State) → Keeps s b sheet bundle w σ → foundOf r ≡ at29 b σ
+
+pub record LatestIs (w : List ℕ) (r : ℕ) : Type 0 where
+  pub is-latest : (s : Sheet) (b : Bundle) (sheet bundle : List ℕ) (σ : State) → Keeps s b sheet bundle w σ → r ≡ latest σ
+
+pub record FinishIs (w : List ℕ) (claim : ℕ) (r : Verdict) : Type 0 where
+  pub is-end : (s : Sheet) (b : Bundle) (sheet bundle : List ℕ) (σ : State) → Keeps s b sheet bundle w σ → b .claim ≡ claim → r ≡ verdictOf (closing b σ)
+
+-- any bytes, for a sheet of p processors, n tasks and l links with this limit
+pub record JudgementIs (sheet bundle w last : List ℕ) (p n l limit : ℕ) (r : Verdict) : Type 0 where
+  pub long : length last ≡ length w
+  pub is : (s : Sheet) → Known s sheet p n l limit → 4352 ≤ length w → r ≡ verdictOf (checkedBytes s bundle)
+
+-- any bytes, for the sheet in the tables of the work area, which also lies in its bytes; the tables stay
+pub record CheckIs (sheet bundle w last : List ℕ) (r : Verdict) : Type 0 where
+  pub long : length last ≡ length w
+  pub low : (i : ℕ) → i < 8192 → getD last i 0 ≡ getD w i 0
+  pub is : Fields (sheetIn w) sheet → r ≡ verdictOf (checkedBytes (sheetIn w) bundle)

@@ -1,0 +1,45 @@
+-- The words in which a machine's state is kept, and what one command makes of them.
+--
+--   k (0 to 15) the offset of the command that opens programme k; behind the last one the offset of the claim
+--   17 programmes, 18 tasks of the sheet, 19 links of the sheet, 20 commands still to do
+--   32 + k the offset of the next command of processor k, 48 + k its position, 64 + k its clock, 80 + k its store in use
+--   96 + l for link l 0 while its message is not sent, then one more than the stamp
+use Prim.Native.Nat.{ℕ, zero, suc, _+_, _*_, _-_, _%_, max}
+use mathlib.Core.Option.{Option, none, some}
+use mathlib.Core.List.{List}
+use lib.ListN.{getD, set}
+use Rattle.numbers.specs.Number.{numberAt}
+
+-- the stamp that a word holds
+abbrev pub stampIn : ℕ → Option ℕ
+stampIn zero = none
+stampIn (suc x) = some x
+
+-- a command less to do, and processor k at an offset, one position on, at a clock and a store
+unfoldable pub movedWords : List ℕ → ℕ → ℕ → ℕ → ℕ → List ℕ
+movedWords w k at clock store =
+    set
+    (set
+    (set
+    (set (set w 20 ((getD w 20 0 - 1) % 4294967296)) (32 + k) (at % 4294967296))
+    (48 + k) ((getD w (48 + k) 0 + 1) % 4294967296))
+    (64 + k) (clock % 4294967296))
+    (80 + k) (store % 4294967296)
+
+-- processor k after the command at an offset: a run, a send, a receive
+module _ (sheet bundle w : List ℕ) (k at : ℕ) where
+  unfoldable pub ranWords : List ℕ
+  ranWords =
+      let t = getD bundle (at + 1) 0 in
+      movedWords w k (at + 2) (getD w (64 + k) 0 + numberAt 2 sheet (7 + 5 * t)) (getD w (80 + k) 0 + numberAt 2 sheet (9 + 5 * t))
+
+  unfoldable pub sentWords : List ℕ
+  sentWords =
+      let l = numberAt 2 bundle (at + 1) in
+      let clock = getD w (64 + k) 0 in
+      movedWords (set w (96 + l) ((clock + numberAt 2 sheet (9 + 5 * getD w 18 0 + 7 * l) + 1) % 4294967296)) k (at + 3) clock (getD w (80 + k) 0)
+
+  unfoldable pub gotWords : List ℕ
+  gotWords =
+      let l = numberAt 2 bundle (at + 1) in
+      movedWords w k (at + 3) (max (getD w (64 + k) 0) (getD w (96 + l) 0 - 1)) (getD w (80 + k) 0 + numberAt 2 sheet (11 + 5 * getD w 18 0 + 7 * l))

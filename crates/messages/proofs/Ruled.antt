@@ -1,0 +1,259 @@
+-- 26 and 27 by the notes of a whole bundle.
+use Prim.Native.Nat.{ℕ, zero, suc, _+_, _*_, _/_, _<_, _≤_}
+use mathlib.Core.Path.{_≡_, refl, sym, ap, ap₂, _∙_, subst}
+use mathlib.Core.Bool.{Bool, true, false, not}
+use mathlib.Core.Option.{Option, none, some}
+use mathlib.Core.Logic.{_⊎_, ⊎-elim}
+use mathlib.Core.List.{List}
+use native.Mathlib.Omega.{arith}
+use native.Mathlib.Numerals.{add-one}
+use borrow.Author.Tests.{eqb-true, eq-eqb, ne-eqb, lt-ltb, le-ltb, ltb-true, ltb-false, not-false}
+use lib.ListN.{getD}
+use lib.Dec.{eqb, ltb}
+use Rattle.folds.specs.Folds.{pick, both, first}
+use Rattle.folds.proofs.Tests.{below-suc}
+use Rattle.folds.proofs.Laws.{first-none, none-first}
+use Rattle.sheet.specs.Sheet.{Sheet, taskCount, linkCount, sourceOf, targetOf}
+use Rattle.bundle.specs.Bundle.{Command, run, send, receive, Bundle, programmeCount, programmeOf}
+use Rattle.bundle.specs.Fits.{Known}
+use Rattle.messages.specs.Counting.{whole, is}
+use Rattle.messages.specs.Messages.{notOnce, home, before, insideOk, acrossOk, linkOk, wrongMessage, at26, at27}
+use Rattle.messages.specs.Notes.{slotOf, sofar, rank, Noted, never, again, once, Notes, ahead, insideBy, acrossBy}
+use Rattle.messages.specs.Rules.{foundOf, Given, OnceIs, LinkIs, MessageIs}
+use Rattle.messages.specs.declared.Found.{Found}
+use Rattle.messages.specs.declared.Found.the-variants.{At, Nothing}
+use Rattle.messages.proofs.Ranks.{sofar-whole}
+use Rattle.messages.proofs.Places.{Placed, placed-home, ahead-order, same-programme, before-first, before-second}
+
+-- the least of those below n that has p
+pub first-found : (n : ℕ) (p : ℕ → Bool) (i : ℕ) → ((j : ℕ) → j < i → p j ≡ false) → p i ≡ true → i < n → first n p ≡ some i
+unfolding first
+first-found zero p i h e l = absurd (omega arith)
+first-found (suc n) p i h e l =
+    ⊎-elim (λ (q : i < n). rw (first-found n p i h e q))
+    (λ (q : i ≡ n).
+    let z : first n p ≡ none = none-first n p (λ j k. h j (omega arith)) in
+    let g : p n ≡ true = ap p (sym q) ∙ e in
+    rw (z, g, q))
+    (below-suc l)
+
+-- notes of a whole bundle
+module _ (s : Sheet) (b : Bundle) (w : List ℕ) (count : ℕ) (h : Notes s b (programmeCount b) 0 count w) (c : Command) (k : Known s c) where
+  abbrev x : ℕ
+  x = getD w (2048 + slotOf c) 0
+
+  n : ℕ
+  n = whole b (is c)
+
+  -- it stands once
+  pub once-by : ltb 1 x ≡ eqb (whole b (is c)) 1
+  once-by = by (h .note c k)
+    where
+      e : sofar b (programmeCount b) 0 c ≡ whole b (is c)
+      e = sofar-whole b c
+
+      by : Noted b (programmeCount b) 0 c x → ltb 1 x ≡ eqb (whole b (is c)) 1
+      by (never u v) = le-ltb 1 x (omega arith) ∙ sym (ne-eqb (whole b (is c)) 1 (λ q. omega (arith, e)))
+      by (again u v) = le-ltb 1 x (omega arith) ∙ sym (ne-eqb (whole b (is c)) 1 (λ q. omega (arith, e)))
+      by (once j p u v g) = lt-ltb 1 x (omega arith) ∙ sym (eq-eqb (whole b (is c)) 1 (omega (arith, e)))
+
+  -- it does not stand anywhere
+  pub none-by : eqb x 0 ≡ eqb (whole b (is c)) 0
+  none-by = by (h .note c k)
+    where
+      e : sofar b (programmeCount b) 0 c ≡ whole b (is c)
+      e = sofar-whole b c
+
+      by : Noted b (programmeCount b) 0 c x → eqb x 0 ≡ eqb (whole b (is c)) 0
+      by (never u v) = eq-eqb x 0 u ∙ sym (eq-eqb (whole b (is c)) 0 (omega (arith, e)))
+      by (again u v) = ne-eqb x 0 (λ q. omega arith) ∙ sym (ne-eqb (whole b (is c)) 0 (λ q. omega (arith, e)))
+      by (once j p u v g) = ne-eqb x 0 (λ q. omega arith) ∙ sym (ne-eqb (whole b (is c)) 0 (λ q. omega (arith, e)))
+
+  pub placed : whole b (is c) ≡ 1 → (j : ℕ) × (i : ℕ) × Placed b c j i x
+  placed o = by (h .note c k)
+    where
+      e : sofar b (programmeCount b) 0 c ≡ whole b (is c)
+      e = sofar-whole b c
+
+      by : Noted b (programmeCount b) 0 c x → (j : ℕ) × (i : ℕ) × Placed b c j i x
+      by (never u v) = absurd (omega (arith, e))
+      by (again u v) = absurd (omega (arith, e))
+      by (once j p u v g) = (j, p, record { one = o; here = g; note = u })
+
+-- 26
+pub record Onces (w : List ℕ) (t : ℕ) : Type 0 where
+  pub ones : (j : ℕ) → j < t → 2 ≤ getD w (2048 + j) 0
+
+once-test : (s : Sheet) (b : Bundle) (w : List ℕ) (count : ℕ) → Notes s b (programmeCount b) 0 count w → (t : ℕ) → t < taskCount s → notOnce b t ≡ not (ltb 1 (getD w (2048 + t) 0))
+unfolding notOnce
+once-test s b w count h t l = ap not (sym (once-by s b w count h (run t) l))
+
+pub once-starts : (w : List ℕ) → Onces w 0
+once-starts w = record { ones = λ j l. absurd (omega arith) }
+
+pub once-more : {w : List ℕ} {t : ℕ} → Onces w t → 2 ≤ getD w (2048 + t) 0 → Onces w (t + 1)
+once-more {w} {t} g e =
+    record {
+      ones = λ j l. ⊎-elim (λ (k : j < t). g .ones j k) (λ (q : j ≡ t). subst (λ (i : ℕ). 2 ≤ getD w (2048 + i) 0) (sym q) e) (below-suc (rw add-one at l));
+    }
+
+pub once-found : (w : List ℕ) (t n : ℕ) → Onces w t → t < n → getD w (2048 + t) 0 < 2 → OnceIs w n (At t)
+unfolding at26
+once-found w t n g l e =
+    record {
+      is-26 =
+          λ s b count c h.
+          sym
+          (first-found (taskCount s) (notOnce b) t
+          (λ j k. once-test s b w count h j (omega arith) ∙ ap not (lt-ltb 1 (getD w (2048 + j) 0) (g .ones j k)))
+          (once-test s b w count h t (omega arith) ∙ ap not (le-ltb 1 (getD w (2048 + t) 0) (omega arith))) (omega arith));
+    }
+
+pub once-none : (w : List ℕ) (t n : ℕ) → Onces w t → n ≤ t → OnceIs w n Nothing
+unfolding at26
+once-none w t n g l =
+    record {
+      is-26 =
+          λ s b count c h.
+          sym (none-first (taskCount s) (notOnce b) (λ j k. once-test s b w count h j k ∙ ap not (lt-ltb 1 (getD w (2048 + j) 0) (g .ones j (omega arith)))));
+    }
+
+-- 27
+both-zero : (a b : ℕ) → eqb (a + b) 0 ≡ both (eqb a 0) (eqb b 0)
+both-zero zero b = let e : 0 + b ≡ b = omega arith in ap (λ (x : ℕ). eqb x 0) e
+both-zero (suc a) b = ne-eqb (suc a + b) 0 (λ q. omega arith) ∙ sym (ap (λ (x : Bool). both x (eqb b 0)) (ne-eqb (suc a) 0 (λ q. omega arith)))
+
+both-three : (p q r : Bool) → both (both p q) r ≡ both p (both q r)
+both-three true q r = refl
+both-three false q r = refl
+
+module _ (s : Sheet) (b : Bundle) (sheet w : List ℕ) (h : Given s b sheet w) (l : ℕ) (kl : l < linkCount s) (once : at26 s b ≡ none) where
+  run-one : (t : ℕ) → t < taskCount s → whole b (is (run t)) ≡ 1
+  unfolding at26 notOnce
+  run-one t k = eqb-true (whole b (is (run t))) 1 (not-false (eqb (whole b (is (run t))) 1) (first-none (taskCount s) (notOnce b) once t k))
+
+  abbrev noteOf : Command → ℕ
+  noteOf c = getD w (2048 + slotOf c) 0
+
+  abbrev source : Command
+  source = run (sourceOf s l)
+
+  abbrev target : Command
+  target = run (targetOf s l)
+
+  from : (j : ℕ) × (i : ℕ) × Placed b source j i (noteOf source)
+  from = placed s b w (h .count) (h .notes) source (h .source l kl) (run-one (sourceOf s l) (h .source l kl))
+
+  to : (j : ℕ) × (i : ℕ) × Placed b target j i (noteOf target)
+  to = placed s b w (h .count) (h .notes) target (h .target l kl) (run-one (targetOf s l) (h .target l kl))
+
+  inside-by : from .0 ≡ to .0 → insideBy (noteOf source) (noteOf target) (noteOf (send l)) (noteOf (receive l)) ≡ insideOk s b l (to .0)
+  unfolding insideBy insideOk ahead
+  inside-by e =
+      let f = from .2 in
+      let t = to .2 in
+      let p = eqb (whole b (is (send l))) 0 in
+      let q = eqb (whole b (is (receive l))) 0 in
+      let r = ltb (noteOf source) (noteOf target) in
+      let same : eqb (noteOf source / 4096) (noteOf target / 4096) ≡ true = same-programme s (h .few) (h .less) (h .source l kl) f t ∙ eq-eqb (from .0) (to .0) e in
+      let last : before source target (programmeOf b (to .0)) ≡ r = before-second s (h .few) (h .less) (h .source l kl) f t ∙ ap (λ (v : Bool). both v r) same in
+      ap₂ (λ (u v : Bool). both u (both v r)) (none-by s b w (h .count) (h .notes) (send l) kl) (none-by s b w (h .count) (h .notes) (receive l) kl)
+      ∙ sym (both-three p q r)
+      ∙ ap₂ both (sym (both-zero (whole b (is (send l))) (whole b (is (receive l))))) (sym last)
+
+  across-by : acrossBy (noteOf source) (noteOf target) (noteOf (send l)) (noteOf (receive l)) ≡ acrossOk s b l (from .0) (to .0)
+  unfolding acrossBy acrossOk
+  across-by =
+      rw (once-by s b w (h .count) (h .notes) (send l) kl, once-by s b w (h .count) (h .notes) (receive l) kl)
+      (by (eqb (whole b (is (send l))) 1) (eqb (whole b (is (receive l))) 1) refl refl)
+    where
+      by : (p q : Bool) → eqb (whole b (is (send l))) 1 ≡ p → eqb (whole b (is (receive l))) 1 ≡ q
+          → both p (both q (both (ahead (noteOf source) (noteOf (send l))) (ahead (noteOf (receive l)) (noteOf target))))
+          ≡ both p (both q (both (before source (send l) (programmeOf b (from .0))) (before (receive l) target (programmeOf b (to .0)))))
+      by false q e f = refl
+      by true false e f = refl
+      by true true e f =
+          let ps = placed s b w (h .count) (h .notes) (send l) kl (eqb-true (whole b (is (send l))) 1 e) in
+          let pr = placed s b w (h .count) (h .notes) (receive l) kl (eqb-true (whole b (is (receive l))) 1 f) in
+          ap₂ both (sym (before-first s (h .few) (h .less) (h .source l kl) (from .2) (ps .2))) (sym (before-second s (h .few) (h .less) kl (pr .2) (to .2)))
+
+  wrong-by : wrongMessage s b l ≡ not (linkOk s b l (from .0) (to .0))
+  unfolding wrongMessage
+  wrong-by = ap₂ (λ (j k : ℕ). not (linkOk s b l j k)) (placed-home (from .2)) (placed-home (to .2))
+
+  programmes-by : eqb (noteOf source / 4096) (noteOf target / 4096) ≡ eqb (from .0) (to .0)
+  programmes-by = same-programme s (h .few) (h .less) (h .source l kl) (from .2) (to .2)
+
+  pub inside-wrong : noteOf source / 4096 ≡ noteOf target / 4096 → not (insideBy (noteOf source) (noteOf target) (noteOf (send l)) (noteOf (receive l))) ≡ wrongMessage s b l
+  inside-wrong e =
+      let f : eqb (from .0) (to .0) ≡ true = sym programmes-by ∙ eq-eqb (noteOf source / 4096) (noteOf target / 4096) e in
+      sym (wrong-by ∙ ap (λ (v : Bool). not (pick v (insideOk s b l (to .0)) (acrossOk s b l (from .0) (to .0)))) f ∙ ap not (sym (inside-by (eqb-true (from .0) (to .0) f))))
+
+  pub across-wrong : (noteOf source / 4096 ≡ noteOf target / 4096 → ⊥) → not (acrossBy (noteOf source) (noteOf target) (noteOf (send l)) (noteOf (receive l))) ≡ wrongMessage s b l
+  across-wrong e =
+      let f : eqb (from .0) (to .0) ≡ false = sym programmes-by ∙ ne-eqb (noteOf source / 4096) (noteOf target / 4096) e in
+      sym (wrong-by ∙ ap (λ (v : Bool). not (pick v (insideOk s b l (to .0)) (acrossOk s b l (from .0) (to .0)))) f ∙ ap not (sym across-by))
+
+-- by the numbers that the code reads
+module _
+    (sheet w : List ℕ) (n l source target a t sent got : ℕ) (r : Bool) (es : source ≡ getD sheet (7 + 5 * n + 7 * l) 0) (et : target ≡ getD sheet (8 + 5 * n + 7 * l) 0)
+    (ea : a ≡ getD w (2048 + source) 0) (eb : t ≡ getD w (2048 + target) 0) (ec : sent ≡ getD w (2048 + (256 + l)) 0) (ed : got ≡ getD w (2048 + (1280 + l)) 0) where
+  module _ (s : Sheet) (b : Bundle) (e : taskCount s ≡ n) (kl : l < linkCount s) (h : Given s b sheet w) where
+    a-is : a ≡ getD w (2048 + sourceOf s l) 0
+    a-is = ea ∙ ap (λ (i : ℕ). getD w (2048 + i) 0) (es ∙ ap (λ (i : ℕ). getD sheet (7 + 5 * i + 7 * l) 0) (sym e) ∙ h .fields .source l kl)
+
+    t-is : t ≡ getD w (2048 + targetOf s l) 0
+    t-is = eb ∙ ap (λ (i : ℕ). getD w (2048 + i) 0) (et ∙ ap (λ (i : ℕ). getD sheet (8 + 5 * i + 7 * l) 0) (sym e) ∙ h .fields .target l kl)
+
+  pub link-inside : a / 4096 ≡ t / 4096 → r ≡ insideBy a t sent got → LinkIs sheet w n l r
+  link-inside q g =
+      record {
+        is-ok =
+            λ s b e kl h o.
+            let x = a-is s b e kl h in
+            let y = t-is s b e kl h in
+            ap not (g ∙ ap₂ (λ (i j : ℕ). insideBy i j sent got) x y ∙ ap₂ (λ (i j : ℕ). insideBy (getD w (2048 + sourceOf s l) 0) (getD w (2048 + targetOf s l) 0) i j) ec ed)
+            ∙ inside-wrong s b sheet w h l kl o (sym (ap (λ (i : ℕ). i / 4096) x) ∙ q ∙ ap (λ (i : ℕ). i / 4096) y);
+      }
+
+  pub link-across : (a / 4096 ≡ t / 4096 → ⊥) → r ≡ acrossBy a t sent got → LinkIs sheet w n l r
+  link-across q g =
+      record {
+        is-ok =
+            λ s b e kl h o.
+            let x = a-is s b e kl h in
+            let y = t-is s b e kl h in
+            ap not (g ∙ ap₂ (λ (i j : ℕ). acrossBy i j sent got) x y ∙ ap₂ (λ (i j : ℕ). acrossBy (getD w (2048 + sourceOf s l) 0) (getD w (2048 + targetOf s l) 0) i j) ec ed)
+            ∙ across-wrong s b sheet w h l kl o (λ z. q (ap (λ (i : ℕ). i / 4096) x ∙ z ∙ sym (ap (λ (i : ℕ). i / 4096) y)));
+      }
+
+-- the pass over the links
+pub record Oks (sheet w : List ℕ) (n l : ℕ) : Type 0 where
+  pub oks : (i : ℕ) → i < l → LinkIs sheet w n i true
+
+pub oks-start : (sheet w : List ℕ) (n : ℕ) → Oks sheet w n 0
+oks-start sheet w n = record { oks = λ i l. absurd (omega arith) }
+
+pub oks-more : {sheet w : List ℕ} {n l : ℕ} (r : Bool) → Oks sheet w n l → r ≡ true → LinkIs sheet w n l r → Oks sheet w n (l + 1)
+oks-more {sheet} {w} {n} {l} r g e h =
+    record {
+      oks =
+          λ i m.
+          ⊎-elim (λ (k : i < l). g .oks i k) (λ (q : i ≡ l). subst (λ (x : ℕ). LinkIs sheet w n x true) (sym q) (subst (LinkIs sheet w n l) e h)) (below-suc (rw add-one at m));
+    }
+
+pub oks-found : (sheet w : List ℕ) (n m l : ℕ) (r : Bool) → Oks sheet w n l → l < m → r ≡ false → LinkIs sheet w n l r → MessageIs sheet w n m (At l)
+unfolding at27
+oks-found sheet w n m l r g k e h =
+    record {
+      is-27 =
+          λ s b c d i o.
+          sym
+          (first-found (linkCount s) (wrongMessage s b) l (λ j q. sym (g .oks j q .is-ok s b c (omega arith) i o))
+          (sym (h .is-ok s b c (omega arith) i o) ∙ ap not e) (omega arith));
+    }
+
+pub oks-none : (sheet w : List ℕ) (n m l : ℕ) → Oks sheet w n l → m ≤ l → MessageIs sheet w n m Nothing
+unfolding at27
+oks-none sheet w n m l g k =
+    record { is-27 = λ s b c d i o. sym (none-first (linkCount s) (wrongMessage s b) (λ j q. sym (g .oks j (omega arith) .is-ok s b c q i o))) }

@@ -1,0 +1,89 @@
+-- What one pass over a bundle notes of each command: nothing while it was not met, 1 once it was met twice, and else in which programme it stands and how many other commands were met before it.
+--
+-- Of two commands that stand once each in one programme, the one that stands first has the smaller note; and a note fits a word however long the bundle is.
+use Prim.Native.Nat.{ℕ, suc, _+_, _*_, _-_, _/_, _%_, _≤_, _<_}
+use mathlib.Core.Path.{_≡_}
+use mathlib.Core.Bool.{Bool}
+use mathlib.Core.Option.{some}
+use mathlib.Core.List.{List}
+use lib.ListN.{length, getD, set, take, getElem?}
+use lib.Dec.{eqb, ltb}
+use Rattle.folds.specs.Folds.{pick, bit, both, sum}
+use Rattle.folds.specs.Answers.{value}
+use Rattle.numbers.specs.Number.{numberAt}
+use Rattle.sheet.specs.Sheet.{Sheet, taskCount, linkCount}
+use Rattle.bundle.specs.Bundle.{Command, run, send, receive, Bundle, programmeCount, programmeOf}
+use Rattle.bundle.specs.Format.{readBundle}
+use Rattle.bundle.specs.Fits.{Known}
+use Rattle.messages.specs.Counting.{weigh, wholeOf, is}
+
+-- a slot for each command that a sheet allows, and the command of a slot
+abbrev pub slotOf : Command → ℕ
+slotOf (run t) = t
+slotOf (send l) = 256 + l
+slotOf (receive l) = 1280 + l
+
+unfoldable pub commandOf : ℕ → Command
+commandOf x = pick (ltb x 256) (run x) (pick (ltb x 1280) (send (x - 256)) (receive (x - 1280)))
+
+-- how often c stands in the programmes below k and among the first i commands of programme k
+unfoldable pub sofar : Bundle → ℕ → ℕ → Command → ℕ
+sofar b k i c = sum k (wholeOf b (is c)) + weigh (is c) (take i (programmeOf b k))
+
+-- how many commands were met by then, each counted once
+unfoldable pub met : Bundle → ℕ → ℕ → ℕ → ℕ
+met b k i x = bit (ltb 0 (sofar b k i (commandOf x)))
+
+unfoldable pub rank : Bundle → ℕ → ℕ → ℕ
+rank b k i = sum 2304 (met b k i)
+
+-- x is the note of c by then
+pub data Noted (b : Bundle) (k i : ℕ) (c : Command) (x : ℕ) : Type 0 where
+  never : x ≡ 0 → sofar b k i c ≡ 0 → Noted b k i c x
+  again : x ≡ 1 → 2 ≤ sofar b k i c → Noted b k i c x
+  once : (j p : ℕ) → x ≡ 4096 * suc j + rank b j p → sofar b k i c ≡ 1 → getElem? (programmeOf b j) p ≡ some c → Noted b k i c x
+
+-- words from 2048 on have the notes of all commands, and r were met
+pub record Notes (s : Sheet) (b : Bundle) (k i r : ℕ) (w : List ℕ) : Type 0 where
+  pub note : (c : Command) → Known s c → Noted b k i c (getD w (2048 + slotOf c) 0)
+  pub count : r ≡ rank b k i
+
+-- the slot and the size of the command at an offset
+unfoldable pub slotAt : List ℕ → ℕ → ℕ
+slotAt b at =
+    pick (eqb (getD b at 0) 0x52) (getD b (at + 1) 0)
+    (pick (eqb (getD b at 0) 0x53) (256 + numberAt 2 b (at + 1)) (1280 + numberAt 2 b (at + 1)))
+
+unfoldable pub sizeAt : List ℕ → ℕ → ℕ
+sizeAt b at = pick (eqb (getD b at 0) 0x52) 2 3
+
+-- a command of slot x was met in programme k, as the command number r
+unfoldable pub notedWords : List ℕ → ℕ → ℕ → ℕ → List ℕ
+notedWords w x k r = set w (2048 + x) (pick (eqb (getD w (2048 + x) 0) 0) ((4096 * (k % 16 + 1) + r) % 4294967296) 1)
+
+-- the words before the notes are as they were
+pub record Kept (w last : List ℕ) : Type 0 where
+  pub long : length last ≡ length w
+  pub low : (i : ℕ) → i < 2048 → getD last i 0 ≡ getD w i 0
+
+-- no command is noted
+pub record BlankIs (w last : List ℕ) : Type 0 where
+  pub kept : Kept w last
+  pub zeros : (i : ℕ) → 2048 ≤ i → i < 4352 → getD last i 0 ≡ 0
+
+-- after the pass over any bundle
+pub record NotesIs (bundle w last : List ℕ) : Type 0 where
+  pub kept : Kept w last
+  pub notes : (s : Sheet) (b : Bundle) → taskCount s ≤ 256 → linkCount s ≤ 1024 → programmeCount b ≤ 16 → 4352 ≤ length w
+      → ((i : ℕ) → getD bundle i 0 < 256) → readBundle s bundle ≡ value b → (r : ℕ) × Notes s b (programmeCount b) 0 r last
+
+-- by their notes, a command stands before another in one programme
+unfoldable pub ahead : ℕ → ℕ → Bool
+ahead x y = both (eqb (x / 4096) (y / 4096)) (ltb x y)
+
+-- 27 by the notes of a link's source, target, send and receive: both tasks in one programme, and in two
+unfoldable pub insideBy : ℕ → ℕ → ℕ → ℕ → Bool
+insideBy a t s r = both (eqb s 0) (both (eqb r 0) (ltb a t))
+
+unfoldable pub acrossBy : ℕ → ℕ → ℕ → ℕ → Bool
+acrossBy a t s r = both (ltb 1 s) (both (ltb 1 r) (both (ahead a s) (ahead r t)))

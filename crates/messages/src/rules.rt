@@ -1,0 +1,93 @@
+// 26 and 27, by the notes of a bundle's commands.
+ghost use mathlib.Core.Path.{_≡_};
+ghost use Prim.Native.Nat.{_+_, _<_};
+ghost use Rattle.messages.specs.Notes.{ahead, insideBy, acrossBy};
+ghost use Rattle.messages.specs.Rules.{OnceIs, LinkIs, MessageIs};
+use crate::Found;
+
+// 26: the lowest of n tasks that does not run just once.
+pub fn not_once(w: &[u32], n: usize) -> Found
+    requires { ⌜ n < 65536 ⌝ }
+    ensures { λ r. ⌜ OnceIs (now (w .entry)) n r ⌝ }
+{
+    let mut t = 0;
+    while t < n {
+        if words::word(w, 2048 + t) < 2 {
+            return Found::At(t);
+        }
+        t += 1;
+    }
+    Found::Nothing
+}
+
+// By their notes, the command of x stands before that of y, in one programme.
+fn precedes(x: usize, y: usize) -> bool
+    ensures { λ r. ⌜ r ≡ ahead x y ⌝ }
+{
+    if x / 4096 != y / 4096 {
+        return false;
+    }
+    x < y
+}
+
+// A link inside one programme, by the notes of its source, target, send and receive: no message, and its source runs first.
+fn inside(a: usize, t: usize, sent: usize, got: usize) -> bool
+    ensures { λ r. ⌜ r ≡ insideBy a t sent got ⌝ }
+{
+    if sent != 0 {
+        return false;
+    }
+    if got != 0 {
+        return false;
+    }
+    a < t
+}
+
+// A link between two programmes: sent once behind its source, received once before its target.
+fn across(a: usize, t: usize, sent: usize, got: usize) -> bool
+    ensures { λ r. ⌜ r ≡ acrossBy a t sent got ⌝ }
+{
+    if sent < 2 {
+        return false;
+    }
+    if got < 2 {
+        return false;
+    }
+    if precedes(a, sent) {
+        return precedes(got, t);
+    }
+    false
+}
+
+// Whether the messages of link l are as they should be, behind n tasks.
+fn link_ok(sheet: &[u8], w: &[u32], n: usize, l: usize) -> bool
+    requires { ⌜ (n < 65536) × (l < 65536) ⌝ }
+    ensures { λ r. ⌜ LinkIs (now (sheet .entry)) (now (w .entry)) n l r ⌝ }
+{
+    let source = words::byte(sheet, 7 + 5 * n + 7 * l);
+    let target = words::byte(sheet, 8 + 5 * n + 7 * l);
+    let a = words::word(w, 2048 + source);
+    let t = words::word(w, 2048 + target);
+    let sent = words::word(w, 2048 + (256 + l));
+    let got = words::word(w, 2048 + (1280 + l));
+    if a / 4096 == t / 4096 {
+        return inside(a, t, sent, got);
+    }
+    across(a, t, sent, got)
+}
+
+// 27: the lowest of m links, behind n tasks, whose messages are not as they should be.
+pub fn wrong_message(sheet: &[u8], w: &[u32], n: usize, m: usize) -> Found
+    requires { ⌜ (n < 65536) × (m < 65536) ⌝ }
+    ensures { λ r. ⌜ MessageIs (now (sheet .entry)) (now (w .entry)) n m r ⌝ }
+{
+    let mut l = 0;
+    while l < m {
+        if link_ok(sheet, w, n, l) {
+            l += 1;
+        } else {
+            return Found::At(l);
+        }
+    }
+    Found::Nothing
+}

@@ -1,0 +1,5 @@
+pub mod Leads
+pub mod Starts
+pub mod Spent
+pub mod Guards
+pub mod Steps

@@ -1,0 +1,178 @@
+-- The idle test by counts: a processor is spent for t if as many links from it wait as lead from it to successors of t.
+use Prim.Native.Nat.{ℕ, zero, suc, _+_, _*_, _≤_, _<_}
+use mathlib.Core.Bool.{Bool, true, false, not, true≢false}
+use mathlib.Core.Path.{_≡_, refl, ap, sym, _∙_}
+use mathlib.Core.Logic.{_≢_}
+use mathlib.Core.List.{List}
+use native.Mathlib.Omega.{arith}
+use native.Mathlib.Decide.{ℕ-discrete}
+use borrow.Author.Tests.{eq-eqb, ne-eqb, lt-ltb, eqb-true}
+use lib.ListN.{getD}
+use lib.Dec.{eqb, ltb}
+use Rattle.folds.specs.Folds.{pick, both, either, any, all, sum}
+use Rattle.folds.proofs.Tests.{both-parts}
+use Rattle.folds.proofs.Laws.{sum-zeros, sum-cong, sum-mono, sum-swap, all-eqb, none-any}
+use Rattle.sheet.specs.Sheet.{Sheet, taskCount, linkCount, sourceOf, targetOf}
+use Rattle.sheet.specs.Tables.{sheetIn, Ranged}
+use Rattle.planner.specs.Schedule.{Schedule, placed, stands, placeOf}
+use Rattle.planner.specs.Placing.{followsBy, follows, spentBy, spent}
+use Rattle.planner.proofs.Ready.{ready-free}
+use Rattle.schedule.specs.Layout.{scheduleIn}
+use Rattle.arrivals.specs.Kept.{countedBy, intoFrom, waits, oneBy, known, Closed, Counted, Caches}
+use Rattle.placing.specs.Choosing.{Single, Choosing, dueBy}
+
+-- at most one i below n has p: the number of those with p is 1 or 0
+sum-single : (n : ℕ) (p : ℕ → Bool) → ((i j : ℕ) → i < n → j < n → p i ≡ true → p j ≡ true → i ≡ j) → sum n (λ i. pick (p i) 1 0) ≡ pick (any n p) 1 0
+unfolding sum any
+sum-single zero p h = refl
+sum-single (suc n) p h = go (p n) refl (sum-single n p (λ i j a b. h i j (omega arith) (omega arith)))
+  where
+    others : p n ≡ true → (i : ℕ) → i < n → p i ≡ false
+    others e i k = at (p i) refl
+      where
+        at : (b : Bool) → p i ≡ b → p i ≡ false
+        at true q = let z : i ≡ n = h i n (omega arith) (omega arith) q e in absurd (omega arith)
+        at false q = q
+
+    go : (b : Bool) → p n ≡ b → sum n (λ i. pick (p i) 1 0) ≡ pick (any n p) 1 0 → sum n (λ i. pick (p i) 1 0) + pick (p n) 1 0 ≡ pick (either (any n p) (p n)) 1 0
+    go true e ih =
+        let a : any n p ≡ false = none-any n p (others e) in
+        let b : sum n (λ i. pick (p i) 1 0) ≡ 0 = ih ∙ rw a in
+        rw (a, e) (omega arith)
+    go false e ih = rw e (last (any n p) ih)
+      where
+        last : (b : Bool) → sum n (λ i. pick (p i) 1 0) ≡ pick b 1 0 → sum n (λ i. pick (p i) 1 0) + 0 ≡ pick (either b false) 1 0
+        last true q = omega arith
+        last false q = omega arith
+
+module _ (s : Sheet) (σ : Schedule) (t k : ℕ) (k-in : k < 16) (free : placed σ t ≡ false) (closed : Closed s σ) (single : Single s) where
+  abbrev part : ℕ → ℕ → ℕ
+  part i l = pick (eqb (sourceOf s i) t) (countedBy (intoFrom s σ (targetOf s i) k) oneBy (known s σ) l) 0
+
+  spread : (b : Bool) (n : ℕ) (f : ℕ → ℕ) → pick b (sum n f) 0 ≡ sum n (λ l. pick b (f l) 0)
+  spread true n f = refl
+  spread false n f = sym (sum-zeros n (λ l. 0) (λ l h. refl))
+
+  standing : (u : ℕ) → stands σ u k ≡ true → placed σ u ≡ true
+  unfolding stands placed
+  standing u e = lt-ltb (placeOf σ u) 16 (omega (arith, eqb-true (placeOf σ u) k e))
+
+  turned : (a b : ℕ) → Dec (a ≡ b) → eqb a b ≡ eqb b a
+  turned a b (yes e) = eq-eqb a b e ∙ sym (eq-eqb b a (sym e))
+  turned a b (no e) = ne-eqb a b e ∙ sym (ne-eqb b a (λ x. e (sym x)))
+
+  hit : (i l : ℕ) → stands σ (sourceOf s l) k ≡ true → part i l ≡ pick (followsBy s (targetOf s l) t i) 1 0
+  unfolding countedBy followsBy
+  hit i l e =
+      rw (e, standing (sourceOf s l) e, turned (targetOf s l) (targetOf s i) (ℕ-discrete (targetOf s l) (targetOf s i))) (go (eqb (sourceOf s i) t) (eqb (targetOf s i) (targetOf s l)))
+    where
+      go : (a b : Bool) → _≡_ {A = ℕ} (pick a (pick (both (both b true) true) 1 0) 0) (pick (both a b) 1 0)
+      go true true = refl
+      go true false = refl
+      go false b = refl
+
+  miss : (i l : ℕ) → stands σ (sourceOf s l) k ≡ false → part i l ≡ 0
+  unfolding countedBy
+  miss i l e = rw e (go (eqb (sourceOf s i) t) (eqb (targetOf s l) (targetOf s i)))
+    where
+      go : (a b : Bool) → _≡_ {A = ℕ} (pick a (pick (both (both b false) (placed σ (sourceOf s l))) 1 0) 0) 0
+      go true true = refl
+      go true false = refl
+      go false b = refl
+
+  one-of : (u i j : ℕ) → i < linkCount s → j < linkCount s → followsBy s u t i ≡ true → followsBy s u t j ≡ true → i ≡ j
+  unfolding followsBy
+  one-of u i j h g p q =
+      let a = both-parts (eqb (sourceOf s i) t) (eqb (targetOf s i) u) p in
+      let b = both-parts (eqb (sourceOf s j) t) (eqb (targetOf s j) u) q in
+      single .once i j h g (eqb-true (sourceOf s i) t (a .0) ∙ sym (eqb-true (sourceOf s j) t (b .0))) (eqb-true (targetOf s i) u (a .1) ∙ sym (eqb-true (targetOf s j) u (b .1)))
+
+  column : (l : ℕ) → (b : Bool) → stands σ (sourceOf s l) k ≡ b → sum (linkCount s) (λ i. part i l) ≡ pick (both (stands σ (sourceOf s l) k) (follows s (targetOf s l) t)) 1 0
+  unfolding follows
+  column l true e =
+      rw e (sum-cong (linkCount s) (λ i. part i l) (λ i. pick (followsBy s (targetOf s l) t i) 1 0) (λ i h. hit i l e) ∙ sum-single (linkCount s) (followsBy s (targetOf s l) t) (one-of (targetOf s l)))
+  column l false e = rw e (sum-zeros (linkCount s) (λ i. part i l) (λ i h. miss i l e))
+
+  -- the links from k to successors of t, link by link
+  abbrev followed : ℕ → ℕ
+  followed l = pick (both (stands σ (sourceOf s l) k) (follows s (targetOf s l) t)) 1 0
+
+  due-is : sum (linkCount s) (dueBy s σ t k) ≡ sum (linkCount s) followed
+  unfolding dueBy
+  due-is =
+      sum-cong (linkCount s) (dueBy s σ t k) (λ i. sum (linkCount s) (λ l. part i l)) (λ i h. spread (eqb (sourceOf s i) t) (linkCount s) (countedBy (intoFrom s σ (targetOf s i) k) oneBy (known s σ)))
+      ∙ sum-swap (linkCount s) (linkCount s) (λ i l. part i l)
+      ∙ sum-cong (linkCount s) (λ l. sum (linkCount s) (λ i. part i l)) followed (λ l h. column l (stands σ (sourceOf s l) k) refl)
+
+  -- a successor of t is not placed
+  behind : (l : ℕ) → l < linkCount s → placed σ (targetOf s l) ≡ true → follows s (targetOf s l) t ≡ false
+  unfolding follows followsBy
+  behind l h e = none-any (linkCount s) (followsBy s (targetOf s l) t) (λ i g. apart i g (ℕ-discrete (sourceOf s i) t) (ℕ-discrete (targetOf s i) (targetOf s l)))
+    where
+      apart : (i : ℕ) → i < linkCount s → Dec (sourceOf s i ≡ t) → Dec (targetOf s i ≡ targetOf s l) → both (eqb (sourceOf s i) t) (eqb (targetOf s i) (targetOf s l)) ≡ false
+      apart i g (no a) b = rw (ne-eqb (sourceOf s i) t a)
+      apart i g (yes a) (no b) = rw (eq-eqb (sourceOf s i) t a, ne-eqb (targetOf s i) (targetOf s l) b)
+      apart i g (yes a) (yes b) = absurd (true≢false (sym (closed i g (ap (placed σ) b ∙ e)) ∙ ap (placed σ) a ∙ free))
+
+  abbrev waiting : ℕ → ℕ
+  waiting = countedBy (waits s σ k) oneBy (known s σ)
+
+  less : (l : ℕ) → l < linkCount s → followed l ≤ waiting l
+  unfolding countedBy
+  less l h = go (stands σ (sourceOf s l) k) (placed σ (targetOf s l)) (follows s (targetOf s l) t) (placed σ (sourceOf s l)) (behind l h) (standing (sourceOf s l))
+    where
+      go : (a p f d : Bool) → (p ≡ true → f ≡ false) → (a ≡ true → d ≡ true) → pick (both a f) 1 0 ≤ pick (both (both a (not p)) d) 1 0
+      go false p f d h g = omega arith
+      go true p false d h g = omega arith
+      go true false true true h g = omega arith
+      go true false true false h g = absurd (true≢false (sym (g refl)))
+      go true true true d h g = absurd (true≢false (h refl))
+
+  each : (l : ℕ) → l < linkCount s → spentBy s σ t k l ≡ eqb (followed l) (waiting l)
+  unfolding spentBy countedBy
+  each l h = go (stands σ (sourceOf s l) k) (placed σ (targetOf s l)) (follows s (targetOf s l) t) (placed σ (sourceOf s l)) (behind l h) (standing (sourceOf s l))
+    where
+      go : (a p f d : Bool) → (p ≡ true → f ≡ false) → (a ≡ true → d ≡ true) → either (not a) (either p f) ≡ eqb (pick (both a f) 1 0) (pick (both (both a (not p)) d) 1 0)
+      go false p f d h g = refl
+      go true false true true h g = refl
+      go true false false true h g = refl
+      go true true false d h g = refl
+      go true true true d h g = absurd (true≢false (h refl))
+      go true false f false h g = absurd (true≢false (sym (g refl)))
+
+  spent-is : eqb (sum (linkCount s) (dueBy s σ t k)) (sum (linkCount s) waiting) ≡ spent s σ t k
+  unfolding spent
+  spent-is = rw due-is (all-eqb (linkCount s) followed waiting (spentBy s σ t k) less each)
+
+  -- where nothing waits, nothing is due
+  due-none : sum (linkCount s) waiting ≡ 0 → sum (linkCount s) (dueBy s σ t k) ≡ 0
+  due-none e = omega (arith, due-is, sum-mono (linkCount s) followed waiting less)
+
+module _ (w : List ℕ) (t k : ℕ) (c : Choosing w t) (k-in : k < 16) {p : ℕ} (ep : p ≡ getD w (13360 + k) 0) where
+  abbrev s : Sheet
+  s = sheetIn w
+
+  abbrev σ : Schedule
+  σ = scheduleIn w
+
+  waiting-is : p ≡ sum (linkCount s) (countedBy (waits s σ k) oneBy (known s σ))
+  waiting-is = ep ∙ c .kept .caches .counted .pending k k-in
+
+  pub spent-kept : {d : ℕ} → d ≡ sum (linkCount s) (dueBy s σ t k) → eqb d p ≡ spent s σ t k
+  spent-kept q = rw (q, waiting-is) (spent-is s σ t k k-in (ready-free s σ t (c .isReady)) (c .kept .caches .closed) (c .single))
+
+  pub spent-none : p ≡ 0 → true ≡ spent s σ t k
+  spent-none e =
+      let d = due-none s σ t k k-in (ready-free s σ t (c .isReady)) (c .kept .caches .closed) (c .single) (sym waiting-is ∙ e) in
+      sym (eq-eqb (sum (linkCount s) (dueBy s σ t k)) p (d ∙ sym e)) ∙ spent-kept refl
+
+-- a link that does not lead from t counts nothing
+pub due-else : (s : Sheet) (σ : Schedule) (t k l : ℕ) → sourceOf s l ≢ t → dueBy s σ t k l ≡ 0
+unfolding dueBy
+due-else s σ t k l n = rw (ne-eqb (sourceOf s l) t n)
+
+pub due-own : {s : Sheet} {σ : Schedule} {w : List ℕ} → Ranged s → Counted s σ (known s σ) w → (t k l : ℕ) → k < 16 → l < linkCount s → sourceOf s l ≡ t → {v x : ℕ} → v ≡ targetOf s l → x ≡ getD w (14336 + (16 * v + k)) 0
+    → x ≡ dueBy s σ t k l
+unfolding dueBy
+due-own {s} {σ} {w} ranged d t k l k-in h e {v} {x} ev ex =
+    rw (eq-eqb (sourceOf s l) t e) (ex ∙ ap (λ (u : ℕ). getD w (14336 + (16 * u + k)) 0) ev ∙ d .count (targetOf s l) k (ranged .target l h) k-in)

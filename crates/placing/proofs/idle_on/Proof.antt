@@ -1,0 +1,43 @@
+use Rattle.placing.specs.Best.{Leading, above}
+use Prim.Native.Nat.{_-_, _≤_}
+use native.Mathlib.Omega.{arith}
+use Rattle.planner.specs.Placing.{barred, endOf}
+use Rattle.placing.proofs.Leads.{leads-at, leads-none}
+use Rattle.planner.specs.Planner.{mayTake}
+use borrow.Author.Needs.{needs}
+use Rattle.schedule.specs.Layout.{scheduleIn}
+use Rattle.sheet.specs.Tables.{sheetIn}
+use Rattle.placing.proofs.idle_on.Statement.{statement}
+use Rattle.placing.proofs.idle_on.Tie as tie
+
+abbrev Inv-loop : tie.InvT-loop
+Inv-loop w t a n best₀ k₀ best k = (k ≤ n) × Leading (scheduleIn w .opened) (mayTake (sheetIn w) (barred (sheetIn w)) (scheduleIn w) t) above (endOf (sheetIn w) (scheduleIn w)) k best
+
+abbrev μ-loop : tie.MeasureT-loop
+μ-loop w t a n best₀ k₀ best k = n - k
+
+loop-holds : tie.Need-loop-holds Inv-loop μ-loop
+loop-holds c = (search needs, leads-none)
+
+idle-step-requires : tie.Need-idle-step-requires Inv-loop μ-loop
+idle-step-requires c κs = (c .before .before .before .before .pre .0, ((c .before .before .before .before .pre .1, omega (arith, c .loop-test .taken, c .before .before .opened .ensures .0)), c .before .loop .inv .1))
+
+loop-again : tie.Need-loop-again Inv-loop μ-loop
+loop-again c = (search needs, c .idle-step .ensures)
+
+returns : tie.Need-returns Inv-loop μ-loop
+returns c = leads-at (c .before .loop .inv .1) (omega (arith, c .before .loop .inv .0, c .loop-test .left, c .before .before .opened .ensures .0))
+
+pub idle-on-spec : {M : Type 1} → statement M
+idle-on-spec =
+    tie.close
+    (tie.spec
+    Inv-loop
+    μ-loop
+    (λ c κs. search needs)
+    loop-holds
+    idle-step-requires
+    (λ c. search needs)
+    (λ c. search needs)
+    loop-again
+    returns)

@@ -1,0 +1,85 @@
+-- What is kept of a task's links says whether it is ready, or partly, and when its messages are there.
+use Prim.Native.Nat.{ℕ, _+_, _≤_, _<_}
+use mathlib.Core.Bool.{Bool, true, false, not}
+use mathlib.Core.Path.{_≡_, refl, ap, sym, _∙_}
+use mathlib.Core.List.{List}
+use native.Mathlib.Omega.{arith}
+use borrow.Author.Tests.{lt-ltb, le-ltb}
+use lib.ListN.{getD}
+use lib.Dec.{eqb, ltb}
+use Rattle.folds.specs.Folds.{pick, both, either, all, any, sum}
+use Rattle.folds.proofs.Laws.{all-eqb, any-ltb, sum-zeros}
+use Rattle.sheet.specs.Sheet.{Sheet, taskCount, linkCount, sourceOf, targetOf}
+use Rattle.planner.specs.Schedule.{Schedule, placed}
+use Rattle.planner.specs.Placing.{comes, lacks, satisfied, ready, partlyReady, arrivalBy, arrival}
+use Rattle.arrivals.specs.Kept.{countedBy, into, oneBy, known, Caches}
+
+module _ {s : Sheet} {σ : Schedule} {w : List ℕ} (c : Caches s σ w) (t : ℕ) (h : t < taskCount s) where
+  pub arrival-kept : getD w (12560 + t) 0 ≡ arrival s σ t
+  unfolding arrival arrivalBy comes countedBy
+  arrival-kept = c .counted .arrived t h
+
+  less : (a b : Bool) → pick (both a b) 1 0 ≤ pick (both a true) 1 0
+  less true true = omega arith
+  less true false = omega arith
+  less false b = omega arith
+
+  -- as many links are known as there are
+  satisfied-kept : eqb (getD w (12304 + t) 0) (getD w (11792 + t) 0) ≡ all (linkCount s) (satisfied s σ t)
+  unfolding countedBy satisfied
+  satisfied-kept =
+      rw (c .counted .seen t h, c .gathered .number t h)
+      (all-eqb (linkCount s) (countedBy (into s t) oneBy (known s σ)) (countedBy (into s t) oneBy (λ l. true)) (satisfied s σ t)
+      (λ l k. less (eqb (targetOf s l) t) (placed σ (sourceOf s l))) (λ l k. is (eqb (targetOf s l) t) (placed σ (sourceOf s l))))
+    where
+      is : (a b : Bool) → either (not a) b ≡ eqb (pick (both a b) 1 0) (pick (both a true) 1 0)
+      is true true = refl
+      is true false = refl
+      is false b = refl
+
+  lacks-kept : ltb (getD w (12304 + t) 0) (getD w (11792 + t) 0) ≡ any (linkCount s) (lacks s σ t)
+  unfolding countedBy lacks
+  lacks-kept =
+      rw (c .counted .seen t h, c .gathered .number t h)
+      (any-ltb (linkCount s) (countedBy (into s t) oneBy (known s σ)) (countedBy (into s t) oneBy (λ l. true)) (lacks s σ t)
+      (λ l k. less (eqb (targetOf s l) t) (placed σ (sourceOf s l))) (λ l k. is (eqb (targetOf s l) t) (placed σ (sourceOf s l))))
+    where
+      is : (a b : Bool) → both a (not b) ≡ ltb (pick (both a b) 1 0) (pick (both a true) 1 0)
+      is true true = refl
+      is true false = refl
+      is false b = refl
+
+  comes-kept : ltb 0 (getD w (12304 + t) 0) ≡ any (linkCount s) (comes s σ t)
+  unfolding countedBy comes
+  comes-kept =
+      rw (c .counted .seen t h)
+      (ap (λ (x : ℕ). ltb x (sum (linkCount s) (countedBy (into s t) oneBy (known s σ)))) (sym (sum-zeros (linkCount s) (λ l. 0) (λ l k. refl)))
+      ∙ any-ltb (linkCount s) (λ l. 0) (countedBy (into s t) oneBy (known s σ)) (comes s σ t) (λ l k. omega arith) (λ l k. is (both (eqb (targetOf s l) t) (placed σ (sourceOf s l)))))
+    where
+      is : (a : Bool) → a ≡ ltb 0 (pick a 1 0)
+      is true = refl
+      is false = refl
+
+  -- as the code reads it: x of n links are known
+  module _ {x n : ℕ} (ex : x ≡ getD w (12304 + t) 0) (en : n ≡ getD w (11792 + t) 0) where
+    pub ready-kept : placed σ t ≡ false → eqb x n ≡ ready s σ t
+    unfolding ready
+    ready-kept e = rw (e, ex, en) satisfied-kept
+
+    partly-is : placed σ t ≡ false → both (ltb 0 x) (ltb x n) ≡ partlyReady s σ t
+    unfolding partlyReady
+    partly-is e = rw (e, ex, en, comes-kept, lacks-kept)
+
+    pub partly-some : placed σ t ≡ false → 0 < x → ltb x n ≡ partlyReady s σ t
+    partly-some e l = ap (λ (b : Bool). both b (ltb x n)) (sym (lt-ltb 0 x l)) ∙ partly-is e
+
+    pub partly-none : placed σ t ≡ false → x ≤ 0 → false ≡ partlyReady s σ t
+    partly-none e l = ap (λ (b : Bool). both b (ltb x n)) (sym (le-ltb 0 x l)) ∙ partly-is e
+
+  pub placed-ready : placed σ t ≡ true → false ≡ ready s σ t
+  unfolding ready
+  placed-ready e = rw e
+
+  pub placed-partly : placed σ t ≡ true → false ≡ partlyReady s σ t
+  unfolding partlyReady
+  placed-partly e = rw e

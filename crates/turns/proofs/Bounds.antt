@@ -1,0 +1,48 @@
+-- Times stay small: a turn adds at most a cost and a work to the latest finish.
+use Prim.Native.Nat.{ℕ, _+_, _*_, _≤_, _<_}
+use mathlib.Core.Path.{_≡_}
+use native.Mathlib.Omega.{arith}
+use native.Mathlib.Decide.{ℕ-discrete, decLt}
+use lib.ListN.{length, getD, set}
+use lib.Seq.{getD-set-same, getD-set-other, set-out}
+use Rattle.folds.specs.Folds.{pick, greatest}
+use Rattle.folds.proofs.Tests.{pick-le}
+use Rattle.folds.proofs.Laws.{greatest-le}
+use Rattle.folds.proofs.Lists.{getD-replicate}
+use Rattle.sheet.specs.Sheet.{Sheet, taskCount, linkCount, workOf, sourceOf, costOf}
+use Rattle.sheet.specs.Tables.{Ranged}
+use Rattle.planner.specs.Schedule.{Schedule, empty, put, stands, finishOf}
+use Rattle.planner.specs.Placing.{comes, endBy, endOf, startBy, startFrom, startOn}
+use Rattle.turns.specs.Turns.{Timely}
+
+module _ (s : Sheet) (σ : Schedule) (j : ℕ) (ranged : Ranged s) (timely : Timely j σ) (t k : ℕ) where
+  end-early : endOf s σ k ≤ 131070 * j
+  unfolding endOf endBy
+  end-early = greatest-le (taskCount s) (endBy s σ k) (131070 * j) (λ u h. pick-le (stands σ u k) (finishOf σ u) 0 (131070 * j) (timely .early u) (omega arith))
+
+  start-by-early : greatest (linkCount s) (startBy s σ t k) ≤ 131070 * j + 65535
+  unfolding startBy
+  start-by-early =
+      greatest-le (linkCount s) (startBy s σ t k) (131070 * j + 65535)
+      (λ l h. pick-le (comes s σ t l) (finishOf σ (sourceOf s l) + pick (stands σ (sourceOf s l) k) 0 (costOf s l)) 0 (131070 * j + 65535)
+      (omega (arith, timely .early (sourceOf s l), pick-le (stands σ (sourceOf s l) k) 0 (costOf s l) 65535 (omega arith) (omega (arith, ranged .costs l h)))) (omega arith))
+
+  start-early : startOn s σ t k ≤ 131070 * j + 65535
+  unfolding startOn startFrom
+  start-early = omega (arith, end-early, start-by-early)
+
+  pub finish-early : {a b : ℕ} → a ≡ startOn s σ t k → b ≡ workOf s t → t < taskCount s → a + b ≤ 131070 * (j + 1)
+  finish-early ea eb h = omega (arith, start-early, ranged .works t h)
+
+pub put-timely : (σ : Schedule) (j t k a b : ℕ) → Timely j σ → b ≤ 131070 * (j + 1) → Timely (j + 1) (put σ t k a b)
+unfolding finishOf
+put-timely σ j t k a b timely h = record { early = λ u. at u (ℕ-discrete u t) (decLt t (length (σ .finish))) }
+  where
+    at : (u : ℕ) → Dec (u ≡ t) → Dec (t < length (σ .finish)) → getD (set (σ .finish) t b) u 0 ≤ 131070 * (j + 1)
+    at u (no d) e = rw (getD-set-other (σ .finish) t u b 0 d) (omega (arith, timely .early u))
+    at u (yes d) (yes e) = rw (d, getD-set-same (σ .finish) t b 0 e) h
+    at u (yes d) (no e) = rw (set-out (σ .finish) t b (omega arith)) (omega (arith, timely .early u))
+
+pub empty-timely : (s : Sheet) → Timely 0 (empty s)
+unfolding finishOf
+empty-timely s = record { early = λ u. rw (getD-replicate {A = ℕ} (taskCount s) u 0) (omega arith) }

@@ -1,0 +1,5 @@
+pub mod Bounds
+pub mod Going
+pub mod Turns
+pub mod Emptying
+pub mod Beginning

@@ -1,0 +1,34 @@
+use mathlib.Core.Path.{_∙_, ap, sym}
+use native.Mathlib.Omega.{arith}
+use Rattle.readiness.proofs.Searches.{below-at}
+use Rattle.turns.proofs.Going.{choosing, later-turns}
+use Rattle.readiness.specs.Found.{foundOf}
+use borrow.Author.Needs.{needs}
+use Rattle.turns.proofs.Turns.{place-done, place-refused}
+use Rattle.turns.proofs.place_task.Statement.{statement}
+use Rattle.turns.proofs.place_task.Tie as tie
+
+choice-of-requires : tie.Need-choice-of-requires
+choice-of-requires c κs = choosing (c .before .before .pre .0) (c .before .before .pre .1 .0 .1) (c .before .before .pre .1 .1)
+
+put-on-requires : tie.Need-put-on-requires
+put-on-requires c κs = (c .before .before .before .before .before .before .before .pre .0, ((c .before .before .before .before .before .before .before .pre .1 .0 .0, c .before .before .before .before .before .before .before .pre .1 .0 .1, below-at 16 (c .before .before .k .given .1) (c .before .before .before .before .choice-of .ensures .1)), c .before .before .before .before .before .before .before .pre .1 .1))
+
+returns : tie.Need-returns
+returns c = (place-refused _ _ (c .before .before .before .before .before .args .t) (sym (ap foundOf (c .enum-told .given .1)) ∙ c .before .before .choice-of .ensures .0), later-turns (omega arith) (c .before .before .before .before .before .pre .0))
+
+returns-2 : tie.Need-returns-2
+returns-2 c = (place-done _ _ (c .before .before .before .before .before .before .before .before .before .before .args .t) (sym (ap foundOf (c .before .before .before .before .before .k .given .1)) ∙ c .before .before .before .before .before .before .before .choice-of .ensures .0) (c .before .before .put-on .ensures .0), c .before .before .put-on .ensures .1)
+
+pub place-task-spec : {M : Type 1} → statement M
+place-task-spec =
+    tie.close
+    (tie.spec
+    choice-of-requires
+    (λ c. search needs)
+    (λ c. search needs)
+    put-on-requires
+    (λ c. search needs)
+    returns
+    (λ c. search needs)
+    returns-2)

@@ -1,0 +1,125 @@
+// The schedule of a sheet: cleared, begun, and filled turn by turn.
+ghost use mathlib.Core.Path.{_≡_};
+ghost use mathlib.Core.Bool.{true};
+ghost use Prim.Native.Nat.{ℕ, _+_, _<_, _≤_};
+ghost use Rattle.sheet.specs.Sheet.{taskCount};
+ghost use Rattle.sheet.specs.Tables.{sheetIn, Loaded};
+ghost use Rattle.planner.specs.Placing.{ready, startOn, barred};
+ghost use Rattle.planner.specs.Planner.{choice, placedFrom, placeOn, turn, turns, planned};
+ghost use Rattle.schedule.specs.Layout.{scheduleIn, Levelled};
+ghost use Rattle.placing.specs.Choosing.{Single};
+ghost use Rattle.turns.specs.Turns.{answerOf, Going, Cleared, Emptied, Afterwards};
+use chains::End;
+use readiness::Found;
+use sheet::tables;
+
+// Done, or refused for want of store (11) at a task.
+pub enum Planned {
+    Done,
+    Refused(usize),
+}
+
+// t goes on k at turn j.
+fn put_on(w: &mut [u32], j: usize, t: usize, k: usize)
+    requires { ⌜ Going (now w) j (now w) ⌝ }
+    requires { ⌜ (j < 256) × (t < taskCount (sheetIn (now w))) × (k < 16) ⌝ }
+    requires { ⌜ ready (sheetIn (now w)) (scheduleIn (now w)) t ≡ true ⌝ }
+    ensures { λ _. ⌜ (scheduleIn (now (w .exit)) ≡ placedFrom (sheetIn (now (w .entry))) (barred (sheetIn (now (w .entry)))) (scheduleIn (now (w .entry))) t k (startOn (sheetIn (now (w .entry))) (scheduleIn (now (w .entry))) t k)) × Going (now (w .entry)) (j + 1) (now (w .exit)) ⌝ }
+{
+    let start = placing::start_on(w, t, k);
+    let finish = start + tables::work(w, t);
+    let open = readiness::later(schedule::opened(w), k + 1);
+    let n = schedule::placed(w);
+    arrivals::settle(w, t, k, start, finish);
+    arrivals::release(w, t);
+    schedule::put(w, t, k, start, finish, n, open);
+    arrivals::count_links(w, t, k, finish);
+}
+
+// The first ready task goes where the steps say, or is refused.
+fn place_task(w: &mut [u32], j: usize, t: usize) -> Planned
+    requires { ⌜ Going (now w) j (now w) ⌝ }
+    requires { ⌜ (j < 256) × (t < taskCount (sheetIn (now w))) ⌝ }
+    requires { ⌜ ready (sheetIn (now w)) (scheduleIn (now w)) t ≡ true ⌝ }
+    ensures { λ r. ⌜ (answerOf r (scheduleIn (now (w .exit))) ≡ placeOn (sheetIn (now (w .entry))) (barred (sheetIn (now (w .entry)))) (scheduleIn (now (w .entry))) t (choice (sheetIn (now (w .entry))) (barred (sheetIn (now (w .entry)))) (scheduleIn (now (w .entry))) t)) × Going (now (w .entry)) (j + 1) (now (w .exit)) ⌝ }
+{
+    match placing::choice_of(w, t) {
+        Found::Nothing => Planned::Refused(t),
+        Found::At(k) => {
+            put_on(w, j, t, k);
+            Planned::Done
+        }
+    }
+}
+
+// One turn.
+fn take_turn(w: &mut [u32], j: usize) -> Planned
+    requires { ⌜ Going (now w) j (now w) ⌝ }
+    requires { ⌜ j < 256 ⌝ }
+    ensures { λ r. ⌜ (answerOf r (scheduleIn (now (w .exit))) ≡ turn (sheetIn (now (w .entry))) (barred (sheetIn (now (w .entry)))) (scheduleIn (now (w .entry)))) × Going (now (w .entry)) (j + 1) (now (w .exit)) ⌝ }
+{
+    match readiness::first_ready(w) {
+        Found::Nothing => Planned::Done,
+        Found::At(t) => place_task(w, j, t),
+    }
+}
+
+// Turns until all tasks are placed, or one is refused.
+fn take_turns(w: &mut [u32]) -> Planned
+    requires { ⌜ Going (now w) 0 (now w) ⌝ }
+    ensures { λ r. ⌜ (answerOf r (scheduleIn (now (w .exit))) ≡ turns (sheetIn (now (w .entry))) (barred (sheetIn (now (w .entry)))) (taskCount (sheetIn (now (w .entry)))) (scheduleIn (now (w .entry)))) × Going (now (w .entry)) 256 (now (w .exit)) ⌝ }
+{
+    let n = tables::tasks(w);
+    let mut j: usize = 0;
+    while j < n {
+        match take_turn(w, j) {
+            Planned::Refused(t) => {
+                return Planned::Refused(t);
+            }
+            Planned::Done => {
+                j += 1;
+            }
+        }
+    }
+    Planned::Done
+}
+
+// No task is placed.
+fn clear_tables(w: &mut [u32])
+    requires { ⌜ Loaded (now w) ⌝ }
+    ensures { λ _. ⌜ Cleared (now (w .entry)) (taskCount (sheetIn (now (w .entry)))) (now (w .exit)) ⌝ }
+{
+    let n = tables::tasks(w);
+    let mut t: usize = 0;
+    while t < n {
+        w[8192 + t] = 16;
+        w[8448 + t] = 0;
+        w[8704 + t] = 0;
+        t += 1;
+    }
+}
+
+// The empty schedule.
+fn clear(w: &mut [u32])
+    requires { ⌜ Loaded (now w) ⌝ }
+    ensures { λ _. ⌜ Emptied (now (w .entry)) (now (w .exit)) ⌝ }
+{
+    clear_tables(w);
+    w[9216] = 0;
+    w[9217] = 0;
+}
+
+// The schedule of the sheet in the tables, in the words from 8192 on, or the task that is refused.
+pub fn schedule(w: &mut [u32]) -> Planned
+    requires { ⌜ Loaded (now w) ⌝ }
+    requires { ⌜ Levelled (sheetIn (now w)) (now w) ⌝ }
+    requires { ⌜ Single (sheetIn (now w)) ⌝ }
+    ensures { λ r. ⌜ (answerOf r (scheduleIn (now (w .exit))) ≡ planned (sheetIn (now (w .entry)))) × Afterwards (now (w .entry)) (now (w .exit)) ⌝ }
+{
+    clear(w);
+    arrivals::clear(w);
+    chains::chain(w, End::Source);
+    chains::chain(w, End::Target);
+    arrivals::gather(w);
+    take_turns(w)
+}

@@ -1,0 +1,80 @@
+// Bytes and words at any index: 0 past the end, and a store there changes nothing. Nothing is asked of a caller, so that code over them is safe on any lent memory.
+ghost use mathlib.Core.Path.{_≡_};
+ghost use Prim.Native.Nat.{_-_, _%_, _<_, max, min};
+ghost use lib.ListN.{getD, set};
+ghost use Rattle.numbers.specs.Number.{numberAt};
+
+// The byte at i.
+pub fn byte(b: &[u8], i: usize) -> usize
+    ensures { λ r. ⌜ (r ≡ getD (now (b .entry)) i 0) × (r < 256) ⌝ }
+{
+    if i < b.len() {
+        return b[i] as usize;
+    }
+    0
+}
+
+// The two bytes at i, lowest first.
+pub fn pair(b: &[u8], i: usize) -> usize
+    ensures { λ r. ⌜ (r ≡ numberAt 2 (now (b .entry)) i) × (r < 65536) ⌝ }
+{
+    if i < b.len() {
+        return byte(b, i) + 256 * byte(b, i + 1);
+    }
+    0
+}
+
+// The word at i.
+pub fn word(w: &[u32], i: usize) -> usize
+    ensures { λ r. ⌜ (r ≡ getD (now (w .entry)) i 0) × (r < 4294967296) ⌝ }
+{
+    if i < w.len() {
+        return w[i] as usize;
+    }
+    0
+}
+
+fn narrow(x: usize) -> u32
+    ensures { λ r. ⌜ r ≡ x % 4294967296 ⌝ }
+{
+    (x % 4294967296) as u32
+}
+
+// Puts the low 32 bits of x at i.
+pub fn put(w: &mut [u32], i: usize, x: usize)
+    ensures { λ _. ⌜ now (w .exit) ≡ set (now (w .entry)) i (x % 4294967296) ⌝ }
+{
+    if i < w.len() {
+        w[i] = narrow(x);
+    }
+}
+
+// The later of two times.
+pub fn later(a: usize, b: usize) -> usize
+    ensures { λ r. ⌜ r ≡ max a b ⌝ }
+{
+    if a < b {
+        return b;
+    }
+    a
+}
+
+// The smaller of two numbers.
+pub fn smaller(a: usize, b: usize) -> usize
+    ensures { λ r. ⌜ r ≡ min a b ⌝ }
+{
+    if a < b {
+        return a;
+    }
+    b
+}
+
+// The first number less the second, and 0 where that is greater.
+pub fn minus(a: usize, b: usize) -> usize
+    ensures { λ r. ⌜ r ≡ a - b ⌝ }
+{
+    if a < b {
+        return 0;
+    }
+    a - b
+}
