@@ -2,3 +2,4 @@ pub mod Accepted
 pub mod Going
 pub mod Closing
 pub mod Areas
+pub mod Opening

@@ -15,7 +15,7 @@ use Rattle.messages.specs.declared.Found.{Found}
 use Rattle.machine.specs.Machine.{State}
 use Rattle.machine.specs.Runs.{latest}
 use Rattle.machine.specs.Keeps.{Keeps}
-use Rattle.checker.specs.Checker.{at29, closing, checked}
+use Rattle.checker.specs.Checker.{at29, closing, checked, check}
 use Rattle.checker.specs.declared.Verdict.{Verdict}
 use Rattle.checker.specs.declared.Verdict.the-variants.{Good, Refused}
 
@@ -47,3 +47,8 @@ pub record CheckIs (sheet bundle w last : List ℕ) (r : Verdict) : Type 0 where
   pub long : length last ≡ length w
   pub low : (i : ℕ) → i < 8192 → getD last i 0 ≡ getD w i 0
   pub is : Fields (sheetIn w) sheet → r ≡ verdictOf (checkedBytes (sheetIn w) bundle)
+
+-- any bytes of a sheet and of a bundle
+pub record BytesIs (sheet bundle work last : List ℕ) (r : Verdict) : Type 0 where
+  pub long : length last ≡ length work
+  pub is : r ≡ verdictOf (check sheet bundle)

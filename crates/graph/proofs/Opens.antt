@@ -6,7 +6,7 @@ use mathlib.Core.List.{List}
 use native.Mathlib.Omega.{arith}
 use lib.ListN.{length, getD}
 use Rattle.folds.specs.Answers.{Answer, value, refused, unless, andThen}
-use Rattle.folds.proofs.Tests.{not-value}
+use Rattle.folds.proofs.Tests.{not-value, andThen-value, unless-value}
 use Rattle.sheet.specs.Sheet.{Sheet}
 use Rattle.sheet.specs.Format.{readForm}
 use Rattle.sheet.specs.Tables.{sheetIn, Loaded}
@@ -52,12 +52,12 @@ module _ (w last : List ℕ) (f : Found) (l : Loaded w) (h : LevelsAre w last f)
         levelled = λ s q. subst (λ (x : Sheet). Levelled x last) (same (sym a ∙ q)) (h .levels clear);
       }
 
--- an answer that was read is a value
+-- an answer that was read is a value, and one that was refused a refusal
 read-some : (a : Answer Sheet) → Read ≡ readingOf a → (s : Sheet) × (a ≡ value s)
 read-some (value s) e = (s, refl)
 read-some (refused n at) e = let z : _≡_ {A = ℕ} 0 1 = cc in absurd (omega arith)
 
-refused-same : (a : Answer Sheet) (r e : ℕ) → Refused r e ≡ readingOf a → a ≡ refused r e
+pub refused-same : (a : Answer Sheet) (r e : ℕ) → Refused r e ≡ readingOf a → a ≡ refused r e
 refused-same (value s) r e h = let z : _≡_ {A = ℕ} 0 1 = cc in absurd (omega arith)
 refused-same (refused n at) r e h = let p : r ≡ n = cc in let q : e ≡ at = cc in sym (ap (λ (x : ℕ). refused x e) p ∙ ap (refused n) q)
 
@@ -84,3 +84,28 @@ module _ (b w mid : List ℕ) (o : Reading) (h : ReadIs (readForm b) w mid o) wh
         held = λ t p. k .held t (sym a ∙ p);
         levelled = λ t p. k .levelled t (sym a ∙ p);
       }
+
+module _ {a : Answer Sheet} {w last : List ℕ} {o : Reading} (h : OpenIs a w last o) where
+  pub open-refusal : (r e : ℕ) → o ≡ Refused r e → a ≡ refused r e
+  open-refusal r e q = refused-same a r e (sym q ∙ h .answer)
+
+  module _ (q : o ≡ Read) where
+    opened : (s : Sheet) × (a ≡ value s)
+    opened = read-some a (sym q ∙ h .answer)
+
+    pub open-loaded : Loaded last
+    open-loaded = h .loaded (opened .0) (opened .1)
+
+    pub open-value : a ≡ value (sheetIn last)
+    open-value = opened .1 ∙ ap value (sym (h .held (opened .0) (opened .1)))
+
+    pub open-levelled : Levelled (sheetIn last) last
+    open-levelled = subst (λ (s : Sheet). Levelled s last) (sym (h .held (opened .0) (opened .1))) (h .levelled (opened .0) (opened .1))
+
+-- a sheet that is read has the form of one
+pub form-of : (b : List ℕ) (s : Sheet) → readSheet b ≡ value s → readForm b ≡ value s
+unfolding readSheet
+form-of b s e =
+    let x = andThen-value (readForm b) (λ t. unless 10 (circle t) (value t)) s e in
+    let y = unless-value 10 (circle (x .0)) (value (x .0)) s (x .2) in
+    x .1 ∙ y .1

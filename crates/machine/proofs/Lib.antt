@@ -8,3 +8,4 @@ pub mod Lists
 pub mod Asks
 pub mod Fresh
 pub mod Opens
+pub mod Begins

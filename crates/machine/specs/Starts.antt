@@ -4,9 +4,10 @@ use mathlib.Core.Path.{_≡_}
 use mathlib.Core.Logic.{_⊎_}
 use mathlib.Core.List.{List}
 use lib.ListN.{length, getD}
-use Rattle.folds.specs.Answers.{value}
+use Rattle.folds.specs.Answers.{Answer, value, refused, andThen}
 use Rattle.sheet.specs.Sheet.{Sheet, taskCount, linkCount}
 use Rattle.sheet.specs.Tables.{sheetIn}
+use Rattle.graph.specs.Graph.{readSheet}
 use Rattle.bundle.specs.Bundle.{Bundle, programmeCount}
 use Rattle.bundle.specs.Lies.{Laid}
 use Rattle.messages.specs.Counting.{whole, each}
@@ -59,3 +60,16 @@ pub record OpenIs (sheet bundle work after state last : List ℕ) (r : Judged) :
   pub is : Fields (sheetIn work) sheet → r ≡ judgedOf (admittedBytes (sheetIn work) bundle)
   pub keeps : Fields (sheetIn work) sheet → 1120 ≤ length state → (b : Bundle) → admittedBytes (sheetIn work) bundle ≡ value b
       → Keeps (sheetIn work) b sheet bundle last (freshState (sheetIn work) b)
+
+-- "gives the first refusal that applies of 1 to 10 and 21 to 28, and starts exactly when none does"
+unfoldable pub starting : List ℕ → List ℕ → Answer Bundle
+starting sheet bundle = andThen (readSheet sheet) (λ s. admittedBytes s bundle)
+
+-- the same of any bytes of a sheet
+pub record BytesIs (sheet bundle work after state last : List ℕ) (r : Judged) : Type 0 where
+  pub long : length after ≡ length work
+  pub state-long : length last ≡ length state
+  pub is : r ≡ judgedOf (starting sheet bundle)
+  pub untouched : (number place : ℕ) → starting sheet bundle ≡ refused number place → last ≡ state
+  pub keeps : 1120 ≤ length state → (s : Sheet) (b : Bundle) → readSheet sheet ≡ value s → starting sheet bundle ≡ value b
+      → Keeps s b sheet bundle last (freshState s b)

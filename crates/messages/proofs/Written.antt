@@ -8,8 +8,11 @@ use lib.Seq.{getD-append-add}
 use Rattle.numbers.specs.Number.{numberAt, numberBytes}
 use Rattle.numbers.proofs.Laws.{numberAt-append, number-of-bytes}
 use Rattle.sheet.specs.Sheet.{Sheet, Task, Link, noTask, noLink, taskCount, linkCount, workOf, storeOf, sourceOf, targetOf, costOf, bytesOf}
+use Rattle.folds.specs.Answers.{value}
+use Rattle.sheet.specs.Format.{readForm}
 use Rattle.sheet.specs.Tables.{Ranged}
 use Rattle.sheet.specs.Writing.{boardBytes, taskBytes, linkBytes, sheetBytes}
+use Rattle.sheet.proofs.Rounds.{bytes-again, read-ranged}
 use Rattle.messages.specs.Fields.{Fields}
 
 -- a number behind some bytes, and one byte
@@ -108,6 +111,6 @@ module _ (s : Sheet) where
         bytes = λ i l. past-tasks (5 + 7 * i) (11 + 5 * taskCount s + 7 * i) (omega arith) ∙ bytes-at (s .links) (0x51 ∷ []) i l (h .sizes i l);
       }
 
--- so they do in any bytes that are the sheet's
-pub fields-of : (s : Sheet) (b : List ℕ) → Ranged s → sheetBytes s ≡ b → Fields s b
-fields-of s b h e = subst (Fields s) e (written-fields s h)
+-- so they do in any bytes that a sheet was read from
+pub fields-read : (b : List ℕ) (s : Sheet) → ((k : ℕ) → getD b k 0 < 256) → readForm b ≡ value s → Fields s b
+fields-read b s small h = subst (Fields s) (bytes-again b s small h) (written-fields s (read-ranged b s small h .ranged))

@@ -29,7 +29,8 @@ use Rattle.zeldrupa.specs.Promises.{commandTable, claimAfter, valueCount
 use Rattle.zeldrupa.specs.Parts.{outcomeOf, PartIs, BundleIs}
 use Rattle.zeldrupa.specs.declared.ending.Outcome.{Outcome}
 use Rattle.zeldrupa.specs.declared.ending.Outcome.the-variants as ends
-use Rattle.zeldrupa.proofs.Opening.{open-value, part-goes, refused-same}
+use Rattle.graph.proofs.Opens.{open-value, open-refusal}
+use Rattle.zeldrupa.proofs.Opening.{part-goes}
 
 -- the bundle whose values fit, or 12
 abbrev pub fittingBundle : ℕ → Answer Bundle → Answer Bundle
@@ -70,7 +71,7 @@ module _ (b c : List ℕ) (k : ℕ) {a : Answer Sheet} {work mid : List ℕ} {o 
   pub bundle-refused : (r e : ℕ) → o ≡ readings.Refused r e → BundleIs (andThen a (λ s. andThen (readBundle s b) (λ x. andThen (fitting (length c) (bundleValues x)) (λ v. value x)))) work mid c c k k (ends.Refused r e)
   unfolding written
   bundle-refused r e q =
-      let v = ap (λ (x : Answer Sheet). andThen x (λ s. andThen (readBundle s b) (λ x. andThen (fitting (length c) (bundleValues x)) (λ v. value x)))) (refused-same a r e (sym q ∙ h .answer)) in
+      let v = ap (λ (x : Answer Sheet). andThen x (λ s. andThen (readBundle s b) (λ x. andThen (fitting (length c) (bundleValues x)) (λ v. value x)))) (open-refusal h r e q) in
       record {
         answer = sym (ap (outcomeOf valueCount) v);
         commands = sym (ap (λ (x : Answer Bundle). written c (commandTable x)) v);

@@ -12,7 +12,6 @@ use lib.ListN.{length, getD, set, take, drop}
 use lib.Dec.{ltb}
 use Rattle.folds.specs.Folds.{pick, listed}
 use Rattle.folds.specs.Answers.{Answer, value, refused, andThen, unless, fitting, written}
-use Rattle.folds.proofs.Tests.{andThen-value, unless-value}
 use Rattle.folds.proofs.Lists.{length-listed}
 use Rattle.numbers.specs.Number.{stored}
 use Rattle.numbers.proofs.Laws.{stored-one}
@@ -29,34 +28,13 @@ use Rattle.sheet.proofs.Backs.{values-tasks, values-links, values-again, values
 use Rattle.graph.specs.Graph.{level, circle, readSheet}
 use Rattle.graph.specs.Found.{Levelled}
 use Rattle.graph.specs.Opened.{OpenIs}
+use Rattle.graph.proofs.Opens.{open-refusal, open-value, form-of}
 use Rattle.bundle.specs.Counts.{Sized}
 use Rattle.bundle.specs.Writes.{Counted}
 use Rattle.zeldrupa.specs.Promises.{levelsOf, tabled, boardOf, taskTable, linkTable, boardAfter, no-place}
 use Rattle.zeldrupa.specs.Parts.{outcomeOf, PartIs, SheetIs}
 use Rattle.zeldrupa.specs.declared.ending.Outcome.{Outcome}
 use Rattle.zeldrupa.specs.declared.ending.Outcome.the-variants as ends
-
--- an answer that was read is a value, and one that was refused a refusal
-read-some : (a : Answer Sheet) → Read ≡ readingOf a → (s : Sheet) × (a ≡ value s)
-read-some (value s) e = (s, refl)
-read-some (refused n at) e = let z : _≡_ {A = ℕ} 0 1 = cc in absurd (omega arith)
-
-pub refused-same : (a : Answer Sheet) (r e : ℕ) → Refused r e ≡ readingOf a → a ≡ refused r e
-refused-same (value s) r e h = let z : _≡_ {A = ℕ} 0 1 = cc in absurd (omega arith)
-refused-same (refused n at) r e h = let p : r ≡ n = cc in let q : e ≡ at = cc in sym (ap (λ (x : ℕ). refused x e) p ∙ ap (refused n) q)
-
-module _ {a : Answer Sheet} {work mid : List ℕ} {o : Reading} (h : OpenIs a work mid o) (e : o ≡ Read) where
-  opened : (s : Sheet) × (a ≡ value s)
-  opened = read-some a (sym e ∙ h .answer)
-
-  pub open-loaded : Loaded mid
-  open-loaded = h .loaded (opened .0) (opened .1)
-
-  pub open-value : a ≡ value (sheetIn mid)
-  open-value = opened .1 ∙ ap value (sym (h .held (opened .0) (opened .1)))
-
-  pub open-levelled : Levelled (sheetIn mid) mid
-  open-levelled = subst (λ (s : Sheet). Levelled s mid) (sym (h .held (opened .0) (opened .1))) (h .levelled (opened .0) (opened .1))
 
 -- the counts that a bundle's reader and writer ask for
 pub open-counted : {p t l : ℕ} → p ≤ 16 → t ≤ 256 → l ≤ 1024 → Counted p t l
@@ -84,7 +62,7 @@ module _ (f : Sheet → Answer (List ℕ)) {a : Answer Sheet} {work mid out : Li
   -- the sheet was refused
   pub part-refused : (r e : ℕ) → o ≡ Refused r e → PartIs (andThen a f) work mid out out (ends.Refused r e)
   part-refused r e q =
-      let b : andThen a f ≡ refused r e = ap (λ (x : Answer Sheet). andThen x f) (refused-same a r e (sym q ∙ h .answer)) in
+      let b : andThen a f ≡ refused r e = ap (λ (x : Answer Sheet). andThen x f) (open-refusal h r e q) in
       record { answer = sym (ap (outcomeOf length) b); output = kept out r e ∙ sym (ap (written out) b); long = h .long }
 
   -- it was read, and what follows goes by the sheet in the tables
@@ -112,13 +90,6 @@ unfolding levelsOf
 levels-length s = length-listed (taskCount s) (level s)
 
 -- the written sheet: values that are read are whole, and their links narrow
-form-of : (b : List ℕ) (s : Sheet) → readSheet b ≡ value s → readForm b ≡ value s
-unfolding readSheet
-form-of b s e =
-    let x = andThen-value (readForm b) (λ t. unless 10 (circle t) (value t)) s e in
-    let y = unless-value 10 (circle (x .0)) (value (x .0)) s (x .2) in
-    x .1 ∙ y .1
-
 module _ (p l : ℕ) (tv lv : List ℕ) (s : Sheet) (ts : (k : ℕ) → getD tv k 0 < 65536) (ls : (k : ℕ) → getD lv k 0 < 65536) (small : l < 4294967296) (e : readSheet (valueBytes p l tv lv) ≡ value s) where
   pub whole-values : (length tv % 2 ≡ 0) × (length lv % 4 ≡ 0)
   whole-values = let v = values-again p l tv lv s ts ls small (form-of (valueBytes p l tv lv) s e) in (v .2, v .3)
@@ -153,7 +124,7 @@ module _ (t l b : List ℕ) {a : Answer Sheet} {work mid : List ℕ} {o : Readin
 
   pub sheet-refused : (r e : ℕ) → o ≡ Refused r e → SheetIs (andThen a (tabled (length t) (length l))) work mid t t l l b b (ends.Refused r e)
   sheet-refused r e q =
-      sheet-refusal (andThen a (tabled (length t) (length l))) r e (ap (λ (x : Answer Sheet). andThen x (tabled (length t) (length l))) (refused-same a r e (sym q ∙ h .answer))) mid (h .long)
+      sheet-refusal (andThen a (tabled (length t) (length l))) r e (ap (λ (x : Answer Sheet). andThen x (tabled (length t) (length l))) (open-refusal h r e q)) mid (h .long)
 
   module _ (q : o ≡ Read) where
     here : andThen a (tabled (length t) (length l)) ≡ tabled (length t) (length l) (sheetIn mid)

@@ -1,5 +1,6 @@
 use Rattle.zeldrupa.proofs.Bundling.{bundle-no, bundle-refused, bundle-yes}
-use Rattle.zeldrupa.proofs.Opening.{open-counted, open-loaded, open-sized}
+use Rattle.graph.proofs.Opens.{open-loaded}
+use Rattle.zeldrupa.proofs.Opening.{open-counted, open-sized}
 use borrow.Author.Needs.{needs}
 use denote.Ref.{now}
 use mathlib.Core.Path.{_∙_}

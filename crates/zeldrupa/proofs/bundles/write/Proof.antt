@@ -2,7 +2,8 @@ use Rattle.bundle.specs.Format.{readBundle}
 use Rattle.folds.specs.Answers.{andThen, fitting}
 use Rattle.bundle.specs.Writing.{valueBytes}
 use Rattle.zeldrupa.proofs.Bundling.{writing-no, writing-yes}
-use Rattle.zeldrupa.proofs.Opening.{open-counted, open-loaded, open-sized, part-refused}
+use Rattle.graph.proofs.Opens.{open-loaded}
+use Rattle.zeldrupa.proofs.Opening.{open-counted, open-sized, part-refused}
 use borrow.Author.Needs.{needs}
 use denote.Ref.{now}
 use lib.ListN.{length}

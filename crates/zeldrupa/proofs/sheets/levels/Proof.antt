@@ -1,5 +1,6 @@
 use Rattle.folds.specs.Answers.{fitting}
-use Rattle.zeldrupa.proofs.Opening.{levels-length, open-levelled, open-loaded, part-done, part-refused, part-short}
+use Rattle.graph.proofs.Opens.{open-levelled, open-loaded}
+use Rattle.zeldrupa.proofs.Opening.{levels-length, part-done, part-refused, part-short}
 use Rattle.zeldrupa.specs.Promises.{levelsOf}
 use borrow.Author.Needs.{needs}
 use denote.Ref.{now}

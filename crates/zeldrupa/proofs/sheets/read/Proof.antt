@@ -1,5 +1,6 @@
 use Prim.Native.Nat.{_*_, ℕ}
-use Rattle.zeldrupa.proofs.Opening.{links-short, open-loaded, sheet-done, sheet-refused, tasks-short}
+use Rattle.graph.proofs.Opens.{open-loaded}
+use Rattle.zeldrupa.proofs.Opening.{links-short, sheet-done, sheet-refused, tasks-short}
 use borrow.Author.Needs.{needs}
 use denote.Ref.{now}
 use mathlib.Core.Path.{ap}

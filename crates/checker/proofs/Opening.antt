@@ -1,0 +1,39 @@
+-- The checker of any bytes: 1 to 10 first, and then by the sheet that was read.
+use Prim.Native.Nat.{ℕ, _<_}
+use mathlib.Core.Path.{_≡_, sym, ap, _∙_}
+use mathlib.Core.List.{List}
+use lib.ListN.{length, getD}
+use Rattle.folds.specs.Answers.{Answer, refused, andThen}
+use Rattle.sheet.specs.Sheet.{Sheet}
+use Rattle.sheet.specs.Tables.{sheetIn}
+use Rattle.sheet.specs.declared.Reading.{Reading}
+use Rattle.sheet.specs.declared.Reading.the-variants as readings
+use Rattle.graph.specs.Graph.{readSheet}
+use Rattle.graph.specs.Opened.{OpenIs}
+use Rattle.graph.proofs.Opens.{open-refusal, open-value, form-of}
+use Rattle.bundle.specs.Format.{readBundle}
+use Rattle.messages.proofs.Written.{fields-read}
+use Rattle.checker.specs.Checker.{checked, check}
+use Rattle.checker.specs.Verdicts.{verdictOf, checkedBytes, CheckIs, BytesIs}
+use Rattle.checker.specs.declared.Verdict.{Verdict}
+use Rattle.checker.specs.declared.Verdict.the-variants.{Refused}
+
+module _ (sheet bundle work mid : List ℕ) {o : Reading} (h : OpenIs (readSheet sheet) work mid o) where
+  pub sheet-refused : (r e : ℕ) → o ≡ readings.Refused r e → BytesIs sheet bundle work mid (Refused r e)
+  unfolding check
+  sheet-refused r e q =
+      record {
+        long = h .long;
+        is = sym (ap (λ (x : Answer Sheet). verdictOf (andThen x (λ s. andThen (readBundle s bundle) (checked s)))) (open-refusal h r e q));
+      }
+
+  pub sheet-opened : ((k : ℕ) → getD sheet k 0 < 256) → o ≡ readings.Read → (last : List ℕ) (v : Verdict) → CheckIs sheet bundle mid last v → BytesIs sheet bundle work last v
+  unfolding check checkedBytes
+  sheet-opened small q last v g =
+      let e = open-value h q in
+      record {
+        long = g .long ∙ h .long;
+        is =
+            g .is (fields-read sheet (sheetIn mid) small (form-of sheet (sheetIn mid) e))
+            ∙ sym (ap (λ (x : Answer Sheet). verdictOf (andThen x (λ s. andThen (readBundle s bundle) (checked s)))) e);
+      }
