@@ -62,14 +62,17 @@ pub record OpenIs (sheet bundle work after state last : List ℕ) (r : Judged) :
       → Keeps (sheetIn work) b sheet bundle last (freshState (sheetIn work) b)
 
 -- "gives the first refusal that applies of 1 to 10 and 21 to 28, and starts exactly when none does"
-unfoldable pub starting : List ℕ → List ℕ → Answer Bundle
-starting sheet bundle = andThen (readSheet sheet) (λ s. admittedBytes s bundle)
+unfoldable pub starting : List ℕ → List ℕ → Answer (Sheet × Bundle)
+starting sheet bundle = andThen (readSheet sheet) (λ s. andThen (admittedBytes s bundle) (λ b. value (s, b)))
+
+abbrev pub startedOf : Answer (Sheet × Bundle) → Judged
+startedOf (value x) = judgedOf (value (x .1))
+startedOf (refused n at) = Refused n at
 
 -- the same of any bytes of a sheet
 pub record BytesIs (sheet bundle work after state last : List ℕ) (r : Judged) : Type 0 where
   pub long : length after ≡ length work
   pub state-long : length last ≡ length state
-  pub is : r ≡ judgedOf (starting sheet bundle)
+  pub is : r ≡ startedOf (starting sheet bundle)
   pub untouched : (number place : ℕ) → starting sheet bundle ≡ refused number place → last ≡ state
-  pub keeps : 1120 ≤ length state → (s : Sheet) (b : Bundle) → readSheet sheet ≡ value s → starting sheet bundle ≡ value b
-      → Keeps s b sheet bundle last (freshState s b)
+  pub keeps : 1120 ≤ length state → (s : Sheet) (b : Bundle) → starting sheet bundle ≡ value (s, b) → Keeps s b sheet bundle last (freshState s b)

@@ -9,31 +9,31 @@ use Rattle.folds.specs.Answers.{Answer, value, refused, longEnough, number, pla
 use Rattle.workspace.specs.Area.{fixed}
 use Rattle.sheet.specs.Sheet.{Sheet}
 use Rattle.bundle.specs.Bundle.{Bundle}
-use Rattle.zeldrupa.specs.Promises.{Gives, GivesSheet, GivesBundle, taskTable, linkTable, boardAfter, commandTable, claimAfter, no-place, valueCount}
-use Rattle.zeldrupa.specs.Parts.{outcomeOf, numberOf, placeOf, PartIs, SheetIs, BundleIs}
+use Rattle.zeldrupa.specs.Promises.{Ends, Gives, GivesSheet, GivesBundle, taskTable, linkTable, boardAfter, commandTable, claimAfter, no-place, valueCount}
+use Rattle.zeldrupa.specs.Parts.{outcomeOf, numberOf, placeOf, EndIs, PartIs, SheetIs, BundleIs}
 use Rattle.zeldrupa.specs.declared.ending.Outcome.{Outcome}
 
 -- an area that is too short, and one that is long enough
-short : {A : Type 0} (a : Answer A) (n : ℕ) → n < fixed → longEnough fixed n a ≡ refused 13 fixed
+pub short : {A : Type 0} (a : Answer A) (n : ℕ) → n < fixed → longEnough fixed n a ≡ refused 13 fixed
 short a n h = rw (lt-ltb n fixed h)
 
-enough : {A : Type 0} (a : Answer A) (n : ℕ) → fixed ≤ n → longEnough fixed n a ≡ a
+pub enough : {A : Type 0} (a : Answer A) (n : ℕ) → fixed ≤ n → longEnough fixed n a ≡ a
 enough a n h = rw (le-ltb n fixed h)
 
-untouched : (work : List ℕ) → length work < fixed → work ≡ cleared fixed work
+pub untouched : (work : List ℕ) → length work < fixed → work ≡ cleared fixed work
 unfolding cleared
 untouched work h = rw (lt-ltb (length work) fixed h)
 
-all-zero : (work mid : List ℕ) → fixed ≤ length work → length mid ≡ length work → replicate (length mid) 0 ≡ cleared fixed work
+pub all-zero : (work mid : List ℕ) → fixed ≤ length work → length mid ≡ length work → replicate (length mid) 0 ≡ cleared fixed work
 unfolding cleared
 all-zero work mid h e = rw (le-ltb (length work) fixed h) (ap (λ (n : ℕ). replicate n 0) e)
 
 -- number and place of an answer by those of an outcome
-number-of : {A : Type 0} (f : A → ℕ) (a : Answer A) → numberOf (outcomeOf f a) ≡ number a
+pub number-of : {A : Type 0} (f : A → ℕ) (a : Answer A) → numberOf (outcomeOf f a) ≡ number a
 number-of f (value x) = refl
 number-of f (refused n at) = refl
 
-place-of : {A : Type 0} (f : A → ℕ) (a : Answer A) → placeOf (outcomeOf f a) ≡ placeOr f a
+pub place-of : {A : Type 0} (f : A → ℕ) (a : Answer A) → placeOf (outcomeOf f a) ≡ placeOr f a
 place-of f (value x) = refl
 place-of f (refused n at) = refl
 
@@ -41,26 +41,32 @@ kept : (old : List ℕ) (n at : ℕ) → old ≡ written old (refused n at)
 unfolding written
 kept old n at = refl
 
+module _ {A : Type 0} (f : A → ℕ) (a : Answer A) (work : List ℕ) where
+  pub ends-short : length work < fixed → Ends f (longEnough fixed (length work) a) work work fixed 13
+  ends-short h =
+      let e = short a (length work) h in
+      record { returns = sym (ap number e); place = sym (ap (placeOr f) e); area = untouched work h }
+
+  pub ends-part : (mid last : List ℕ) (o : Outcome) (p r : ℕ) → fixed ≤ length work → EndIs f a work mid o → last ≡ replicate (length mid) 0
+      → (r ≡ numberOf o) × (p ≡ placeOf o) → Ends f (longEnough fixed (length work) a) work last p r
+  ends-part mid last o p r h part z c =
+      let e = sym (enough a (length work) h) in
+      record {
+        returns = c .0 ∙ ap numberOf (part .answer) ∙ number-of f a ∙ ap number e;
+        place = c .1 ∙ ap placeOf (part .answer) ∙ place-of f a ∙ ap (placeOr f) e;
+        area = z ∙ all-zero work mid h (part .long);
+      }
+
 module _ (a : Answer (List ℕ)) (work out : List ℕ) where
   pub gives-short : length work < fixed → Gives (longEnough fixed (length work) a) work work out out fixed 13
-  gives-short h =
-      let e = short a (length work) h in
-      record {
-        returns = sym (ap number e);
-        place = sym (ap (placeOr length) e);
-        output = kept out 13 fixed ∙ sym (ap (written out) e);
-        area = untouched work h;
-      }
+  gives-short h = record { ends = ends-short length a work h; output = kept out 13 fixed ∙ sym (ap (written out) (short a (length work) h)) }
 
   pub gives-part : (mid last out′ : List ℕ) (o : Outcome) (p r : ℕ) → fixed ≤ length work → PartIs a work mid out out′ o → last ≡ replicate (length mid) 0
       → (r ≡ numberOf o) × (p ≡ placeOf o) → Gives (longEnough fixed (length work) a) work last out out′ p r
   gives-part mid last out′ o p r h part z c =
-      let e = sym (enough a (length work) h) in
       record {
-        returns = c .0 ∙ ap numberOf (part .answer) ∙ number-of length a ∙ ap number e;
-        place = c .1 ∙ ap placeOf (part .answer) ∙ place-of length a ∙ ap (placeOr length) e;
-        output = part .output ∙ ap (written out) e;
-        area = z ∙ all-zero work mid h (part .long);
+        ends = ends-part length a work mid last o p r h record { answer = part .answer; long = part .long } z c;
+        output = part .output ∙ ap (written out) (sym (enough a (length work) h));
       }
 
 module _ (a : Answer Sheet) (work t l b : List ℕ) where
@@ -68,12 +74,10 @@ module _ (a : Answer Sheet) (work t l b : List ℕ) where
   gives-sheet-short h =
       let e = short a (length work) h in
       record {
-        returns = sym (ap number e);
-        place = sym (ap (placeOr no-place) e);
+        ends = ends-short no-place a work h;
         tasks = kept t 13 fixed ∙ sym (ap (λ (x : Answer Sheet). written t (taskTable x)) e);
         links = kept l 13 fixed ∙ sym (ap (λ (x : Answer Sheet). written l (linkTable x)) e);
         board = sym (ap (boardAfter b) e);
-        area = untouched work h;
       }
 
   pub gives-sheet : (mid last t′ l′ b′ : List ℕ) (o : Outcome) (p r : ℕ) → fixed ≤ length work → SheetIs a work mid t t′ l l′ b b′ o → last ≡ replicate (length mid) 0
@@ -81,12 +85,10 @@ module _ (a : Answer Sheet) (work t l b : List ℕ) where
   gives-sheet mid last t′ l′ b′ o p r h part z c =
       let e = sym (enough a (length work) h) in
       record {
-        returns = c .0 ∙ ap numberOf (part .answer) ∙ number-of no-place a ∙ ap number e;
-        place = c .1 ∙ ap placeOf (part .answer) ∙ place-of no-place a ∙ ap (placeOr no-place) e;
+        ends = ends-part no-place a work mid last o p r h record { answer = part .answer; long = part .long } z c;
         tasks = part .tasks ∙ ap (λ (x : Answer Sheet). written t (taskTable x)) e;
         links = part .links ∙ ap (λ (x : Answer Sheet). written l (linkTable x)) e;
         board = part .board ∙ ap (boardAfter b) e;
-        area = z ∙ all-zero work mid h (part .long);
       }
 
 module _ (a : Answer Bundle) (work c : List ℕ) (t : ℕ) where
@@ -94,11 +96,9 @@ module _ (a : Answer Bundle) (work c : List ℕ) (t : ℕ) where
   gives-bundle-short h =
       let e = short a (length work) h in
       record {
-        returns = sym (ap number e);
-        place = sym (ap (placeOr valueCount) e);
+        ends = ends-short valueCount a work h;
         commands = kept c 13 fixed ∙ sym (ap (λ (x : Answer Bundle). written c (commandTable x)) e);
         claim = sym (ap (claimAfter t) e);
-        area = untouched work h;
       }
 
   pub gives-bundle : (mid last c′ : List ℕ) (t′ : ℕ) (o : Outcome) (p r : ℕ) → fixed ≤ length work → BundleIs a work mid c c′ t t′ o → last ≡ replicate (length mid) 0
@@ -106,9 +106,7 @@ module _ (a : Answer Bundle) (work c : List ℕ) (t : ℕ) where
   gives-bundle mid last c′ t′ o p r h part z n =
       let e = sym (enough a (length work) h) in
       record {
-        returns = n .0 ∙ ap numberOf (part .answer) ∙ number-of valueCount a ∙ ap number e;
-        place = n .1 ∙ ap placeOf (part .answer) ∙ place-of valueCount a ∙ ap (placeOr valueCount) e;
+        ends = ends-part valueCount a work mid last o p r h record { answer = part .answer; long = part .long } z n;
         commands = part .commands ∙ ap (λ (x : Answer Bundle). written c (commandTable x)) e;
         claim = part .claim ∙ ap (claimAfter t) e;
-        area = z ∙ all-zero work mid h (part .long);
       }

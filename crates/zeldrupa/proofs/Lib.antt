@@ -1,3 +1,4 @@
 pub mod Gives
 pub mod Opening
 pub mod Bundling
+pub mod Running

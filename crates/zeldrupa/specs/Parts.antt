@@ -1,12 +1,16 @@
 -- How the inner parts of the interface end, by the answers that they stand for.
-use Prim.Native.Nat.{ℕ}
+use Prim.Native.Nat.{ℕ, _≤_}
 use mathlib.Core.Path.{_≡_}
 use mathlib.Core.List.{List}
 use lib.ListN.{length}
 use Rattle.folds.specs.Answers.{Answer, value, refused, written}
 use Rattle.sheet.specs.Sheet.{Sheet}
 use Rattle.bundle.specs.Bundle.{Bundle}
+use Rattle.machine.specs.Machine.{State}
+use Rattle.machine.specs.Keeps.{Keeps}
+use Rattle.machine.specs.Starts.{starting}
 use Rattle.zeldrupa.specs.Promises.{taskTable, linkTable, boardAfter, no-place, valueCount, commandTable, claimAfter}
+use Rattle.zeldrupa.specs.Stepping.{numbersOf}
 use Rattle.zeldrupa.specs.declared.ending.Outcome.{Outcome}
 use Rattle.zeldrupa.specs.declared.ending.Outcome.the-variants.{Done, Refused}
 
@@ -22,6 +26,11 @@ numberOf (Refused n at) = n
 abbrev pub placeOf : Outcome → ℕ
 placeOf (Done n) = n
 placeOf (Refused n at) = at
+
+-- an answer alone
+pub record EndIs {A : Type 0} (f : A → ℕ) (a : Answer A) (work work′ : List ℕ) (o : Outcome) : Type 0 where
+  pub answer : o ≡ outcomeOf f a
+  pub long : length work′ ≡ length work
 
 -- one output
 pub record PartIs (a : Answer (List ℕ)) (work work′ out out′ : List ℕ) (o : Outcome) : Type 0 where
@@ -43,3 +52,15 @@ pub record BundleIs (a : Answer Bundle) (work work′ c c′ : List ℕ) (t t′
   pub commands : c′ ≡ written c (commandTable a)
   pub claim : t′ ≡ claimAfter t a
   pub long : length work′ ≡ length work
+
+-- a machine that was started on these bytes and left in the state τ
+pub record StateIs (f : Sheet × Bundle → ℕ) (τ : Sheet → Bundle → State) (sheet bundle work work′ state state′ : List ℕ) (o : Outcome) : Type 0 where
+  pub answer : o ≡ outcomeOf f (starting sheet bundle)
+  pub long : length work′ ≡ length work
+  pub state-long : length state′ ≡ length state
+  pub untouched : (n at : ℕ) → starting sheet bundle ≡ refused n at → state′ ≡ state
+  pub keeps : 1120 ≤ length state → (s : Sheet) (b : Bundle) → starting sheet bundle ≡ value (s, b) → Keeps s b sheet bundle state′ (τ s b)
+
+-- the numbers of processor k
+pub record NumbersIs (state : List ℕ) (k : ℕ) (x : List ℕ) : Type 0 where
+  pub is : (s : Sheet) (b : Bundle) (sheet bundle : List ℕ) (σ : State) → Keeps s b sheet bundle state σ → x ≡ numbersOf σ k

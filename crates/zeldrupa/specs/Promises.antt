@@ -18,13 +18,18 @@ use Rattle.bundle.specs.Bundle.{Bundle}
 use Rattle.bundle.specs.Format.{readBundle}
 use Rattle.bundle.specs.Writing.{bundleValues}
 use Rattle.bundle.specs.Writing as bundles
+use Rattle.checker.specs.Checker.{check}
 
--- one lent output and one work area
-pub record Gives (a : Answer (List ℕ)) (work work′ out out′ : List ℕ) (p r : ℕ) : Type 0 where
+-- what is returned, the place, and the work area afterwards, by an answer whose results have f as their place
+pub record Ends {A : Type 0} (f : A → ℕ) (a : Answer A) (work work′ : List ℕ) (p r : ℕ) : Type 0 where
   pub returns : r ≡ number a
-  pub place : p ≡ placeOr length a
-  pub output : out′ ≡ written out a
+  pub place : p ≡ placeOr f a
   pub area : work′ ≡ cleared fixed work
+
+-- and one lent output
+pub record Gives (a : Answer (List ℕ)) (work work′ out out′ : List ℕ) (p r : ℕ) : Type 0 where
+  pub ends : Ends length a work work′ p r
+  pub output : out′ ≡ written out a
 
 -- zeldrupa_levels: the level of each task, in number order
 unfoldable pub levelsOf : Sheet → List ℕ
@@ -52,8 +57,8 @@ readSheetAnswer sheet work tasks links = longEnough fixed work (andThen (readShe
 abbrev pub boardOf : Sheet → List ℕ
 boardOf s = s .processors ∷ s .limit ∷ taskCount s ∷ linkCount s ∷ []
 
-abbrev pub no-place : Sheet → ℕ
-no-place s = 0
+abbrev pub no-place : {A : Type 0} → A → ℕ
+no-place x = 0
 
 abbrev pub taskTable : Answer Sheet → Answer (List ℕ)
 taskTable a = andThen a (λ s. value (taskValues (s .tasks)))
@@ -66,12 +71,10 @@ boardAfter old (value s) = boardOf s
 boardAfter old (refused n at) = old
 
 pub record GivesSheet (a : Answer Sheet) (work work′ t t′ l l′ b b′ : List ℕ) (p r : ℕ) : Type 0 where
-  pub returns : r ≡ number a
-  pub place : p ≡ placeOr no-place a
+  pub ends : Ends no-place a work work′ p r
   pub tasks : t′ ≡ written t (taskTable a)
   pub links : l′ ≡ written l (linkTable a)
   pub board : b′ ≡ boardAfter b a
-  pub area : work′ ≡ cleared fixed work
 
 -- zeldrupa_read_bundle: the commands as values, 50 among them, and the claim
 unfoldable pub readBundleAnswer : List ℕ → List ℕ → ℕ → ℕ → Answer Bundle
@@ -90,14 +93,16 @@ abbrev pub valueCount : Bundle → ℕ
 valueCount b = length (bundleValues b)
 
 pub record GivesBundle (a : Answer Bundle) (work work′ c c′ : List ℕ) (t t′ p r : ℕ) : Type 0 where
-  pub returns : r ≡ number a
-  pub place : p ≡ placeOr valueCount a
+  pub ends : Ends valueCount a work work′ p r
   pub commands : c′ ≡ written c (commandTable a)
   pub claim : t′ ≡ claimAfter t a
-  pub area : work′ ≡ cleared fixed work
 
 -- zeldrupa_write_bundle
 unfoldable pub writeBundleAnswer : List ℕ → List ℕ → ℕ → ℕ → ℕ → Answer (List ℕ)
 writeBundleAnswer sheet commands claim work out =
     let bytes = bundles.valueBytes commands claim in
     longEnough fixed work (andThen (readSheet sheet) (λ s. andThen (readBundle s bytes) (λ b. fitting out bytes)))
+
+-- zeldrupa_check: 0, or the first refusal of the sheet and the bundle
+unfoldable pub checkAnswer : List ℕ → List ℕ → ℕ → Answer Bundle
+checkAnswer sheet bundle work = longEnough fixed work (check sheet bundle)

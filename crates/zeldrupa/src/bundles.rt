@@ -7,12 +7,15 @@ ghost use Rattle.workspace.specs.Area.{fixed};
 ghost use Rattle.graph.specs.Graph.{readSheet};
 ghost use Rattle.bundle.specs.Format.{readBundle};
 ghost use Rattle.bundle.specs.Writing.{bundleValues, valueBytes};
-ghost use Rattle.zeldrupa.specs.Parts.{PartIs, BundleIs};
+ghost use Rattle.checker.specs.Checker.{check};
+ghost use Rattle.zeldrupa.specs.Promises.{no-place};
+ghost use Rattle.zeldrupa.specs.Parts.{EndIs, PartIs, BundleIs};
 use crate::ending::Outcome;
 use bundle::values;
 use bundle::values::Copied;
 use bundle::writer;
 use bundle::writer::Judged;
+use checker::Verdict;
 use graph::open;
 use sheet::Reading;
 use sheet::tables;
@@ -67,5 +70,16 @@ pub fn write(
                 Judged::Long(n) => Outcome::Done(n),
             }
         }
+    }
+}
+
+// What the checker says of a bundle.
+pub fn check(sheet: &[u8], bundle: &[u8], work: &mut [u32]) -> Outcome
+    requires { ⌜ fixed ≤ length (now work) ⌝ }
+    ensures { λ o. ⌜ EndIs no-place (check (now (sheet .entry)) (now (bundle .entry))) (now (work .entry)) (now (work .exit)) o ⌝ }
+{
+    match checker::bytes::check(sheet, bundle, work) {
+        Verdict::Refused(r, at) => Outcome::Refused(r, at),
+        Verdict::Good => Outcome::Done(0),
     }
 }

@@ -1,12 +1,15 @@
 // The interface for C and Rust. Every function refuses a short work area first (13), then in the document's order; a refusal changes no
-// output, and the work area is all zero afterwards. What each of them gives is in specs/Promises.antt.
+// output, and the work area is all zero afterwards. What each of them gives is in specs/Promises.antt,
+// and of the stepping machine in specs/Stepping.antt.
 ghost use mathlib.Core.Path.{_≡_};
 ghost use lib.ListN.{length};
-ghost use Rattle.zeldrupa.specs.Promises.{Gives, GivesSheet, GivesBundle, levelsAnswer, writeSheetAnswer, readSheetAnswer, readBundleAnswer, writeBundleAnswer};
+ghost use Rattle.zeldrupa.specs.Promises.{Ends, Gives, GivesSheet, GivesBundle, no-place, levelsAnswer, writeSheetAnswer, readSheetAnswer, readBundleAnswer, writeBundleAnswer, checkAnswer};
+ghost use Rattle.zeldrupa.specs.Stepping.{GivesStart, GivesRun, GivesStep, GivesLeft, GivesProcessor, GivesStamp};
 
 mod bundles;
 mod ending;
 mod sheets;
+mod stepping;
 
 // Reads a sheet into its tables: two values a task, four a link; processors, limit, tasks and links into `board`.
 #[no_mangle]
@@ -110,4 +113,138 @@ pub extern "C" fn zeldrupa_write_bundle(
     let o = bundles::write(sheet, commands, claim, work, out);
     workspace::clear(work);
     ending::conclude(o, place)
+}
+
+// Checks a bundle for a sheet.
+#[no_mangle]
+pub extern "C" fn zeldrupa_check(
+    sheet: &[u8],
+    bundle: &[u8],
+    work: &mut [u32],
+    place: &mut u64,
+) -> u8
+    ensures { λ r. ⌜ Ends no-place (checkAnswer (now (sheet .entry)) (now (bundle .entry)) (length (now (work .entry)))) (now (work .entry)) (now (work .exit)) (now (place .exit)) r ⌝ }
+{
+    if work.len() < 22528 {
+        *place = 22528;
+        return 13;
+    }
+    let o = bundles::check(sheet, bundle, work);
+    workspace::clear(work);
+    ending::conclude(o, place)
+}
+
+// Starts the machine: `state` keeps its state from then on, and is lent to each function below.
+#[no_mangle]
+pub extern "C" fn zeldrupa_start(
+    sheet: &[u8],
+    bundle: &[u8],
+    work: &mut [u32],
+    state: &mut [u32],
+    place: &mut u64,
+) -> u8
+    ensures { λ r. ⌜ GivesStart (now (sheet .entry)) (now (bundle .entry)) (now (work .entry)) (now (work .exit)) (now (state .entry)) (now (state .exit)) (now (place .exit)) r ⌝ }
+{
+    if work.len() < 22528 {
+        *place = 22528;
+        return 13;
+    }
+    if state.len() < 22528 {
+        *place = 22528;
+        return 13;
+    }
+    let o = stepping::start(sheet, bundle, work, state);
+    workspace::clear(work);
+    ending::conclude(o, place)
+}
+
+// Starts the machine and makes these choices: how many stepped.
+#[no_mangle]
+pub extern "C" fn zeldrupa_run(
+    sheet: &[u8],
+    bundle: &[u8],
+    choices: &[u8],
+    work: &mut [u32],
+    state: &mut [u32],
+    place: &mut u64,
+) -> u8
+    ensures { λ r. ⌜ GivesRun (now (choices .entry)) (now (sheet .entry)) (now (bundle .entry)) (now (work .entry)) (now (work .exit)) (now (state .entry)) (now (state .exit)) (now (place .exit)) r ⌝ }
+{
+    if work.len() < 22528 {
+        *place = 22528;
+        return 13;
+    }
+    if state.len() < 22528 {
+        *place = 22528;
+        return 13;
+    }
+    let o = stepping::run(sheet, bundle, choices, work, state);
+    workspace::clear(work);
+    ending::conclude(o, place)
+}
+
+// One command of the chosen processor: the place is 1 if it stepped, 0 if it could not.
+#[no_mangle]
+pub extern "C" fn zeldrupa_step(
+    sheet: &[u8],
+    bundle: &[u8],
+    state: &mut [u32],
+    choice: u64,
+    place: &mut u64,
+) -> u8
+    ensures { λ r. ⌜ GivesStep (now (sheet .entry)) (now (bundle .entry)) (now (state .entry)) (now (state .exit)) choice (now (place .exit)) r ⌝ }
+{
+    if state.len() < 22528 {
+        *place = 22528;
+        return 13;
+    }
+    let stepped = machine::step(sheet, bundle, state, choice as usize);
+    *place = stepping::counted(stepped);
+    0
+}
+
+// The commands still to do.
+#[no_mangle]
+pub extern "C" fn zeldrupa_left(bundle: &[u8], state: &[u32], place: &mut u64) -> u8
+    ensures { λ r. ⌜ GivesLeft (now (bundle .entry)) (now (state .entry)) (now (place .exit)) r ⌝ }
+{
+    if state.len() < 22528 {
+        *place = 22528;
+        return 13;
+    }
+    *place = machine::left(state) as u64;
+    0
+}
+
+// Clock, position and store in use of processor k.
+#[no_mangle]
+pub extern "C" fn zeldrupa_processor(
+    bundle: &[u8],
+    state: &[u32],
+    k: u64,
+    processor: &mut [u32; 3],
+    place: &mut u64,
+) -> u8
+    ensures { λ r. ⌜ GivesProcessor (now (bundle .entry)) (now (state .entry)) k (now (processor .entry)) (now (processor .exit)) (now (place .exit)) r ⌝ }
+{
+    if state.len() < 22528 {
+        *place = 22528;
+        return 13;
+    }
+    stepping::numbers(state, k as usize, processor);
+    *place = 0;
+    0
+}
+
+// One more than the stamp of a link's message, or 0 while it is not sent.
+#[no_mangle]
+pub extern "C" fn zeldrupa_stamp(state: &[u32], link: u64, place: &mut u64) -> u8
+    ensures { λ r. ⌜ GivesStamp (now (state .entry)) link (now (place .exit)) r ⌝ }
+{
+    if state.len() < 22528 {
+        *place = 22528;
+        return 13;
+    }
+    *place = machine::stamp(state, link as usize) as u64;
+    0
 }
