@@ -4,4 +4,6 @@ pub mod Blocks
 pub mod Written
 pub mod Running
 pub mod Planned
+pub mod Numbers
+pub mod Calls
 pub mod Whole

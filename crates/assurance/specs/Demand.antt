@@ -1,22 +1,27 @@
--- Demand 3: what holds after every list of choices of a processor, that the checker accepts just the bundles for which it does, and that it accepts every plan.
+-- Demand 3, of the functions of the interface: what holds after every list of choices of a processor, that the checker accepts just the bundles for which it
+-- does, that it accepts every plan, and that the public machine agrees. `Gives..` is what a call of the function of that name promises, word for word.
 use Prim.Native.Nat.{ℕ, _+_, _≤_, _<_}
 use mathlib.Core.Bool.{true}
 use mathlib.Core.Option.{some}
 use mathlib.Core.Path.{_≡_}
 use mathlib.Core.Logic.{_↔_}
-use mathlib.Core.List.{List}
-use lib.ListN.{take, getD, getElem?}
+use mathlib.Core.List.{List, [], _∷_, map}
+use lib.ListN.{length, take, getD, getElem?}
+use Rattle.folds.specs.Folds.{bit}
 use Rattle.folds.specs.Answers.{value}
+use Rattle.workspace.specs.Area.{fixed}
 use Rattle.sheet.specs.Sheet.{Sheet, taskCount, linkCount, sourceOf, targetOf}
 use Rattle.graph.specs.Graph.{readSheet}
 use Rattle.bundle.specs.Bundle.{Command, run, receive, Bundle, programmeOf}
 use Rattle.bundle.specs.Format.{readBundle}
 use Rattle.messages.specs.Counting.{weigh, whole, each, is, need}
 use Rattle.messages.specs.Messages.{Published}
-use Rattle.machine.specs.Machine.{processorOf, canStep}
-use Rattle.machine.specs.Runs.{Run, runOf, doneOf, done, left, latest}
-use Rattle.checker.specs.Checker.{check}
-use Rattle.planner.specs.Planner.{plan}
+use Rattle.machine.specs.Machine.{processorOf, stampOf, canStep}
+use Rattle.machine.specs.Runs.{Run, freshRun, runOf, answers, doneOf, done, left, latest}
+use Rattle.machine.specs.Keeps.{Keeps}
+use Rattle.machine.specs.Starts.{starting}
+use Rattle.zeldrupa.specs.Promises.{GivesCheck, GivesPlan}
+use Rattle.zeldrupa.specs.Stepping.{GivesStart, GivesRun, GivesStep, GivesLeft, numbersOf, GivesProcessor, stampNumber, GivesStamp}
 
 -- numbers that are bytes
 abbrev pub Bytes : List ℕ → Type 0
@@ -43,14 +48,41 @@ pub record Holds (s : Sheet) (b : Bundle) (r : Run) : Type 0 where
   -- once no command is left every task has run just once, and "the latest clock" is the claim
   pub finish : left b (r .state) each ≡ 0 → ((t : ℕ) → t < taskCount s → done b (r .state) (is (run t)) ≡ 1) × (latest (r .state) ≡ b .claim)
 
+-- calls of zeldrupa_step with these choices, each lent the words that the last one left, and the places that they gave
+pub data Stepped (sheet bundle : List ℕ) : List ℕ → List ℕ → List ℕ → List ℕ → Type 0 where
+  nothing : {state : List ℕ} → Stepped sheet bundle [] [] state state
+  stepped : {k p r : ℕ} {ks ps state next last : List ℕ} → GivesStep sheet bundle state next k p r → Stepped sheet bundle ks ps next last → Stepped sheet bundle (k ∷ ks) (p ∷ ps) state last
+
+-- the words `last`, after calls with the choices ks that gave the places ps, hold what the definition has after these choices
+pub record Agrees (s : Sheet) (b : Bundle) (sheet bundle ks ps last : List ℕ) : Type 0 where
+  -- "has given the definition's answers": 1 for each choice that stepped, 0 for each that could not
+  pub answered : ps ≡ map bit (answers s b (freshRun s b) ks)
+  -- "and holds its positions, clocks, stores and stamps"
+  pub keeps : Keeps s b sheet bundle last (runOf s b ks .state)
+  pub left : (p r : ℕ) → GivesLeft bundle last p r → p ≡ left b (runOf s b ks .state) each
+  pub processor : (k p r : ℕ) (x x′ : List ℕ) → GivesProcessor bundle last k x x′ p r → x′ ≡ numbersOf (runOf s b ks .state) k
+  pub stamp : (l p r : ℕ) → GivesStamp last l p r → p ≡ stampNumber (stampOf (runOf s b ks .state) l)
+
 pub record Demand : Type 0 where
-  -- what an accepted bundle promises, after "a list of choices, of any length and any numbers, from the fresh state"
+  -- what a bundle promises that zeldrupa_check accepts, after "a list of choices, of any length and any numbers, from the fresh state"
   pub promised :
-      (sheet bundle : List ℕ) (b : Bundle) → check sheet bundle ≡ value b →
-      (s : Sheet) × (readSheet sheet ≡ value s) × (readBundle s bundle ≡ value b) × ((ks : List ℕ) → Holds s b (runOf s b ks))
-  -- which bundles with "the published form and messages" are accepted
+      (sheet bundle work work′ : List ℕ) (p : ℕ) → GivesCheck sheet bundle work work′ p 0 →
+      (s : Sheet) × (b : Bundle) × (readSheet sheet ≡ value s) × (readBundle s bundle ≡ value b) × ((ks : List ℕ) → Holds s b (runOf s b ks))
+  -- which bundles with "the published form and messages" it accepts
   pub exactly :
-      (sheet bundle : List ℕ) (s : Sheet) (b : Bundle) → readSheet sheet ≡ value s → readBundle s bundle ≡ value b → Published s b →
-      (check sheet bundle ≡ value b) ↔ ((ks : List ℕ) → Holds s b (runOf s b ks))
-  -- every plan is accepted
-  pub planned : (sheet out : List ℕ) → Bytes sheet → plan sheet ≡ value out → (b : Bundle) × (check sheet out ≡ value b)
+      (sheet bundle work work′ : List ℕ) (p r : ℕ) → fixed ≤ length work → GivesCheck sheet bundle work work′ p r →
+      (s : Sheet) (b : Bundle) → readSheet sheet ≡ value s → readBundle s bundle ≡ value b → Published s b →
+      (r ≡ 0) ↔ ((ks : List ℕ) → Holds s b (runOf s b ks))
+  -- it accepts every bundle that zeldrupa_plan writes
+  pub planned :
+      (sheet work work′ out out′ : List ℕ) (n : ℕ) → Bytes sheet → GivesPlan sheet work work′ out out′ n 0 →
+      (area area′ : List ℕ) (p r : ℕ) → fixed ≤ length area → GivesCheck sheet (take n out′) area area′ p r → r ≡ 0
+  -- zeldrupa_start and any list of calls of zeldrupa_step give what the definition gives, and so does zeldrupa_run
+  pub agrees :
+      (sheet bundle work work′ state state′ : List ℕ) (p : ℕ) → GivesStart sheet bundle work work′ state state′ p 0 →
+      (s : Sheet) × (b : Bundle) × (starting sheet bundle ≡ value (s, b)) ×
+      ((ks ps last : List ℕ) → Stepped sheet bundle ks ps state′ last → Agrees s b sheet bundle ks ps last)
+  pub runs :
+      (sheet bundle choices work work′ state state′ : List ℕ) (p : ℕ) → GivesRun choices sheet bundle work work′ state state′ p 0 →
+      (s : Sheet) × (b : Bundle) × (starting sheet bundle ≡ value (s, b)) ×
+      (p ≡ runOf s b choices .stepped) × Keeps s b sheet bundle state′ (runOf s b choices .state)

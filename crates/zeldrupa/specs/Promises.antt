@@ -19,6 +19,7 @@ use Rattle.bundle.specs.Format.{readBundle}
 use Rattle.bundle.specs.Writing.{bundleValues}
 use Rattle.bundle.specs.Writing as bundles
 use Rattle.checker.specs.Checker.{check}
+use Rattle.planner.specs.Planner.{plan}
 
 -- what is returned, the place, and the work area afterwards, by an answer whose results have f as their place
 pub record Ends {A : Type 0} (f : A → ℕ) (a : Answer A) (work work′ : List ℕ) (p r : ℕ) : Type 0 where
@@ -103,6 +104,16 @@ writeBundleAnswer sheet commands claim work out =
     let bytes = bundles.valueBytes commands claim in
     longEnough fixed work (andThen (readSheet sheet) (λ s. andThen (readBundle s bytes) (λ b. fitting out bytes)))
 
--- zeldrupa_check: 0, or the first refusal of the sheet and the bundle
+-- zeldrupa_check: the first refusal of the sheet and the bundle, or none
 unfoldable pub checkAnswer : List ℕ → List ℕ → ℕ → Answer Bundle
 checkAnswer sheet bundle work = longEnough fixed work (check sheet bundle)
+
+abbrev pub GivesCheck : List ℕ → List ℕ → List ℕ → List ℕ → ℕ → ℕ → Type 0
+GivesCheck sheet bundle work = Ends no-place (checkAnswer sheet bundle (length work)) work
+
+-- zeldrupa_plan: the bytes of the bundle that is planned
+unfoldable pub planAnswer : List ℕ → ℕ → ℕ → Answer (List ℕ)
+planAnswer sheet work out = longEnough fixed work (andThen (plan sheet) (fitting out))
+
+abbrev pub GivesPlan : List ℕ → List ℕ → List ℕ → List ℕ → List ℕ → ℕ → ℕ → Type 0
+GivesPlan sheet work work′ out = Gives (planAnswer sheet (length work) (length out)) work work′ out

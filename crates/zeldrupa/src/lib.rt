@@ -3,7 +3,7 @@
 // and of the stepping machine in specs/Stepping.antt.
 ghost use mathlib.Core.Path.{_≡_};
 ghost use lib.ListN.{length};
-ghost use Rattle.zeldrupa.specs.Promises.{Ends, Gives, GivesSheet, GivesBundle, no-place, levelsAnswer, writeSheetAnswer, readSheetAnswer, readBundleAnswer, writeBundleAnswer, checkAnswer};
+ghost use Rattle.zeldrupa.specs.Promises.{Gives, GivesSheet, GivesBundle, GivesCheck, levelsAnswer, writeSheetAnswer, readSheetAnswer, readBundleAnswer, writeBundleAnswer};
 ghost use Rattle.zeldrupa.specs.Stepping.{GivesStart, GivesRun, GivesStep, GivesLeft, GivesProcessor, GivesStamp};
 
 mod bundles;
@@ -123,7 +123,7 @@ pub extern "C" fn zeldrupa_check(
     work: &mut [u32],
     place: &mut u64,
 ) -> u8
-    ensures { λ r. ⌜ Ends no-place (checkAnswer (now (sheet .entry)) (now (bundle .entry)) (length (now (work .entry)))) (now (work .entry)) (now (work .exit)) (now (place .exit)) r ⌝ }
+    ensures { λ r. ⌜ GivesCheck (now (sheet .entry)) (now (bundle .entry)) (now (work .entry)) (now (work .exit)) (now (place .exit)) r ⌝ }
 {
     if work.len() < 22528 {
         *place = 22528;
