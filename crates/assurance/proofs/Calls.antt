@@ -1,19 +1,16 @@
 -- Calls of the public machine, one after the other.
-use Prim.Native.Nat.{ℕ, _≤_, _<_}
-use mathlib.Core.Path.{_≡_, refl, sym, ap, ap₂, subst, _∙_}
-use mathlib.Core.Bool.{Bool}
-use mathlib.Core.List.{List, [], _∷_, map}
+use Prim.Native.Nat.{ℕ, _≤_}
+use mathlib.Core.Path.{_≡_, refl, sym, ap₂, subst}
+use mathlib.Core.List.{List, _∷_, map}
 use native.Mathlib.Omega.{arith}
 use lib.ListN.{length}
 use Rattle.folds.specs.Folds.{bit}
 use Rattle.workspace.specs.Area.{fixed}
 use Rattle.sheet.specs.Sheet.{Sheet}
 use Rattle.bundle.specs.Bundle.{Bundle}
-use Rattle.machine.specs.Machine.{State, canStep}
 use Rattle.machine.specs.Runs.{Run, choose, runFrom, freshRun, runOf, answers}
 use Rattle.machine.specs.Keeps.{Keeps}
 use Rattle.machine.proofs.Lists.{choose-is}
-use Rattle.zeldrupa.specs.Stepping.{GivesStep}
 use Rattle.assurance.specs.Demand.{Stepped, nothing, stepped, Agrees}
 
 module _ (s : Sheet) (b : Bundle) (sheet bundle : List ℕ) where

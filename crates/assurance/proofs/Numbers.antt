@@ -1,16 +1,16 @@
 -- No refusal has the number 0, so a returned 0 is a result.
-use Prim.Native.Nat.{ℕ, zero, suc, _+_, _≤_, _<_}
-use mathlib.Core.Path.{_≡_, refl, sym, ap, subst, _∙_}
+use Prim.Native.Nat.{ℕ, zero, suc, _+_, _<_}
+use mathlib.Core.Path.{_≡_, refl, sym}
 use mathlib.Core.Bool.{Bool, true, false, not}
 use mathlib.Core.Option.{Option, none, some}
 use mathlib.Core.List.{List, [], _∷_}
 use native.Mathlib.Omega.{arith}
 use lib.ListN.{length, drop}
 use lib.Dec.{ltb, eqb}
-use Rattle.folds.specs.Folds.{pick, both, firstOf}
+use Rattle.folds.specs.Folds.{pick, both}
 use Rattle.folds.specs.Answers.{Answer, value, refused, andThen, unless, longEnough, fitting, number}
 use Rattle.folds.proofs.Tests.{not-value, not-some}
-use Rattle.commands.specs.Commands.{Format, Outcome, refuse, go, verdict, judgeKind, judge, onward, follow, readFrom, readAll}
+use Rattle.commands.specs.Commands.{Format, verdict, judgeKind, judge, onward, follow, readFrom, readAll}
 use Rattle.sheet.specs.Sheet.{Sheet, taskCount}
 use Rattle.sheet.specs.Format as sheets
 use Rattle.graph.specs.Graph.{circle, readSheet}

@@ -26,7 +26,8 @@ use Rattle.planner.specs.Placing.{barred}
 use Rattle.planner.specs.Planner.{bundleOf, planned, plan}
 use Rattle.machine.specs.Starts.{starting}
 use Rattle.zeldrupa.specs.Promises.{checkAnswer, GivesCheck, planAnswer, GivesPlan}
-use Rattle.zeldrupa.specs.Stepping.{startAnswer, steppedIn}
+use Rattle.answers.specs.Values.{steppedIn}
+use Rattle.zeldrupa.specs.Stepping.{startAnswer}
 use Rattle.zeldrupa.proofs.Gives.{short, enough}
 use Rattle.assurance.specs.Demand.{Bytes, Holds, Demand}
 use Rattle.assurance.proofs.Numbers.{returned-0, numbered-long, numbered-check, numbered-starting, numbered-plan, numbered-given}

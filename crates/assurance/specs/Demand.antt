@@ -21,7 +21,8 @@ use Rattle.machine.specs.Runs.{Run, freshRun, runOf, answers, doneOf, done, lef
 use Rattle.machine.specs.Keeps.{Keeps}
 use Rattle.machine.specs.Starts.{starting}
 use Rattle.zeldrupa.specs.Promises.{GivesCheck, GivesPlan}
-use Rattle.zeldrupa.specs.Stepping.{GivesStart, GivesRun, GivesStep, GivesLeft, numbersOf, GivesProcessor, stampNumber, GivesStamp}
+use Rattle.answers.specs.Values.{numbersOf}
+use Rattle.zeldrupa.specs.Stepping.{GivesStart, GivesRun, GivesStep, GivesLeft, GivesProcessor, stampNumber, GivesStamp}
 
 -- numbers that are bytes
 abbrev pub Bytes : List ℕ → Type 0

@@ -2,8 +2,8 @@
 use Prim.Native.Nat.{ℕ, _<_}
 use mathlib.Core.Path.{_≡_, sym, ap, _∙_}
 use mathlib.Core.List.{List}
-use lib.ListN.{length, getD}
-use Rattle.folds.specs.Answers.{Answer, refused, andThen}
+use lib.ListN.{getD}
+use Rattle.folds.specs.Answers.{Answer, andThen}
 use Rattle.sheet.specs.Sheet.{Sheet}
 use Rattle.sheet.specs.Tables.{sheetIn}
 use Rattle.sheet.specs.declared.Reading.{Reading}

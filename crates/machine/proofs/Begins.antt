@@ -2,8 +2,7 @@
 use Prim.Native.Nat.{ℕ, _<_}
 use mathlib.Core.Path.{_≡_, refl, sym, ap, subst, _∙_}
 use mathlib.Core.List.{List}
-use native.Mathlib.Omega.{arith}
-use lib.ListN.{length, getD}
+use lib.ListN.{getD}
 use Rattle.folds.specs.Answers.{Answer, value, refused, andThen}
 use Rattle.folds.proofs.Tests.{not-value}
 use Rattle.sheet.specs.Sheet.{Sheet}

@@ -4,14 +4,14 @@ use mathlib.Core.Path.{_≡_, refl, ap, sym, _∙_}
 use mathlib.Core.List.{List}
 use borrow.Author.Tests.{lt-ltb, le-ltb}
 use lib.ListN.{length, replicate}
-use Rattle.folds.specs.Folds.{pick}
 use Rattle.folds.specs.Answers.{Answer, value, refused, longEnough, number, placeOr, written, cleared}
 use Rattle.workspace.specs.Area.{fixed}
 use Rattle.sheet.specs.Sheet.{Sheet}
 use Rattle.bundle.specs.Bundle.{Bundle}
-use Rattle.zeldrupa.specs.Promises.{Ends, Gives, GivesSheet, GivesBundle, taskTable, linkTable, boardAfter, commandTable, claimAfter, no-place, valueCount}
-use Rattle.zeldrupa.specs.Parts.{outcomeOf, numberOf, placeOf, EndIs, PartIs, SheetIs, BundleIs}
-use Rattle.zeldrupa.specs.declared.ending.Outcome.{Outcome}
+use Rattle.answers.specs.Values.{taskTable, linkTable, boardAfter, commandTable, claimAfter, no-place, valueCount}
+use Rattle.zeldrupa.specs.Promises.{Ends, Gives, GivesSheet, GivesBundle}
+use Rattle.answers.specs.Parts.{outcomeOf, numberOf, placeOf, EndIs, PartIs, SheetIs, BundleIs}
+use Rattle.answers.specs.declared.ending.Outcome.{Outcome}
 
 -- an area that is too short, and one that is long enough
 pub short : {A : Type 0} (a : Answer A) (n : ℕ) → n < fixed → longEnough fixed n a ≡ refused 13 fixed

@@ -1,4 +1,2 @@
 pub mod Gives
-pub mod Opening
-pub mod Bundling
-pub mod Running
+pub mod States

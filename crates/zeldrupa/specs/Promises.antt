@@ -2,24 +2,22 @@
 --
 -- An answer is 13 for a short area, then the refusals in the document's order, 12 last, or the result. From it follow the returned number
 -- (`number`, 0 for a result), the place (`placeOr`), the output (`written`) and the work area (`cleared`), all of folds/specs/Answers.
-use Prim.Native.Nat.{ℕ, _*_}
+use Prim.Native.Nat.{ℕ}
 use mathlib.Core.Path.{_≡_}
-use mathlib.Core.List.{List, [], _∷_}
+use mathlib.Core.List.{List}
 use lib.ListN.{length}
-use lib.Dec.{ltb}
-use Rattle.folds.specs.Folds.{pick, listed}
-use Rattle.folds.specs.Answers.{Answer, value, refused, andThen, longEnough, fitting, number, placeOr, written, cleared}
+use Rattle.folds.specs.Answers.{Answer, value, andThen, longEnough, fitting, number, placeOr, written, cleared}
 use Rattle.workspace.specs.Area.{fixed}
-use Rattle.sheet.specs.Sheet.{Sheet, taskCount, linkCount}
-use Rattle.sheet.specs.Writing.{taskValues, linkValues}
+use Rattle.sheet.specs.Sheet.{Sheet}
 use Rattle.sheet.specs.Writing as sheets
-use Rattle.graph.specs.Graph.{level, readSheet}
+use Rattle.graph.specs.Graph.{readSheet}
 use Rattle.bundle.specs.Bundle.{Bundle}
 use Rattle.bundle.specs.Format.{readBundle}
 use Rattle.bundle.specs.Writing.{bundleValues}
 use Rattle.bundle.specs.Writing as bundles
 use Rattle.checker.specs.Checker.{check}
 use Rattle.planner.specs.Planner.{plan}
+use Rattle.answers.specs.Values.{levelsOf, tabled, no-place, taskTable, linkTable, boardAfter, commandTable, claimAfter, valueCount}
 
 -- what is returned, the place, and the work area afterwards, by an answer whose results have f as their place
 pub record Ends {A : Type 0} (f : A → ℕ) (a : Answer A) (work work′ : List ℕ) (p r : ℕ) : Type 0 where
@@ -32,10 +30,7 @@ pub record Gives (a : Answer (List ℕ)) (work work′ out out′ : List ℕ) (p
   pub ends : Ends length a work work′ p r
   pub output : out′ ≡ written out a
 
--- zeldrupa_levels: the level of each task, in number order
-unfoldable pub levelsOf : Sheet → List ℕ
-levelsOf s = listed (taskCount s) (level s)
-
+-- zeldrupa_levels: the level of each task
 unfoldable pub levelsAnswer : List ℕ → ℕ → ℕ → Answer (List ℕ)
 levelsAnswer sheet work out = longEnough fixed work (andThen (readSheet sheet) (λ s. fitting out (levelsOf s)))
 
@@ -45,31 +40,9 @@ writeSheetAnswer processors limit tasks links work out =
     let bytes = sheets.valueBytes processors limit tasks links in
     longEnough fixed work (andThen (readSheet bytes) (λ s. fitting out bytes))
 
--- zeldrupa_read_sheet: 12 for the tasks' table first, then for the links'
-unfoldable pub tabled : ℕ → ℕ → Sheet → Answer Sheet
-tabled tasks links s =
-    pick (ltb tasks (2 * taskCount s)) (refused 12 (2 * taskCount s))
-    (pick (ltb links (4 * linkCount s)) (refused 12 (4 * linkCount s)) (value s))
-
+-- zeldrupa_read_sheet: two values a task, four a link, and the board
 unfoldable pub readSheetAnswer : List ℕ → ℕ → ℕ → ℕ → Answer Sheet
 readSheetAnswer sheet work tasks links = longEnough fixed work (andThen (readSheet sheet) (tabled tasks links))
-
--- processors, limit, task count and link count
-abbrev pub boardOf : Sheet → List ℕ
-boardOf s = s .processors ∷ s .limit ∷ taskCount s ∷ linkCount s ∷ []
-
-abbrev pub no-place : {A : Type 0} → A → ℕ
-no-place x = 0
-
-abbrev pub taskTable : Answer Sheet → Answer (List ℕ)
-taskTable a = andThen a (λ s. value (taskValues (s .tasks)))
-
-abbrev pub linkTable : Answer Sheet → Answer (List ℕ)
-linkTable a = andThen a (λ s. value (linkValues (s .links)))
-
-abbrev pub boardAfter : List ℕ → Answer Sheet → List ℕ
-boardAfter old (value s) = boardOf s
-boardAfter old (refused n at) = old
 
 pub record GivesSheet (a : Answer Sheet) (work work′ t t′ l l′ b b′ : List ℕ) (p r : ℕ) : Type 0 where
   pub ends : Ends no-place a work work′ p r
@@ -82,16 +55,6 @@ unfoldable pub readBundleAnswer : List ℕ → List ℕ → ℕ → ℕ → Answ
 readBundleAnswer sheet bundle work out =
     longEnough fixed work
     (andThen (readSheet sheet) (λ s. andThen (readBundle s bundle) (λ b. andThen (fitting out (bundleValues b)) (λ v. value b))))
-
-abbrev pub commandTable : Answer Bundle → Answer (List ℕ)
-commandTable a = andThen a (λ b. value (bundleValues b))
-
-abbrev pub claimAfter : ℕ → Answer Bundle → ℕ
-claimAfter old (value b) = b .claim
-claimAfter old (refused n at) = old
-
-abbrev pub valueCount : Bundle → ℕ
-valueCount b = length (bundleValues b)
 
 pub record GivesBundle (a : Answer Bundle) (work work′ c c′ : List ℕ) (t t′ p r : ℕ) : Type 0 where
   pub ends : Ends valueCount a work work′ p r

@@ -2,7 +2,7 @@
 use Prim.Native.Nat.{ℕ, suc, _≤_, _<_}
 use mathlib.Core.Path.{_≡_}
 use mathlib.Core.Option.{Option, none, some}
-use mathlib.Core.List.{List, [], _∷_}
+use mathlib.Core.List.{List}
 use lib.ListN.{length}
 use lib.Dec.{ltb}
 use Rattle.folds.specs.Folds.{pick, bit}
@@ -11,10 +11,11 @@ use Rattle.workspace.specs.Area.{fixed}
 use Rattle.sheet.specs.Sheet.{Sheet}
 use Rattle.bundle.specs.Bundle.{Bundle}
 use Rattle.messages.specs.Counting.{each}
-use Rattle.machine.specs.Machine.{State, freshState, processorOf, stampOf, step, canStep}
+use Rattle.machine.specs.Machine.{State, freshState, stampOf, step, canStep}
 use Rattle.machine.specs.Runs.{runOf, left}
 use Rattle.machine.specs.Keeps.{Keeps, chosen}
 use Rattle.machine.specs.Starts.{starting}
+use Rattle.answers.specs.Values.{steppedIn, numbersOf}
 
 -- zeldrupa_start, zeldrupa_run: 13 for the work area, then for the state's
 unfoldable pub startAnswer : List ℕ → List ℕ → ℕ → ℕ → Answer (Sheet × Bundle)
@@ -34,9 +35,6 @@ abbrev pub GivesStart : List ℕ → List ℕ → List ℕ → List ℕ → List
 GivesStart = GivesState (λ x. 0) freshState
 
 -- zeldrupa_run: the state after a list of choices, and how many of them stepped
-abbrev pub steppedIn : List ℕ → Sheet × Bundle → ℕ
-steppedIn choices x = runOf (x .0) (x .1) choices .stepped
-
 abbrev pub GivesRun : List ℕ → List ℕ → List ℕ → List ℕ → List ℕ → List ℕ → List ℕ → ℕ → ℕ → Type 0
 GivesRun choices = GivesState (steppedIn choices) (λ s b. runOf s b choices .state)
 
@@ -60,9 +58,6 @@ pub record GivesLeft (bundle state : List ℕ) (p r : ℕ) : Type 0 where
   pub agrees : fixed ≤ length state → (s : Sheet) (b : Bundle) (sheet : List ℕ) (σ : State) → Keeps s b sheet bundle state σ → p ≡ left b σ each
 
 -- zeldrupa_processor: clock, position and store in use of processor k, each 0 where it has no programme
-abbrev pub numbersOf : State → ℕ → List ℕ
-numbersOf σ k = processorOf σ k .clock ∷ processorOf σ k .position ∷ processorOf σ k .store ∷ []
-
 pub record GivesProcessor (bundle state : List ℕ) (k : ℕ) (x x′ : List ℕ) (p r : ℕ) : Type 0 where
   pub returns : r ≡ stateNumber state
   pub place : p ≡ pick (ltb (length state) fixed) fixed 0

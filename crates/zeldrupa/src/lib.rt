@@ -5,11 +5,11 @@ ghost use mathlib.Core.Path.{_≡_};
 ghost use lib.ListN.{length};
 ghost use Rattle.zeldrupa.specs.Promises.{Gives, GivesSheet, GivesBundle, GivesCheck, levelsAnswer, writeSheetAnswer, readSheetAnswer, readBundleAnswer, writeBundleAnswer};
 ghost use Rattle.zeldrupa.specs.Stepping.{GivesStart, GivesRun, GivesStep, GivesLeft, GivesProcessor, GivesStamp};
+use answers::bundles;
+use answers::ending;
+use answers::sheets;
+use answers::stepping;
 
-mod bundles;
-mod ending;
-mod sheets;
-mod stepping;
 
 // Reads a sheet into its tables: two values a task, four a link; processors, limit, tasks and links into `board`.
 #[no_mangle]

@@ -1,6 +1,7 @@
 use Rattle.zeldrupa.proofs.Gives.{ends-part, ends-short}
 use Rattle.checker.specs.Checker.{check}
-use Rattle.zeldrupa.specs.Promises.{no-place, checkAnswer}
+use Rattle.answers.specs.Values.{no-place}
+use Rattle.zeldrupa.specs.Promises.{checkAnswer}
 use denote.Ref.{now}
 use borrow.Author.Needs.{needs}
 use Rattle.zeldrupa.proofs.zeldrupa_check.Statement.{statement}

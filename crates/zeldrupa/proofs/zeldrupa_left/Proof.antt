@@ -1,4 +1,4 @@
-use Rattle.zeldrupa.proofs.Running.{left-given, left-short}
+use Rattle.zeldrupa.proofs.States.{left-given, left-short}
 use borrow.Author.Needs.{needs}
 use Rattle.zeldrupa.proofs.zeldrupa_left.Statement.{statement}
 use Rattle.zeldrupa.proofs.zeldrupa_left.Tie as tie

@@ -1,7 +1,8 @@
 use Rattle.folds.specs.Answers.{andThen, fitting}
 use Rattle.graph.specs.Graph.{readSheet}
 use Rattle.zeldrupa.proofs.Gives.{gives-part, gives-short}
-use Rattle.zeldrupa.specs.Promises.{levelsAnswer, levelsOf}
+use Rattle.answers.specs.Values.{levelsOf}
+use Rattle.zeldrupa.specs.Promises.{levelsAnswer}
 use borrow.Author.Needs.{needs}
 use denote.Ref.{now}
 use lib.ListN.{length}

@@ -1,4 +1,4 @@
-use Rattle.zeldrupa.proofs.Running.{processor-given, processor-short}
+use Rattle.zeldrupa.proofs.States.{processor-given, processor-short}
 use borrow.Author.Needs.{needs}
 use Rattle.zeldrupa.proofs.zeldrupa_processor.Statement.{statement}
 use Rattle.zeldrupa.proofs.zeldrupa_processor.Tie as tie

@@ -1,4 +1,4 @@
-use Rattle.zeldrupa.proofs.Running.{given-short-state, given-short-work, given-state}
+use Rattle.zeldrupa.proofs.States.{given-short-state, given-short-work, given-state}
 use borrow.Author.Needs.{needs}
 use Rattle.zeldrupa.proofs.zeldrupa_run.Statement.{statement}
 use Rattle.zeldrupa.proofs.zeldrupa_run.Tie as tie

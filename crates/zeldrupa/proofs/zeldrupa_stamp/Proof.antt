@@ -1,4 +1,4 @@
-use Rattle.zeldrupa.proofs.Running.{stamp-given, stamp-short}
+use Rattle.zeldrupa.proofs.States.{stamp-given, stamp-short}
 use borrow.Author.Needs.{needs}
 use Rattle.zeldrupa.proofs.zeldrupa_stamp.Statement.{statement}
 use Rattle.zeldrupa.proofs.zeldrupa_stamp.Tie as tie

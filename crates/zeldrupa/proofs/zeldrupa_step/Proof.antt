@@ -1,4 +1,4 @@
-use Rattle.zeldrupa.proofs.Running.{step-given, step-short}
+use Rattle.zeldrupa.proofs.States.{step-given, step-short}
 use borrow.Author.Needs.{needs}
 use Rattle.zeldrupa.proofs.zeldrupa_step.Statement.{statement}
 use Rattle.zeldrupa.proofs.zeldrupa_step.Tie as tie
