@@ -9,7 +9,8 @@ use Rattle.sheet.specs.Sheet.{Sheet, taskCount, linkCount, sourceOf, targetOf}
 use Rattle.sheet.specs.Tables.{sheetIn}
 use Rattle.planner.specs.Schedule.{Schedule}
 use Rattle.planner.specs.Placing.{ready}
-use Rattle.schedule.specs.Layout.{scheduleIn, Levelled}
+use Rattle.graph.specs.Found.{Levelled}
+use Rattle.schedule.specs.Layout.{scheduleIn}
 use Rattle.arrivals.specs.Kept.{countedBy, intoFrom, oneBy, known, Kept}
 
 -- no two links join the same tasks in the same direction

@@ -11,7 +11,8 @@ use Rattle.sheet.specs.Tables.{sheetIn}
 use Rattle.sheet.proofs.Rows.{tasks-in}
 use Rattle.graph.specs.Graph.{level}
 use Rattle.planner.specs.Schedule.{Schedule, nowhere, placeOf, startOf, finishOf}
-use Rattle.schedule.specs.Layout.{scheduleIn, Levelled}
+use Rattle.graph.specs.Found.{Levelled}
+use Rattle.schedule.specs.Layout.{scheduleIn}
 
 module _ (w : List ℕ) where
   pub place-in : (t : ℕ) → t < taskCount (sheetIn w) → placeOf (scheduleIn w) t ≡ getD w (8192 + t) 0

@@ -9,13 +9,10 @@
 --   12816 + t latest reach from any other processor
 --   13328 + k end and 13344 + k store of processor k, 13360 + k links from it to tasks that are not placed
 --   14336 + (16 t + k) number and 18432 + (16 t + k) bytes of the links into task t from processor k
-use Prim.Native.Nat.{ℕ, _+_, _<_}
-use mathlib.Core.Path.{_≡_}
+use Prim.Native.Nat.{ℕ, _+_}
 use mathlib.Core.List.{List}
 use lib.ListN.{getD, set}
 use Rattle.folds.specs.Folds.{listed}
-use Rattle.sheet.specs.Sheet.{Sheet, taskCount}
-use Rattle.graph.specs.Graph.{level}
 use Rattle.planner.specs.Schedule.{Schedule}
 
 unfoldable pub scheduleIn : List ℕ → Schedule
@@ -27,10 +24,6 @@ scheduleIn w =
       order = listed (getD w 9217 0) (λ i. getD w (8960 + i) 0);
       opened = getD w 9216 0;
     }
-
--- the level words hold the levels
-pub record Levelled (s : Sheet) (w : List ℕ) : Type 0 where
-  pub levels : (t : ℕ) → t < taskCount s → getD w (4624 + t) 0 ≡ level s t
 
 -- the words with t on k from a to b, where p tasks were placed before, and o processors are open now
 unfoldable pub putWords : List ℕ → ℕ → ℕ → ℕ → ℕ → ℕ → ℕ → List ℕ
