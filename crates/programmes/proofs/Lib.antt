@@ -1,0 +1,6 @@
+pub mod Gathers
+pub mod Parts
+pub mod Measures
+pub mod Puts
+pub mod Writes
+pub mod Plans

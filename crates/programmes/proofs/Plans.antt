@@ -1,0 +1,127 @@
+-- From the bytes of a sheet to its plan: refused, without a schedule, or written.
+use Prim.Native.Nat.{ℕ, zero, suc, _<_}
+use mathlib.Core.Path.{_≡_, refl, sym, ap, subst, _∙_}
+use mathlib.Core.List.{List, []}
+use native.Mathlib.Omega.{arith}
+use lib.ListN.{length, getD}
+use Rattle.folds.specs.Answers.{Answer, value, refused, andThen, fitting}
+use Rattle.sheet.specs.Sheet.{Sheet, taskCount}
+use Rattle.sheet.specs.Tables.{sheetIn, Loaded}
+use Rattle.sheet.specs.Answers.{readingOf}
+use Rattle.sheet.specs.declared.Reading.{Reading}
+use Rattle.sheet.specs.declared.Reading.the-variants as readings
+use Rattle.chains.specs.Chains.{Chained}
+use Rattle.chains.specs.declared.End.the-variants.{Source, Target}
+use Rattle.graph.specs.Graph.{readSheet}
+use Rattle.graph.specs.Found.{Levelled}
+use Rattle.graph.specs.Opened.{OpenIs}
+use Rattle.graph.proofs.Proper.{Proper, proper}
+use Rattle.bundle.specs.Writing.{bundleBytes}
+use Rattle.bundle.specs.declared.writer.Judged.{Judged}
+use Rattle.bundle.specs.declared.writer.Judged.the-variants.{Long, Refused}
+use Rattle.planner.specs.Schedule.{Schedule, empty}
+use Rattle.planner.specs.Placing.{barred}
+use Rattle.planner.specs.Planner.{planned, bundleOf, plan}
+use Rattle.planner.proofs.Schedules.{Built, built, placing, plan-of, empty-fair, planned-build}
+use Rattle.schedule.specs.Layout.{scheduleIn}
+use Rattle.placing.specs.Choosing.{Single}
+use Rattle.turns.specs.Turns.{Afterwards}
+use Rattle.programmes.specs.Scheduled.{Scheduled}
+use Rattle.programmes.specs.Written.{bundleFor, planFor, WriteIs, PlanIs}
+use Rattle.programmes.proofs.Writes.{write-refused}
+
+-- the planner's answer is the plan, where the output has room for it
+pub plan-for : (lent : ℕ) (b : List ℕ) → planFor lent b ≡ andThen (plan b) (fitting lent)
+unfolding plan
+plan-for lent b = go (readSheet b)
+  where
+    within : (s : Sheet) (a : Answer Schedule) → andThen a (bundleFor lent s) ≡ andThen (andThen a (λ σ. value (bundleBytes (bundleOf s σ)))) (fitting lent)
+    within s (value σ) = refl
+    within s (refused n at) = refl
+
+    go : (a : Answer Sheet) → andThen a (λ s. andThen (planned s) (bundleFor lent s)) ≡ andThen (andThen a (λ s. andThen (planned s) (λ σ. value (bundleBytes (bundleOf s σ))))) (fitting lent)
+    go (value s) = within s (planned s)
+    go (refused n at) = refl
+
+-- no link stands twice in a sheet that is read
+pub read-single : (b : List ℕ) (s : Sheet) → readSheet b ≡ value s → Single s
+read-single b s e = record { once = proper b s e .single }
+
+-- the tasks that are placed are the sheet's
+built-below : {s : Sheet} {σ φ : Schedule} {ts : List ℕ} → Built s σ φ ts → (i : ℕ) → i < length ts → getD ts i 0 < taskCount s
+built-below built i h = absurd (omega arith)
+built-below (placing p n) zero h = p .below
+built-below (placing p n) (suc i) h = built-below n i (omega arith)
+
+order-below : (s : Sheet) → Proper s → (φ : Schedule) → planned s ≡ value φ → (i : ℕ) → i < length (φ .order) → getD (φ .order) i 0 < taskCount s
+unfolding planned
+order-below s p φ e i h =
+    let c = planned-build s p (barred s) φ e in
+    let o = plan-of s p (empty-fair s p) (c .1) .order in
+    rw o (built-below (c .1) i (rw o at h))
+
+-- an answer that was read is a value, and one that was refused a refusal
+read-some : (a : Answer Sheet) → readings.Read ≡ readingOf a → (s : Sheet) × (a ≡ value s)
+read-some (value s) e = (s, refl)
+read-some (refused n at) e = let z : _≡_ {A = ℕ} 0 1 = cc in absurd (omega arith)
+
+refused-same : (a : Answer Sheet) (r e : ℕ) → readings.Refused r e ≡ readingOf a → a ≡ refused r e
+refused-same (value s) r e h = let z : _≡_ {A = ℕ} 0 1 = cc in absurd (omega arith)
+refused-same (refused n at) r e h = let p : r ≡ n = cc in let q : e ≡ at = cc in sym (ap (λ (x : ℕ). refused x e) p ∙ ap (refused n) q)
+
+-- a sheet that was opened
+module _ {x : Answer Sheet} {work mid : List ℕ} {o : Reading} (h : OpenIs x work mid o) (e : o ≡ readings.Read) where
+  opened : (s : Sheet) × (x ≡ value s)
+  opened = read-some x (sym e ∙ h .answer)
+
+  pub open-loaded : Loaded mid
+  open-loaded = h .loaded (opened .0) (opened .1)
+
+  pub open-value : x ≡ value (sheetIn mid)
+  open-value = opened .1 ∙ ap value (sym (h .held (opened .0) (opened .1)))
+
+  pub open-levelled : Levelled (sheetIn mid) mid
+  open-levelled = subst (λ (s : Sheet). Levelled s mid) (sym (h .held (opened .0) (opened .1))) (h .levelled (opened .0) (opened .1))
+
+module _ (b : List ℕ) {work mid : List ℕ} {o : Reading} (h : OpenIs (readSheet b) work mid o) where
+  pub plan-refused : (out : List ℕ) (r at : ℕ) → o ≡ readings.Refused r at → PlanIs (planFor (length out) b) work mid out out (Refused r at)
+  plan-refused out r at e =
+      record {
+        is = write-refused out (ap (λ (a : Answer Sheet). andThen a (λ s. andThen (planned s) (bundleFor (length out) s))) (refused-same (readSheet b) r at (sym e ∙ h .answer)));
+        long = h .long;
+      }
+
+  module _ (e : o ≡ readings.Read) where
+    pub open-single : Single (sheetIn mid)
+    open-single = read-single b (sheetIn mid) (open-value h e)
+
+    module _ {last : List ℕ} (a : Afterwards mid last) where
+      -- the answer goes by the sheet in the tables
+      here : (n : ℕ) → planFor n b ≡ andThen (planned (sheetIn mid)) (bundleFor n (sheetIn mid))
+      here n = ap (λ (x : Answer Sheet). andThen x (λ s. andThen (planned s) (bundleFor n s))) (open-value h e)
+
+      pub plan-none : (out : List ℕ) (t : ℕ) → refused 11 t ≡ planned (sheetIn mid) → PlanIs (planFor (length out) b) work last out out (Refused 11 t)
+      plan-none out t q =
+          record {
+            is = write-refused out (here (length out) ∙ ap (λ (x : Answer Schedule). andThen x (bundleFor (length out) (sheetIn mid))) (sym q));
+            long = a .long ∙ h .long;
+          }
+
+      module _ (q : value (scheduleIn last) ≡ planned (sheetIn mid)) where
+        pub plan-scheduled : Scheduled last
+        plan-scheduled =
+            record {
+              loaded = a .loaded;
+              outward = subst (λ (s : Sheet). Chained Source s last) (sym (a .sheet)) (a .outward);
+              inward = subst (λ (s : Sheet). Chained Target s last) (sym (a .sheet)) (a .inward);
+              few-opened = a .few-opened;
+              few-placed = a .few-placed;
+              tasks = λ i k. rw (a .sheet) (order-below (sheetIn mid) (proper b (sheetIn mid) (open-value h e)) (scheduleIn last) (sym q) i k);
+            }
+
+        pub plan-done : (out out′ : List ℕ) {r : Judged} → WriteIs (bundleFor (length out) (sheetIn last) (scheduleIn last)) out out′ r → PlanIs (planFor (length out) b) work last out out′ r
+        plan-done out out′ {r} d =
+            let z : planFor (length out) b ≡ bundleFor (length out) (sheetIn last) (scheduleIn last) =
+            here (length out) ∙ ap (λ (x : Answer Schedule). andThen x (bundleFor (length out) (sheetIn mid))) (sym q)
+            ∙ ap (λ (s : Sheet). bundleFor (length out) s (scheduleIn last)) (sym (a .sheet)) in
+            record { is = subst (λ (x : Answer (List ℕ)). WriteIs x out out′ r) (sym z) d; long = a .long ∙ h .long }

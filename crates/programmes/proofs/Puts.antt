@@ -1,0 +1,129 @@
+-- Bytes put one behind the other.
+use Prim.Native.Nat.{ℕ, _+_, _-_, _≤_, _<_, zero-le}
+use mathlib.Core.Path.{_≡_, refl, sym, ap, subst, _∙_}
+use mathlib.Core.Bool.{true}
+use mathlib.Core.List.{List, [], _∷_, _++_, append-assoc, append-nil}
+use native.Mathlib.Omega.{arith}
+use native.Mathlib.Nat.{add-zero}
+use borrow.Rule.Slice.PartMut.{midOf, putMid}
+use lib.ListN.{length, getD, set, length-append, take, drop, take-append-drop, length-take, length-drop}
+use Rattle.folds.specs.Folds.{gather}
+use Rattle.folds.proofs.Loops.{gather-zero, gather-one}
+use Rattle.numbers.specs.Number.{numberBytes, stored}
+use Rattle.numbers.proofs.Laws.{stored-one, stored-two, stored-then, stored-lent}
+use Rattle.sheet.specs.Sheet.{Sheet, taskCount, linkCount}
+use Rattle.chains.specs.Chains.{endBy, headAt, Chained}
+use Rattle.chains.specs.declared.End.{End}
+use Rattle.chains.specs.declared.End.the-variants.{Source, Target}
+use Rattle.bundle.specs.Writing.{claimBytes, bundleBytes}
+use Rattle.planner.specs.Schedule.{Schedule, stands}
+use Rattle.planner.specs.Planner.{claimOf, bundleOf}
+use Rattle.programmes.specs.Bytes.{codeOf, messageBytes, messagesBytes, blockBytes, turnBytes, openBytes, Put}
+use Rattle.programmes.proofs.Gathers.{gather-first, gather-next, gather-part}
+use Rattle.programmes.proofs.Parts.{message-none, block-home, open-parts, bundle-parts}
+use Rattle.programmes.proofs.Measures.{Walk, walk-starts, walk-on}
+
+pub put-none : (b : List ℕ) (at : ℕ) → Put b at [] b at
+unfolding stored
+put-none b at = record { left = sym (rw (append-nil (take at b), add-zero at) (take-append-drop at b)); next = omega arith }
+
+pub put-as : {old last u v : List ℕ} {at r : ℕ} → u ≡ v → Put old at u last r → Put old at v last r
+put-as {old} {last} {u} {v} {at} {r} e p = subst (λ (x : List ℕ). Put old at x last r) e p
+
+pub put-then : {old mid last u v : List ℕ} {at a r : ℕ} → at ≤ length old → Put old at u mid a → Put mid a v last r → Put old at (u ++ v) last r
+put-then {old} {mid} {last} {u} {v} {at} {a} {r} h p q =
+    record { left = stored-then old mid last at a u v (p .left) (q .left) (p .next) h; next = omega (arith, p .next, q .next, length-append u v) }
+
+pub put-two : (b : List ℕ) (at x y z : ℕ) → at + 2 ≤ length b → y ≡ z → Put b at (x ∷ z ∷ []) (set (set b at x) (at + 1) y) (at + 2)
+put-two b at x y z h e = record { left = stored-two b at x y h ∙ ap (λ (v : ℕ). stored b at (x ∷ v ∷ [])) e; next = refl }
+
+-- a command byte, and a number behind it
+pub stored-number : (width : ℕ) (b last : List ℕ) (at x y c l : ℕ) → at < length b → x ≡ c → y ≡ l → last ≡ stored (set b at x) (at + 1) (numberBytes width y) → last ≡ stored b at (c ∷ numberBytes width l)
+stored-number width b last at x y c l h p q e =
+    stored-then b (set b at x) last at (at + 1) (x ∷ []) (numberBytes width y) (stored-one b at x h) e refl (omega arith)
+    ∙ ap (λ (v : ℕ). stored b at (v ∷ numberBytes width y)) p ∙ ap (λ (v : ℕ). stored b at (c ∷ numberBytes width v)) q
+
+-- what follows the first a bytes, and what was put at its front
+pub rest-long : (b : List ℕ) (a : ℕ) → a ≤ length b → length (midOf a (length b - a) b) ≡ length b - a
+rest-long b a h = simp (length-take, length-drop) (omega arith)
+
+pub put-rest : {b last v : List ℕ} {a r : ℕ} → a ≤ length b → Put (midOf a (length b - a) b) 0 v last r → Put b a v (putMid a (length b - a) b last) (a + r)
+put-rest {b} {last} {v} {a} h p = record { left = stored-lent b last v a h (p .left); next = omega (arith, p .next) }
+
+-- the first i lists of an index stand from start on
+pub record Filled (f : ℕ → List ℕ) (old : List ℕ) (start i : ℕ) (out : List ℕ) (at : ℕ) : Type 0 where
+  pub put : Put old start (gather i f) out at
+  pub long : length out ≡ length old
+
+module _ (f : ℕ → List ℕ) (old : List ℕ) (start : ℕ) where
+  pub filled-none : Filled f old start 0 old start
+  filled-none = record { put = put-as (sym (gather-zero f)) (put-none old start); long = refl }
+
+  module _ {i : ℕ} {out : List ℕ} {at : ℕ} (g : Filled f old start i out at) where
+    pub filled-room : (n : ℕ) → i < n → start + length (gather n f) ≤ length old → at + length (f i) ≤ length out
+    filled-room n h room = omega (arith, g .put .next, g .long, gather-part n f i h)
+
+    pub filled-more : {last : List ℕ} {r : ℕ} → start ≤ length old → Put out at (f i) last r → length last ≡ length out → Filled f old start (i + 1) last r
+    filled-more h p l = record { put = put-as (sym (gather-one i f)) (put-then h (g .put) p); long = l ∙ g .long }
+
+    pub filled-all : (n : ℕ) → i ≡ n → Put old start (gather n f) out at
+    filled-all n e = put-as (ap (λ (k : ℕ). gather k f) e) (g .put)
+
+-- the messages of t by its links below l
+module _ (s : Sheet) (σ : Schedule) where
+  pub record Putting (e : End) (k t : ℕ) (old : List ℕ) (start l : ℕ) (out : List ℕ) (at : ℕ) : Type 0 where
+    pub walk : Walk e s t l
+    pub filled : Filled (messageBytes s σ e k t) old start l out at
+
+  module _ {e : End} {w : List ℕ} (d : Chained e s w) (k t : ℕ) (t-in : t < taskCount s) (old : List ℕ) (start : ℕ) where
+    pub putting-starts : {l : ℕ} → l ≡ getD w (headAt e + t) 0 → l ≤ linkCount s → Putting e k t old start l old start
+    putting-starts q h =
+        record {
+          walk = walk-starts d t t-in q h;
+          filled = record { put = put-as (sym (gather-first d t t-in (messageBytes s σ e k t) (λ i g. message-none s σ e k t i g) q)) (put-none old start); long = refl };
+        }
+
+    pub putting-room : {l : ℕ} {out : List ℕ} {at : ℕ} → Putting e k t old start l out at → l < linkCount s → start + length (messagesBytes s σ e k t) ≤ length old
+        → at + length (messageBytes s σ e k (endBy e s l) l) ≤ length out
+    unfolding messagesBytes
+    putting-room {l} g h room =
+        omega (
+          arith,
+          filled-room (messageBytes s σ e k t) old start (g .filled) (linkCount s) h room,
+          ap (λ (u : ℕ). length (messageBytes s σ e k u l)) (g .walk .own h),
+        )
+
+    pub putting-on : {l l′ : ℕ} {out last : List ℕ} {at r : ℕ} → start ≤ length old → Putting e k t old start l out at → l < linkCount s
+        → Put out at (messageBytes s σ e k (endBy e s l) l) last r → length last ≡ length out
+        → l′ ≡ getD w (headAt e + 256 + l) 0 → l′ ≤ linkCount s → l < l′ → Putting e k t old start l′ last r
+    putting-on {l} {l′} from g h p long q few more =
+        let f = messageBytes s σ e k t in
+        let own = g .walk .own h in
+        record {
+          walk = walk-on d t t-in (g .walk) h q few;
+          filled =
+              record {
+                put =
+                    put-as (sym (gather-next d t t-in f (λ i z. message-none s σ e k t i z) h own q more))
+                    (put-then from (g .filled .put) (put-as (ap (λ (u : ℕ). messageBytes s σ e k u l) own) p));
+                long = long ∙ g .filled .long;
+              };
+        }
+
+  pub putting-done : {e : End} {k t l start at : ℕ} {old out : List ℕ} → Putting e k t old start l out at → linkCount s ≤ l → Put old start (messagesBytes s σ e k t) out at
+  unfolding messagesBytes
+  putting-done {e} {k} {t} {l} {start} {at} {old} g h = filled-all (messageBytes s σ e k t) old start (g .filled) (linkCount s) (omega (arith, g .walk .here))
+
+  -- receives, run, sends
+  pub block-put : (k t : ℕ) → stands σ t k ≡ true → {old m₁ m₂ m₃ : List ℕ} {at a b r : ℕ} → at ≤ length old → Put old at (messagesBytes s σ Target k t) m₁ a → Put m₁ a (0x52 ∷ t ∷ []) m₂ b → Put m₂ b (messagesBytes s σ Source k t) m₃ r
+      → Put old at (blockBytes s σ k t) m₃ r
+  block-put k t h l p q r = put-as (sym (block-home s σ k t h)) (put-then l (put-then l p q) r)
+
+  -- `50 k`, and the blocks of its tasks
+  pub open-put : (k : ℕ) {old mid last : List ℕ} {a r : ℕ} → Put old 0 (0x50 ∷ k ∷ []) mid a → Put mid a (gather (length (σ .order)) (turnBytes s σ k)) last r → Put old 0 (openBytes s σ k) last r
+  open-put k p q = put-as (sym (open-parts s σ k)) (put-then (omega arith) p q)
+
+  -- the programmes, and the claim
+  pub bundle-put : {old mid last : List ℕ} {a : ℕ} → Put old 0 (gather (σ .opened) (openBytes s σ)) mid a → last ≡ stored mid a (claimBytes (claimOf s σ)) → last ≡ stored old 0 (bundleBytes (bundleOf s σ))
+  bundle-put {old} {mid} {last} {a} p e =
+      stored-then old mid last 0 a (gather (σ .opened) (openBytes s σ)) (claimBytes (claimOf s σ)) (p .left) e (p .next) (omega arith) ∙ ap (stored old 0) (sym (bundle-parts s σ))

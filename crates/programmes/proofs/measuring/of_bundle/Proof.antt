@@ -1,0 +1,58 @@
+use Prim.Native.Nat.{_*_, _+_, _-_, _≤_}
+use mathlib.Core.Path.{_∙_, _≡_, sym}
+use native.Mathlib.Omega.{arith}
+use Rattle.programmes.proofs.Measures.{bundle-length, long-at, longer, none-long}
+use Rattle.folds.specs.Folds.{gather}
+use lib.ListN.{length}
+use borrow.Author.Needs.{needs}
+use denote.Ref.{now}
+use Rattle.programmes.specs.Bytes.{openBytes}
+use Rattle.schedule.specs.Layout.{scheduleIn}
+use Rattle.sheet.specs.Tables.{sheetIn}
+use Rattle.programmes.proofs.measuring.of_bundle.Statement.{statement}
+use Rattle.programmes.proofs.measuring.of_bundle.Tie as tie
+
+abbrev Inv-loop : tie.InvT-loop
+Inv-loop w p n₀ k₀ n k = (k ≤ p) × (n ≡ 5 + length (gather k (openBytes (sheetIn w) (scheduleIn w)))) × (n ≤ 5 + 1573378 * k)
+
+abbrev μ-loop : tie.MeasureT-loop
+μ-loop w p n₀ k₀ n k = p - k
+
+opened-requires : tie.Need-opened-requires Inv-loop μ-loop
+opened-requires c κs = search needs
+
+loop-holds : tie.Need-loop-holds Inv-loop μ-loop
+loop-holds c = (omega arith, none-long _ 5, omega arith)
+
+of-programme-requires : tie.Need-of-programme-requires Inv-loop μ-loop
+of-programme-requires c κs = search needs
+
+add-n : tie.Need-add-n Inv-loop μ-loop
+add-n c = search needs
+
+add-k : tie.Need-add-k Inv-loop μ-loop
+add-k c = search needs
+
+loop-less : tie.Need-loop-less Inv-loop μ-loop
+loop-less c = search needs
+
+loop-again : tie.Need-loop-again Inv-loop μ-loop
+loop-again c = let a = c .before .before .before .before .before .args in (omega arith, longer (openBytes (sheetIn (now (a .w))) (scheduleIn (now (a .w)))) 5 (c .before .before .loop .k) (c .before .before .loop .inv .1) (c .of-programme .ensures .0), omega (arith, c .of-programme .ensures .1, c .before .before .loop .inv .2))
+
+returns : tie.Need-returns Inv-loop μ-loop
+returns c = let a = c .before .before .before .before .args in long-at (openBytes (sheetIn (now (a .w))) (scheduleIn (now (a .w)))) 5 (c .before .loop .k) _ (c .before .loop .inv .1) (omega (arith, c .before .loop .inv .0, c .loop-test .left, c .before .before .opened .ensures .0)) ∙ sym (bundle-length (sheetIn (now (a .w))) (scheduleIn (now (a .w))))
+
+pub of-bundle-spec : {M : Type 1} → statement M
+of-bundle-spec =
+    tie.close
+    (tie.spec
+    Inv-loop
+    μ-loop
+    opened-requires
+    loop-holds
+    of-programme-requires
+    add-n
+    add-k
+    loop-less
+    loop-again
+    returns)

@@ -1,0 +1,57 @@
+use Prim.Native.Nat.{_-_, _<_, _≤_}
+use mathlib.Core.Path.{_≡_, sym}
+use native.Mathlib.Omega.{arith}
+use Rattle.planner.specs.Planner.{claimOf}
+use Rattle.planner.specs.Schedule.{finishOf}
+use Rattle.folds.specs.Folds.{greatest}
+use Rattle.folds.proofs.Loops.{greatest-at, greatest-more, greatest-zero}
+use borrow.Author.Needs.{needs}
+use Rattle.schedule.specs.Layout.{scheduleIn}
+use Rattle.programmes.proofs.writing.latest.Statement.{statement}
+use Rattle.programmes.proofs.writing.latest.Tie as tie
+
+abbrev Inv-loop : tie.InvT-loop
+Inv-loop w n last₀ t₀ last t = (t ≤ n) × (last ≡ greatest t (finishOf (scheduleIn w))) × (last < 4294967296)
+
+abbrev μ-loop : tie.MeasureT-loop
+μ-loop w n last₀ t₀ last t = n - t
+
+tasks-requires : tie.Need-tasks-requires Inv-loop μ-loop
+tasks-requires c κs = search needs
+
+loop-holds : tie.Need-loop-holds Inv-loop μ-loop
+loop-holds c = (omega arith, sym (greatest-zero _), omega arith)
+
+finish-requires : tie.Need-finish-requires Inv-loop μ-loop
+finish-requires c κs = search needs
+
+later-requires : tie.Need-later-requires Inv-loop μ-loop
+later-requires c κs = search needs
+
+add-t : tie.Need-add-t Inv-loop μ-loop
+add-t c = search needs
+
+loop-less : tie.Need-loop-less Inv-loop μ-loop
+loop-less c = search needs
+
+loop-again : tie.Need-loop-again Inv-loop μ-loop
+loop-again c = (omega arith, greatest-more (c .before .before .before .loop .t) _ (c .before .before .before .loop .inv .1) (c .before .finish .ensures .0) (c .later .ensures), omega (arith, c .later .ensures, c .before .finish .ensures .1, c .before .before .before .loop .inv .2))
+
+returns : tie.Need-returns Inv-loop μ-loop
+unfolding claimOf
+returns c = (greatest-at _ _ _ (c .before .loop .inv .1) (omega (arith, c .before .loop .inv .0, c .loop-test .left, c .before .before .tasks .ensures .0)), c .before .loop .inv .2)
+
+pub latest-spec : {M : Type 1} → statement M
+latest-spec =
+    tie.close
+    (tie.spec
+    Inv-loop
+    μ-loop
+    tasks-requires
+    loop-holds
+    finish-requires
+    later-requires
+    add-t
+    loop-less
+    loop-again
+    returns)

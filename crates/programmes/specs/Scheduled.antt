@@ -1,0 +1,17 @@
+-- An area that holds a sheet and its schedule, as planning leaves it.
+use Prim.Native.Nat.{ℕ, _≤_, _<_}
+use mathlib.Core.List.{List}
+use lib.ListN.{length, getD}
+use Rattle.sheet.specs.Sheet.{taskCount}
+use Rattle.sheet.specs.Tables.{sheetIn, Loaded}
+use Rattle.chains.specs.Chains.{Chained}
+use Rattle.chains.specs.declared.End.the-variants.{Source, Target}
+use Rattle.schedule.specs.Layout.{scheduleIn}
+
+pub record Scheduled (w : List ℕ) : Type 0 where
+  pub loaded : Loaded w
+  pub outward : Chained Source (sheetIn w) w
+  pub inward : Chained Target (sheetIn w) w
+  pub few-opened : scheduleIn w .opened ≤ 16
+  pub few-placed : length (scheduleIn w .order) ≤ 256
+  pub tasks : (i : ℕ) → i < length (scheduleIn w .order) → getD (scheduleIn w .order) i 0 < taskCount (sheetIn w)
