@@ -1,6 +1,6 @@
 -- The lengths of the parts of a bundle, counted along the walk.
 use Prim.Native.Nat.{ℕ, _+_, _*_, _≤_, _<_}
-use mathlib.Core.Path.{_≡_, refl, sym, ap, ap₂, _∙_}
+use mathlib.Core.Path.{_≡_, sym, ap, _∙_}
 use mathlib.Core.Bool.{true, false, not}
 use mathlib.Core.Logic.{_≢_}
 use mathlib.Core.List.{List, [], _∷_, _++_}
@@ -17,7 +17,7 @@ use Rattle.chains.specs.declared.End.the-variants.{Source, Target}
 use Rattle.bundle.specs.Writing.{bundleBytes, claimBytes}
 use Rattle.planner.specs.Schedule.{Schedule, placeOf, stands}
 use Rattle.planner.specs.Planner.{claimOf, bundleOf}
-use Rattle.programmes.specs.Bytes.{farBy, codeOf, messageBytes, messagesBytes, blockBytes, turnBytes, openBytes}
+use Rattle.programmes.specs.Bytes.{farBy, messageBytes, messagesBytes, blockBytes, turnBytes, openBytes}
 use Rattle.programmes.specs.Scheduled.{Scheduled}
 use Rattle.programmes.proofs.Gathers.{gather-first, gather-next}
 use Rattle.programmes.proofs.Parts.{message-none, message-home, message-away, block-home, block-away, open-parts, bundle-parts}

@@ -1,26 +1,25 @@
 -- The bytes of a bundle are those of its parts, one behind the other.
-use Prim.Native.Nat.{ℕ, zero, suc, _+_, _≤_, _<_}
+use Prim.Native.Nat.{ℕ, zero, suc, _+_}
 use mathlib.Core.Path.{_≡_, refl, sym, ap, ap₂, _∙_}
-use mathlib.Core.Bool.{Bool, true, false, not}
+use mathlib.Core.Bool.{true, false, not}
 use mathlib.Core.Logic.{_≢_}
-use mathlib.Core.List.{List, [], _∷_, _++_, append-assoc, append-nil}
+use mathlib.Core.List.{List, [], _∷_, _++_, append-assoc}
 use native.Mathlib.Omega.{arith}
-use native.Mathlib.Nat.{add-zero, add-suc, zero-add}
+use native.Mathlib.Nat.{add-zero, zero-add}
 use borrow.Author.Tests.{eq-eqb, ne-eqb}
-use lib.ListN.{length, getD, length-append}
-use lib.Dec.{eqb}
-use Rattle.folds.specs.Folds.{pick, both, listed, gather}
+use lib.ListN.{length, getD}
+use Rattle.folds.specs.Folds.{pick, listed, gather}
 use Rattle.folds.proofs.Lists.{length-listed, getD-listed}
 use Rattle.numbers.specs.Number.{numberBytes}
 use Rattle.sheet.specs.Sheet.{Sheet, linkCount, sourceOf, targetOf}
 use Rattle.chains.specs.Chains.{endBy}
 use Rattle.chains.specs.declared.End.{End}
 use Rattle.chains.specs.declared.End.the-variants.{Source, Target}
-use Rattle.bundle.specs.Bundle.{Command, run, send, receive}
+use Rattle.bundle.specs.Bundle.{Command, run}
 use Rattle.bundle.specs.Writing.{commandBytes, programmeBytes, programmesBytes, claimBytes, bundleBytes}
 use Rattle.planner.specs.Schedule.{Schedule, stands}
 use Rattle.planner.specs.Planner.{brings, takesAway, receiveOf, sendOf, blockOf, blocks, programme, claimOf, bundleOf}
-use Rattle.programmes.specs.Bytes.{farBy, codeOf, messageOf, messageBytes, messagesBytes, blockBytes, turnBytes, openBytes}
+use Rattle.programmes.specs.Bytes.{farBy, codeOf, messageBytes, messagesBytes, blockBytes, turnBytes, openBytes}
 use Rattle.programmes.proofs.Gathers.{gather-cong, gather-front}
 
 pub programme-append : (p q : List Command) → programmeBytes (p ++ q) ≡ programmeBytes p ++ programmeBytes q
@@ -66,9 +65,9 @@ module _ (s : Sheet) (σ : Schedule) where
   unfolding blockBytes blockOf messagesBytes messageBytes
   block-home k t h =
       rw h (
-        programme-append (gather (linkCount s) (receiveOf s σ k t)) (run t ∷ gather (linkCount s) (sendOf s σ k t))
-        ∙ ap₂ (λ (x y : List ℕ). x ++ (0x52 ∷ t ∷ y)) (programme-gather (linkCount s) (receiveOf s σ k t)) (programme-gather (linkCount s) (sendOf s σ k t))
-        ∙ sym (append-assoc (gather (linkCount s) (λ l. programmeBytes (receiveOf s σ k t l))) (0x52 ∷ t ∷ []) (gather (linkCount s) (λ l. programmeBytes (sendOf s σ k t l)))))
+      programme-append (gather (linkCount s) (receiveOf s σ k t)) (run t ∷ gather (linkCount s) (sendOf s σ k t))
+      ∙ ap₂ (λ (x y : List ℕ). x ++ (0x52 ∷ t ∷ y)) (programme-gather (linkCount s) (receiveOf s σ k t)) (programme-gather (linkCount s) (sendOf s σ k t))
+      ∙ sym (append-assoc (gather (linkCount s) (λ l. programmeBytes (receiveOf s σ k t l))) (0x52 ∷ t ∷ []) (gather (linkCount s) (λ l. programmeBytes (sendOf s σ k t l)))))
 
   pub block-away : (k t : ℕ) → stands σ t k ≡ false → blockBytes s σ k t ≡ []
   unfolding blockBytes

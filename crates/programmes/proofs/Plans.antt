@@ -1,7 +1,7 @@
 -- From the bytes of a sheet to its plan: refused, without a schedule, or written.
 use Prim.Native.Nat.{ℕ, zero, suc, _<_}
 use mathlib.Core.Path.{_≡_, refl, sym, ap, subst, _∙_}
-use mathlib.Core.List.{List, []}
+use mathlib.Core.List.{List}
 use native.Mathlib.Omega.{arith}
 use lib.ListN.{length, getD}
 use Rattle.folds.specs.Answers.{Answer, value, refused, andThen, fitting}
@@ -18,8 +18,8 @@ use Rattle.graph.specs.Opened.{OpenIs}
 use Rattle.graph.proofs.Proper.{Proper, proper}
 use Rattle.bundle.specs.Writing.{bundleBytes}
 use Rattle.bundle.specs.declared.writer.Judged.{Judged}
-use Rattle.bundle.specs.declared.writer.Judged.the-variants.{Long, Refused}
-use Rattle.planner.specs.Schedule.{Schedule, empty}
+use Rattle.bundle.specs.declared.writer.Judged.the-variants.{Refused}
+use Rattle.planner.specs.Schedule.{Schedule}
 use Rattle.planner.specs.Placing.{barred}
 use Rattle.planner.specs.Planner.{planned, bundleOf, plan}
 use Rattle.planner.proofs.Schedules.{Built, built, placing, plan-of, empty-fair, planned-build}

@@ -1,12 +1,12 @@
 -- Bytes put one behind the other.
-use Prim.Native.Nat.{ℕ, _+_, _-_, _≤_, _<_, zero-le}
+use Prim.Native.Nat.{ℕ, _+_, _-_, _≤_, _<_}
 use mathlib.Core.Path.{_≡_, refl, sym, ap, subst, _∙_}
 use mathlib.Core.Bool.{true}
-use mathlib.Core.List.{List, [], _∷_, _++_, append-assoc, append-nil}
+use mathlib.Core.List.{List, [], _∷_, _++_, append-nil}
 use native.Mathlib.Omega.{arith}
 use native.Mathlib.Nat.{add-zero}
 use borrow.Rule.Slice.PartMut.{midOf, putMid}
-use lib.ListN.{length, getD, set, length-append, take, drop, take-append-drop, length-take, length-drop}
+use lib.ListN.{length, getD, set, length-append, take, take-append-drop, length-take, length-drop}
 use Rattle.folds.specs.Folds.{gather}
 use Rattle.folds.proofs.Loops.{gather-zero, gather-one}
 use Rattle.numbers.specs.Number.{numberBytes, stored}
@@ -18,7 +18,7 @@ use Rattle.chains.specs.declared.End.the-variants.{Source, Target}
 use Rattle.bundle.specs.Writing.{claimBytes, bundleBytes}
 use Rattle.planner.specs.Schedule.{Schedule, stands}
 use Rattle.planner.specs.Planner.{claimOf, bundleOf}
-use Rattle.programmes.specs.Bytes.{codeOf, messageBytes, messagesBytes, blockBytes, turnBytes, openBytes, Put}
+use Rattle.programmes.specs.Bytes.{messageBytes, messagesBytes, blockBytes, turnBytes, openBytes, Put}
 use Rattle.programmes.proofs.Gathers.{gather-first, gather-next, gather-part}
 use Rattle.programmes.proofs.Parts.{message-none, block-home, open-parts, bundle-parts}
 use Rattle.programmes.proofs.Measures.{Walk, walk-starts, walk-on}

@@ -10,9 +10,11 @@ ghost use Rattle.schedule.specs.Layout.{scheduleIn};
 ghost use Rattle.programmes.specs.Bytes.{farBy};
 ghost use Rattle.programmes.specs.Scheduled.{Scheduled};
 ghost use Rattle.programmes.specs.Written.{bundleFor, WriteIs};
-pub mod measuring;
-pub mod writing;
+
+mod measuring;
 pub mod whole;
+mod writing;
+
 use bundle::writer::Judged;
 use chains::End;
 use sheet::tables;
@@ -30,7 +32,7 @@ fn far_end(w: &[u32], e: End, l: usize) -> usize
 }
 
 // Link l leads to or from another processor than k.
-pub fn is_away(w: &[u32], e: End, k: usize, l: usize) -> bool
+fn is_away(w: &[u32], e: End, k: usize, l: usize) -> bool
     requires { ⌜ Loaded (now w) ⌝ }
     requires { ⌜ l < linkCount (sheetIn (now w)) ⌝ }
     ensures { λ r. ⌜ r ≡ not (stands (scheduleIn (now (w .entry))) (farBy e (sheetIn (now (w .entry))) l) k) ⌝ }

@@ -1,6 +1,6 @@
 // How many bytes the bundle of the schedule has, counted along the walk that the writer takes.
 ghost use mathlib.Core.Path.{_≡_};
-ghost use Prim.Native.Nat.{_+_, _*_, _<_, _≤_};
+ghost use Prim.Native.Nat.{_+_, _<_, _≤_};
 ghost use lib.ListN.{length};
 ghost use Rattle.sheet.specs.Sheet.{taskCount, linkCount};
 ghost use Rattle.sheet.specs.Tables.{sheetIn};

@@ -7,18 +7,6 @@ use Rattle.sheet.specs.Tables.{sheetIn}
 use Rattle.programmes.proofs.far_end.Statement.{statement}
 use Rattle.programmes.proofs.far_end.Tie as tie
 
-enum-told : tie.Need-enum-told
-enum-told c = search needs
-
-target-requires : tie.Need-target-requires
-target-requires c κs = search needs
-
-enum-told-2 : tie.Need-enum-told-2
-enum-told-2 c = search needs
-
-source-requires : tie.Need-source-requires
-source-requires c κs = search needs
-
 returns : tie.Need-returns
 returns c = (c .target .ensures .0 ∙ ap (λ (x : End). farBy x (sheetIn (now (c .before .before .before .before .args .w))) (c .before .before .before .before .args .l)) (sym (c .before .enum-told .given .1)), c .target .ensures .1)
 
@@ -27,4 +15,4 @@ returns-2 c = (c .source .ensures .0 ∙ ap (λ (x : End). farBy x (sheetIn (now
 
 pub far-end-spec : {M : Type 1} → statement M
 far-end-spec =
-    tie.close (tie.spec enum-told target-requires enum-told-2 source-requires returns returns-2)
+    tie.close (tie.spec (λ c. search needs) (λ c κs. search needs) (λ c. search needs) (λ c κs. search needs) returns returns-2)

@@ -9,15 +9,9 @@ use Prim.Native.Nat.{ℕ}
 use Rattle.programmes.proofs.is_away.Statement.{statement}
 use Rattle.programmes.proofs.is_away.Tie as tie
 
-far-end-requires : tie.Need-far-end-requires
-far-end-requires c κs = search needs
-
-place-requires : tie.Need-place-requires
-place-requires c κs = search needs
-
 returns : tie.Need-returns
 unfolding stands
 returns c = ap not (ap (λ (x : ℕ). eqb x (c .before .before .before .args .k)) (c .place .ensures .0 ∙ ap (placeOf (scheduleIn (now (c .before .before .before .args .w)))) (c .before .far-end .ensures .0)))
 
 pub is-away-spec : {M : Type 1} → statement M
-is-away-spec = tie.close (tie.spec far-end-requires place-requires returns)
+is-away-spec = tie.close (tie.spec (λ c κs. search needs) (λ c κs. search needs) returns)

@@ -18,23 +18,8 @@ Inv-loop w p n₀ k₀ n k = (k ≤ p) × (n ≡ 5 + length (gather k (openBytes
 abbrev μ-loop : tie.MeasureT-loop
 μ-loop w p n₀ k₀ n k = p - k
 
-opened-requires : tie.Need-opened-requires Inv-loop μ-loop
-opened-requires c κs = search needs
-
 loop-holds : tie.Need-loop-holds Inv-loop μ-loop
 loop-holds c = (omega arith, none-long _ 5, omega arith)
-
-of-programme-requires : tie.Need-of-programme-requires Inv-loop μ-loop
-of-programme-requires c κs = search needs
-
-add-n : tie.Need-add-n Inv-loop μ-loop
-add-n c = search needs
-
-add-k : tie.Need-add-k Inv-loop μ-loop
-add-k c = search needs
-
-loop-less : tie.Need-loop-less Inv-loop μ-loop
-loop-less c = search needs
 
 loop-again : tie.Need-loop-again Inv-loop μ-loop
 loop-again c = let a = c .before .before .before .before .before .args in (omega arith, longer (openBytes (sheetIn (now (a .w))) (scheduleIn (now (a .w)))) 5 (c .before .before .loop .k) (c .before .before .loop .inv .1) (c .of-programme .ensures .0), omega (arith, c .of-programme .ensures .1, c .before .before .loop .inv .2))
@@ -48,11 +33,11 @@ of-bundle-spec =
     (tie.spec
     Inv-loop
     μ-loop
-    opened-requires
+    (λ c κs. search needs)
     loop-holds
-    of-programme-requires
-    add-n
-    add-k
-    loop-less
+    (λ c κs. search needs)
+    (λ c. search needs)
+    (λ c. search needs)
+    (λ c. search needs)
     loop-again
     returns)

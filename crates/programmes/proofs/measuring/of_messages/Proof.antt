@@ -14,20 +14,11 @@ Inv-loop w e k t m n₀ l₀ n l = Measuring (sheetIn w) (scheduleIn w) e k t l 
 abbrev μ-loop : tie.MeasureT-loop
 μ-loop w e k t m n₀ l₀ n l = m - l
 
-links-requires : tie.Need-links-requires Inv-loop μ-loop
-links-requires c κs = search needs
-
 first-requires : tie.Need-first-requires Inv-loop μ-loop
 first-requires c κs = let s = c .before .before in (s .pre .0 .loaded, (chained-of (s .pre .0) (s .args .e), s .pre .1))
 
 loop-holds : tie.Need-loop-holds Inv-loop μ-loop
 loop-holds c = let s = c .before .before .before in measuring-starts (sheetIn (now (s .args .w))) (scheduleIn (now (s .args .w))) (chained-of (s .pre .0) (s .args .e)) (s .args .k) (s .args .t) (s .pre .1) (c .first .ensures .0) (c .first .ensures .1)
-
-of-message-requires : tie.Need-of-message-requires Inv-loop μ-loop
-of-message-requires c κs = search needs
-
-add-n : tie.Need-add-n Inv-loop μ-loop
-add-n c = search needs
 
 next-requires : tie.Need-next-requires Inv-loop μ-loop
 next-requires c κs = let s = c .before .before .before .before .before .before in (s .pre .0 .loaded, (chained-of (s .pre .0) (s .args .e), omega (arith, c .before .loop-test .taken, c .before .before .before .before .links .ensures .0)))
@@ -47,11 +38,11 @@ of-messages-spec =
     (tie.spec
     Inv-loop
     μ-loop
-    links-requires
+    (λ c κs. search needs)
     first-requires
     loop-holds
-    of-message-requires
-    add-n
+    (λ c κs. search needs)
+    (λ c. search needs)
     next-requires
     loop-less
     loop-again

@@ -18,9 +18,6 @@ Inv-loop w k p n₀ i₀ n i = (i ≤ p) × (n ≡ 2 + length (gather i (turnByt
 abbrev μ-loop : tie.MeasureT-loop
 μ-loop w k p n₀ i₀ n i = p - i
 
-placed-requires : tie.Need-placed-requires Inv-loop μ-loop
-placed-requires c κs = search needs
-
 loop-holds : tie.Need-loop-holds Inv-loop μ-loop
 loop-holds c = (omega arith, none-long _ 2, omega arith)
 
@@ -29,15 +26,6 @@ turn-requires c κs = let s = c .before .before .before .before in (s .pre .load
 
 of-block-requires : tie.Need-of-block-requires Inv-loop μ-loop
 of-block-requires c κs = let s = c .before .before .before .before .before in (s .pre, rw (c .turn .ensures .0) (s .pre .tasks _ (omega (arith, c .before .before .before .placed .ensures .0, c .before .loop-test .taken))))
-
-add-n : tie.Need-add-n Inv-loop μ-loop
-add-n c = search needs
-
-add-i : tie.Need-add-i Inv-loop μ-loop
-add-i c = search needs
-
-loop-less : tie.Need-loop-less Inv-loop μ-loop
-loop-less c = search needs
 
 loop-again : tie.Need-loop-again Inv-loop μ-loop
 loop-again c = let a = c .before .before .before .before .before .before .args in (omega arith, longer (turnBytes (sheetIn (now (a .w))) (scheduleIn (now (a .w))) (a .k)) 2 (c .before .before .before .loop .i) (c .before .before .before .loop .inv .1) (c .of-block .ensures .0 ∙ ap length (turn-is (sheetIn (now (a .w))) (scheduleIn (now (a .w))) (a .k) (c .before .before .before .loop .i) _ (c .before .turn .ensures .0))), omega (arith, c .of-block .ensures .1, c .before .before .before .loop .inv .2))
@@ -51,12 +39,12 @@ of-programme-spec =
     (tie.spec
     Inv-loop
     μ-loop
-    placed-requires
+    (λ c κs. search needs)
     loop-holds
     turn-requires
     of-block-requires
-    add-n
-    add-i
-    loop-less
+    (λ c. search needs)
+    (λ c. search needs)
+    (λ c. search needs)
     loop-again
     returns)

@@ -8,26 +8,11 @@ use Rattle.schedule.specs.Layout.{scheduleIn}
 use Rattle.programmes.proofs.whole.plan.Statement.{statement}
 use Rattle.programmes.proofs.whole.plan.Tie as tie
 
-read-requires : tie.Need-read-requires
-read-requires c κs = search needs
-
-enum-known-r : tie.Need-enum-known-r
-enum-known-r c = search needs
-
-enum-told : tie.Need-enum-told
-enum-told c = search needs
-
 schedule-requires : tie.Need-schedule-requires
 schedule-requires c κs =
     let h = c .before .before .before .before .before .read .ensures in
     let e = c .before .enum-told .given .1 in
     (open-loaded h e, (open-levelled h e, open-single (now (c .before .before .before .before .before .before .before .before .before .before .args .sheet)) h e))
-
-enum-known-t : tie.Need-enum-known-t
-enum-known-t c = search needs
-
-enum-told-2 : tie.Need-enum-told-2
-enum-told-2 c = search needs
 
 write-requires : tie.Need-write-requires
 write-requires c κs =
@@ -35,26 +20,14 @@ write-requires c κs =
     let e = c .before .before .before .before .before .before .before .before .enum-told .given .1 in
     plan-scheduled (now (c .before .before .before .before .before .before .before .before .before .before .before .before .before .before .before .before .before .args .sheet)) h e (c .before .before .before .before .before .before .schedule .ensures .1) (ap (λ (x : Planned). answerOf x (scheduleIn (c .before .before .before .before .before .before .schedule .last .0))) (sym (c .before .before .enum-told2 .given .1)) ∙ c .before .before .before .before .before .before .schedule .ensures .0)
 
-same-length : tie.Need-same-length
-same-length c = search needs
-
 returns : tie.Need-returns
 returns c = plan-refused (now (c .before .before .before .before .before .before .before .before .before .before .args .sheet)) (c .before .before .before .before .before .read .ensures) (now (c .before .before .before .before .before .before .before .before .before .before .args .out)) _ _ (c .before .r .given .1)
-
-same-length-2 : tie.Need-same-length-2
-same-length-2 c = search needs
 
 returns-2 : tie.Need-returns-2
 returns-2 c =
     let h = c .before .before .before .before .before .before .before .before .before .before .before .read .ensures in
     let e = c .before .before .before .before .before .before .before .enum-told .given .1 in
     plan-none (now (c .before .before .before .before .before .before .before .before .before .before .before .before .before .before .before .before .args .sheet)) h e (c .before .before .before .before .before .schedule .ensures .1) (now (c .before .before .before .before .before .before .before .before .before .before .before .before .before .before .before .before .args .out)) _ (ap (λ (x : Planned). answerOf x (scheduleIn (c .before .before .before .before .before .schedule .last .0))) (sym (c .before .t .given .1)) ∙ c .before .before .before .before .before .schedule .ensures .0)
-
-same-length-3 : tie.Need-same-length-3
-same-length-3 c = search needs
-
-same-length-4 : tie.Need-same-length-4
-same-length-4 c = search needs
 
 returns-3 : tie.Need-returns-3
 returns-3 c =
@@ -66,17 +39,17 @@ pub plan-spec : {M : Type 1} → statement M
 plan-spec =
     tie.close
     (tie.spec
-    read-requires
-    enum-known-r
-    enum-told
+    (λ c κs. search needs)
+    (λ c. search needs)
+    (λ c. search needs)
     schedule-requires
-    enum-known-t
-    enum-told-2
+    (λ c. search needs)
+    (λ c. search needs)
     write-requires
-    same-length
+    (λ c. search needs)
     returns
-    same-length-2
+    (λ c. search needs)
     returns-2
-    same-length-3
-    same-length-4
+    (λ c. search needs)
+    (λ c. search needs)
     returns-3)

@@ -16,23 +16,8 @@ Inv-loop w n last₀ t₀ last t = (t ≤ n) × (last ≡ greatest t (finishOf (
 abbrev μ-loop : tie.MeasureT-loop
 μ-loop w n last₀ t₀ last t = n - t
 
-tasks-requires : tie.Need-tasks-requires Inv-loop μ-loop
-tasks-requires c κs = search needs
-
 loop-holds : tie.Need-loop-holds Inv-loop μ-loop
 loop-holds c = (omega arith, sym (greatest-zero _), omega arith)
-
-finish-requires : tie.Need-finish-requires Inv-loop μ-loop
-finish-requires c κs = search needs
-
-later-requires : tie.Need-later-requires Inv-loop μ-loop
-later-requires c κs = search needs
-
-add-t : tie.Need-add-t Inv-loop μ-loop
-add-t c = search needs
-
-loop-less : tie.Need-loop-less Inv-loop μ-loop
-loop-less c = search needs
 
 loop-again : tie.Need-loop-again Inv-loop μ-loop
 loop-again c = (omega arith, greatest-more (c .before .before .before .loop .t) _ (c .before .before .before .loop .inv .1) (c .before .finish .ensures .0) (c .later .ensures), omega (arith, c .later .ensures, c .before .finish .ensures .1, c .before .before .before .loop .inv .2))
@@ -47,11 +32,11 @@ latest-spec =
     (tie.spec
     Inv-loop
     μ-loop
-    tasks-requires
+    (λ c κs. search needs)
     loop-holds
-    finish-requires
-    later-requires
-    add-t
-    loop-less
+    (λ c κs. search needs)
+    (λ c κs. search needs)
+    (λ c. search needs)
+    (λ c. search needs)
     loop-again
     returns)

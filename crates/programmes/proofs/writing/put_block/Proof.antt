@@ -11,9 +11,6 @@ use mathlib.Core.Path.{sym}
 use Rattle.programmes.proofs.writing.put_block.Statement.{statement}
 use Rattle.programmes.proofs.writing.put_block.Tie as tie
 
-place-requires : tie.Need-place-requires
-place-requires c κs = search needs
-
 put-messages-requires : tie.Need-put-messages-requires
 put-messages-requires c κs = let s = c .before .before .before .before .before in let a = s .args in let z = block-length (sheetIn (now (a .w))) (scheduleIn (now (a .w))) (a .k) (a .t) (stands-here (scheduleIn (now (a .w))) (a .t) (a .k) (c .before .before .place .ensures .0) (c .before .if1 .taken)) in (s .pre .0, (s .pre .1 .0, omega (arith, s .pre .1 .1)))
 
@@ -22,9 +19,6 @@ put-pair-requires c κs = let s = c .before .before .before .before .before .bef
 
 put-messages-requires-2 : tie.Need-put-messages-requires-2
 put-messages-requires-2 c κs = let s = c .before .before .before .before .before .before .before .before .before .before .before .before .before in let a = s .args in let z = block-length (sheetIn (now (a .w))) (scheduleIn (now (a .w))) (a .k) (a .t) (stands-here (scheduleIn (now (a .w))) (a .t) (a .k) (c .before .before .before .before .before .before .before .before .before .before .place .ensures .0) (c .before .before .before .before .before .before .before .before .before .if1 .taken)) in (s .pre .0, (s .pre .1 .0, omega (arith, s .pre .1 .1, c .before .before .before .before .before .before .before .put-messages .ensures .next, c .before .before .before .before .before .before .before .put-messages .kept .1 .0, c .before .before .before .put-pair .ensures .next, c .before .before .before .put-pair .kept .0)))
-
-same-length : tie.Need-same-length
-same-length c = search needs
 
 returns : tie.Need-returns
 returns c = let s = c .before .before .before .before .before .before .before .before .before .before .before .before .before .before .before .before in let a = s .args in block-put (sheetIn (now (a .w))) (scheduleIn (now (a .w))) (a .k) (a .t) (stands-here (scheduleIn (now (a .w))) (a .t) (a .k) (c .before .before .before .before .before .before .before .before .before .before .before .before .before .place .ensures .0) (c .before .before .before .before .before .before .before .before .before .before .before .before .if1 .taken)) (omega (arith, s .pre .1 .1)) (c .before .before .before .before .before .before .before .before .before .before .put-messages .ensures) (c .before .before .before .before .before .before .put-pair .ensures) (c .before .before .put-messages2 .ensures)
@@ -36,10 +30,10 @@ pub put-block-spec : {M : Type 1} → statement M
 put-block-spec =
     tie.close
     (tie.spec
-    place-requires
+    (λ c κs. search needs)
     put-messages-requires
     put-pair-requires
     put-messages-requires-2
-    same-length
+    (λ c. search needs)
     returns
     returns-2)

@@ -18,9 +18,6 @@ Inv-loop w out₀ start k p at₀ i₀ out at i = (i ≤ p) × Filled (turnBytes
 abbrev μ-loop : tie.MeasureT-loop
 μ-loop w out₀ start k p at₀ i₀ out at i = p - i
 
-placed-requires : tie.Need-placed-requires Inv-loop μ-loop
-placed-requires c κs = search needs
-
 loop-holds : tie.Need-loop-holds Inv-loop μ-loop
 loop-holds c = (omega arith, filled-none _ _ _)
 
@@ -33,12 +30,6 @@ put-block-requires c κs =
     let h : c .before .before .before .loop .i < length (scheduleIn (now (s .args .w)) .order) = omega (arith, c .before .before .before .before .placed .ensures .0, c .before .before .loop-test .taken) in
     let room = filled-room _ _ _ (c .before .before .before .loop .inv .1) _ h (s .pre .1) in
     (s .pre .0, (rw (c .turn .ensures .0) (s .pre .0 .tasks _ h), omega (arith, room, ap length (turn-is (sheetIn (now (s .args .w))) (scheduleIn (now (s .args .w))) (s .args .k) (c .before .before .before .loop .i) _ (c .turn .ensures .0)))))
-
-add-i : tie.Need-add-i Inv-loop μ-loop
-add-i c = search needs
-
-loop-less : tie.Need-loop-less Inv-loop μ-loop
-loop-less c = search needs
 
 loop-again : tie.Need-loop-again Inv-loop μ-loop
 loop-again c =
@@ -57,12 +48,12 @@ put-blocks-spec =
     (tie.spec
     Inv-loop
     μ-loop
-    placed-requires
+    (λ c κs. search needs)
     loop-holds
     turn-requires
     put-block-requires
-    add-i
-    loop-less
+    (λ c. search needs)
+    (λ c. search needs)
     loop-again
     same-length
     returns)

@@ -7,15 +7,6 @@ use Rattle.programmes.proofs.Puts.{stored-number}
 use Rattle.programmes.proofs.writing.put_claim.Statement.{statement}
 use Rattle.programmes.proofs.writing.put_claim.Tie as tie
 
-slice-write-out : tie.Need-slice-write-out
-slice-write-out c = search needs
-
-add-put32 : tie.Need-add-put32
-add-put32 c = search needs
-
-narrow-requires : tie.Need-narrow-requires
-narrow-requires c κs = search needs
-
 put32-requires : tie.Need-put32-requires
 put32-requires c κs = simp length-set (omega arith)
 
@@ -28,4 +19,4 @@ returns c = let a = c .before .before .before .before .before .before .args in s
 pub put-claim-spec : {M : Type 1} → statement M
 put-claim-spec =
     tie.close
-    (tie.spec slice-write-out add-put32 narrow-requires put32-requires same-length returns)
+    (tie.spec (λ c. search needs) (λ c. search needs) (λ c κs. search needs) put32-requires same-length returns)

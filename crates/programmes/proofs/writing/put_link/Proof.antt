@@ -11,14 +11,8 @@ use Rattle.sheet.specs.Tables.{sheetIn}
 use Rattle.programmes.proofs.writing.put_link.Statement.{statement}
 use Rattle.programmes.proofs.writing.put_link.Tie as tie
 
-is-away-requires : tie.Need-is-away-requires
-is-away-requires c κs = search needs
-
 put-message-requires : tie.Need-put-message-requires
 put-message-requires c κs = let s = c .before .before .before .before .before in let a = s .args in (omega (arith, s .pre .1 .1, message-three (sheetIn (now (a .w))) (scheduleIn (now (a .w))) (a .e) (a .k) (a .l) (sym (c .before .before .is-away .ensures) ∙ c .before .if1 .taken)), omega (arith, s .pre .1 .0, ranged (now (a .w)) (s .pre .0 .loaded) .few-links))
-
-same-length : tie.Need-same-length
-same-length c = search needs
 
 returns : tie.Need-returns
 returns c = let s = c .before .before .before .before .before .before .before .before in let a = s .args in put-as (sym (message-away (sheetIn (now (a .w))) (scheduleIn (now (a .w))) (a .e) (a .k) (a .l) (sym (c .before .before .before .before .before .is-away .ensures) ∙ c .before .before .before .before .if1 .taken))) (c .before .before .put-message .ensures)
@@ -28,4 +22,4 @@ returns-2 c = let a = c .before .before .before .before .args in put-as (sym (me
 
 pub put-link-spec : {M : Type 1} → statement M
 put-link-spec =
-    tie.close (tie.spec is-away-requires put-message-requires same-length returns returns-2)
+    tie.close (tie.spec (λ c κs. search needs) put-message-requires (λ c. search needs) returns returns-2)

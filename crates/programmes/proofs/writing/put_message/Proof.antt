@@ -7,23 +7,8 @@ use Rattle.programmes.proofs.Puts.{stored-number}
 use Rattle.programmes.proofs.writing.put_message.Statement.{statement}
 use Rattle.programmes.proofs.writing.put_message.Tie as tie
 
-code-requires : tie.Need-code-requires
-code-requires c κs = search needs
-
-slice-write-out : tie.Need-slice-write-out
-slice-write-out c = search needs
-
-add-put16 : tie.Need-add-put16
-add-put16 c = search needs
-
-cast-put16 : tie.Need-cast-put16
-cast-put16 c = search needs
-
 put16-requires : tie.Need-put16-requires
 put16-requires c κs = simp length-set (omega arith)
-
-add-result : tie.Need-add-result
-add-result c = search needs
 
 same-length : tie.Need-same-length
 same-length c = simp length-set at (c .before .before .put16 .kept .0)
@@ -35,11 +20,11 @@ pub put-message-spec : {M : Type 1} → statement M
 put-message-spec =
     tie.close
     (tie.spec
-    code-requires
-    slice-write-out
-    add-put16
-    cast-put16
+    (λ c κs. search needs)
+    (λ c. search needs)
+    (λ c. search needs)
+    (λ c. search needs)
     put16-requires
-    add-result
+    (λ c. search needs)
     same-length
     returns)

@@ -16,9 +16,6 @@ Inv-loop w out₀ start e k t m at₀ l₀ out at l = Putting (sheetIn w) (sched
 abbrev μ-loop : tie.MeasureT-loop
 μ-loop w out₀ start e k t m at₀ l₀ out at l = m - l
 
-links-requires : tie.Need-links-requires Inv-loop μ-loop
-links-requires c κs = search needs
-
 first-requires : tie.Need-first-requires Inv-loop μ-loop
 first-requires c κs = let s = c .before .before .before in (s .pre .0 .loaded, (chained-of (s .pre .0) (s .args .e), s .pre .1 .0))
 
@@ -49,7 +46,7 @@ put-messages-spec =
     (tie.spec
     Inv-loop
     μ-loop
-    links-requires
+    (λ c κs. search needs)
     first-requires
     loop-holds
     put-link-requires

@@ -7,23 +7,8 @@ use mathlib.Core.Path.{refl}
 use Rattle.programmes.proofs.writing.put_pair.Statement.{statement}
 use Rattle.programmes.proofs.writing.put_pair.Tie as tie
 
-slice-write-out : tie.Need-slice-write-out
-slice-write-out c = search needs
-
-cast-out : tie.Need-cast-out
-cast-out c = search needs
-
-add-out : tie.Need-add-out
-add-out c = search needs
-
 slice-write-out-2 : tie.Need-slice-write-out-2
 slice-write-out-2 c = simp length-set (omega arith)
-
-add-result : tie.Need-add-result
-add-result c = search needs
-
-same-length : tie.Need-same-length
-same-length c = search needs
 
 returns : tie.Need-returns
 returns c = put-two (now (c .args .out)) (c .args .at) (c .args .command) _ (c .args .operand) (omega arith) refl
@@ -31,4 +16,4 @@ returns c = put-two (now (c .args .out)) (c .args .at) (c .args .command) _ (c .
 pub put-pair-spec : {M : Type 1} → statement M
 put-pair-spec =
     tie.close
-    (tie.spec slice-write-out cast-out add-out slice-write-out-2 add-result same-length returns)
+    (tie.spec (λ c. search needs) (λ c. search needs) (λ c. search needs) slice-write-out-2 (λ c. search needs) (λ c. search needs) returns)

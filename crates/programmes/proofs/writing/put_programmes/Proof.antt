@@ -16,20 +16,8 @@ Inv-loop w out₀ p at₀ k₀ out at k = (k ≤ p) × Filled (openBytes (sheetI
 abbrev μ-loop : tie.MeasureT-loop
 μ-loop w out₀ p at₀ k₀ out at k = p - k
 
-opened-requires : tie.Need-opened-requires Inv-loop μ-loop
-opened-requires c κs = search needs
-
 loop-holds : tie.Need-loop-holds Inv-loop μ-loop
 loop-holds c = (omega arith, filled-none _ _ _, omega arith)
-
-sub-put-programme : tie.Need-sub-put-programme Inv-loop μ-loop
-sub-put-programme c = search needs
-
-part-put-programme-start : tie.Need-part-put-programme-start Inv-loop μ-loop
-part-put-programme-start c = search needs
-
-part-put-programme-end : tie.Need-part-put-programme-end Inv-loop μ-loop
-part-put-programme-end c = search needs
 
 put-programme-requires : tie.Need-put-programme-requires Inv-loop μ-loop
 put-programme-requires c κs =
@@ -44,12 +32,6 @@ add-at c =
     let l = c .before .before .before .before .before .loop in
     let room = filled-room _ _ _ (l .inv .1) (scheduleIn (now (s .args .w)) .opened) (omega (arith, c .before .before .before .before .loop-test .taken, c .before .before .before .before .before .before .opened .ensures .0)) (omega (arith, s .pre .1)) in
     omega (arith, room, c .before .before .put-programme .ensures .next, l .inv .1 .long)
-
-add-k : tie.Need-add-k Inv-loop μ-loop
-add-k c = search needs
-
-loop-less : tie.Need-loop-less Inv-loop μ-loop
-loop-less c = search needs
 
 loop-again : tie.Need-loop-again Inv-loop μ-loop
 loop-again c =
@@ -70,15 +52,15 @@ put-programmes-spec =
     (tie.spec
     Inv-loop
     μ-loop
-    opened-requires
+    (λ c κs. search needs)
     loop-holds
-    sub-put-programme
-    part-put-programme-start
-    part-put-programme-end
+    (λ c. search needs)
+    (λ c. search needs)
+    (λ c. search needs)
     put-programme-requires
     add-at
-    add-k
-    loop-less
+    (λ c. search needs)
+    (λ c. search needs)
     loop-again
     same-length
     returns)
