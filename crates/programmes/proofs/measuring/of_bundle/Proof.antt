@@ -19,7 +19,9 @@ abbrev μ-loop : tie.MeasureT-loop
 μ-loop w p n₀ k₀ n k = p - k
 
 loop-holds : tie.Need-loop-holds Inv-loop μ-loop
-loop-holds c = (omega arith, none-long _ 5, omega arith)
+loop-holds c =
+    let a = c .before .before .args in
+    (omega arith, omega (arith, none-long (openBytes (sheetIn (now (a .w))) (scheduleIn (now (a .w)))) 5), omega arith)
 
 loop-again : tie.Need-loop-again Inv-loop μ-loop
 loop-again c = let a = c .before .before .before .before .before .args in (omega arith, longer (openBytes (sheetIn (now (a .w))) (scheduleIn (now (a .w)))) 5 (c .before .before .loop .k) (c .before .before .loop .inv .1) (c .of-programme .ensures .0), omega (arith, c .of-programme .ensures .1, c .before .before .loop .inv .2))
