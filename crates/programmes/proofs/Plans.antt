@@ -60,6 +60,18 @@ order-below s p φ e i h =
     let o = plan-of s p (empty-fair s p) (c .1) .order in
     rw o (built-below (c .1) i (rw o at h))
 
+-- what planning leaves can be written
+pub scheduled : {w₀ w : List ℕ} → Proper (sheetIn w₀) → Afterwards w₀ w → planned (sheetIn w₀) ≡ value (scheduleIn w) → Scheduled w
+scheduled {w₀} {w} p a q =
+    record {
+      loaded = a .loaded;
+      outward = subst (λ (s : Sheet). Chained Source s w) (sym (a .sheet)) (a .outward);
+      inward = subst (λ (s : Sheet). Chained Target s w) (sym (a .sheet)) (a .inward);
+      few-opened = a .few-opened;
+      few-placed = a .few-placed;
+      tasks = λ i h. rw (a .sheet) (order-below (sheetIn w₀) p (scheduleIn w) q i h);
+    }
+
 -- an answer that was read is a value, and one that was refused a refusal
 read-some : (a : Answer Sheet) → readings.Read ≡ readingOf a → (s : Sheet) × (a ≡ value s)
 read-some (value s) e = (s, refl)
@@ -109,15 +121,7 @@ module _ (b : List ℕ) {work mid : List ℕ} {o : Reading} (h : OpenIs (readShe
 
       module _ (q : value (scheduleIn last) ≡ planned (sheetIn mid)) where
         pub plan-scheduled : Scheduled last
-        plan-scheduled =
-            record {
-              loaded = a .loaded;
-              outward = subst (λ (s : Sheet). Chained Source s last) (sym (a .sheet)) (a .outward);
-              inward = subst (λ (s : Sheet). Chained Target s last) (sym (a .sheet)) (a .inward);
-              few-opened = a .few-opened;
-              few-placed = a .few-placed;
-              tasks = λ i k. rw (a .sheet) (order-below (sheetIn mid) (proper b (sheetIn mid) (open-value h e)) (scheduleIn last) (sym q) i k);
-            }
+        plan-scheduled = scheduled (proper b (sheetIn mid) (open-value h e)) a (sym q)
 
         pub plan-done : (out out′ : List ℕ) {r : Judged} → WriteIs (bundleFor (length out) (sheetIn last) (scheduleIn last)) out out′ r → PlanIs (planFor (length out) b) work last out out′ r
         plan-done out out′ {r} d =
