@@ -21,7 +21,8 @@ use Rattle.sheet.proofs.Stores.{all-next, all-none}
 use Rattle.sheet.proofs.Backs.{values-tasks, values-links, values-again, values-narrow, written-length}
 use Rattle.graph.specs.Graph.{level, readSheet}
 use Rattle.graph.specs.Opened.{OpenIs}
-use Rattle.graph.proofs.Opens.{open-refusal, open-value, form-of}
+use Rattle.graph.proofs.Opens.{open-refusal, open-value}
+use Rattle.graph.proofs.Proper.{read-form}
 use Rattle.bundle.specs.Counts.{Sized}
 use Rattle.bundle.specs.Writes.{Counted}
 use Rattle.answers.specs.Values.{levelsOf, tabled, boardOf, taskTable, linkTable, boardAfter, no-place}
@@ -85,22 +86,22 @@ levels-length s = length-listed (taskCount s) (level s)
 -- the written sheet: values that are read are whole, and their links narrow
 module _ (p l : ℕ) (tv lv : List ℕ) (s : Sheet) (ts : (k : ℕ) → getD tv k 0 < 65536) (ls : (k : ℕ) → getD lv k 0 < 65536) (small : l < 4294967296) (e : readSheet (valueBytes p l tv lv) ≡ value s) where
   pub whole-values : (length tv % 2 ≡ 0) × (length lv % 4 ≡ 0)
-  whole-values = let v = values-again p l tv lv s ts ls small (form-of (valueBytes p l tv lv) s e) in (v .2, v .3)
+  whole-values = let v = values-again p l tv lv s ts ls small (read-form (valueBytes p l tv lv) s e .0) in (v .2, v .3)
 
   pub need-length : 7 + 5 * (length tv / 2) + 7 * (length lv / 4) ≡ length (valueBytes p l tv lv)
   need-length = sym (written-length p l tv lv (whole-values .0) (whole-values .1))
 
   pub few-values : {w : List ℕ} → Loaded w → sheetIn w ≡ s → (length tv / 2 ≤ 256) × (length lv / 4 ≤ 1024)
   few-values {w} h q =
-      let v = values-again p l tv lv s ts ls small (form-of (valueBytes p l tv lv) s e) in
+      let v = values-again p l tv lv s ts ls small (read-form (valueBytes p l tv lv) s e .0) in
       let same : sheetIn w ≡ sheetOfValues p l tv lv = q ∙ v .0 in
       (omega (arith, ranged w h .few-tasks, ap taskCount same, values-tasks p l tv lv), omega (arith, ranged w h .few-links, ap linkCount same, values-links p l tv lv))
 
   pub narrow-values : Narrow lv
   narrow-values =
       record {
-        sources = λ j h. values-narrow p l tv lv s ts ls small (form-of (valueBytes p l tv lv) s e) j h .0;
-        targets = λ j h. values-narrow p l tv lv s ts ls small (form-of (valueBytes p l tv lv) s e) j h .1;
+        sources = λ j h. values-narrow p l tv lv s ts ls small (read-form (valueBytes p l tv lv) s e .0) j h .0;
+        targets = λ j h. values-narrow p l tv lv s ts ls small (read-form (valueBytes p l tv lv) s e .0) j h .1;
       }
 
 -- the tables of a sheet

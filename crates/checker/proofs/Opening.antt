@@ -10,7 +10,8 @@ use Rattle.sheet.specs.declared.Reading.{Reading}
 use Rattle.sheet.specs.declared.Reading.the-variants as readings
 use Rattle.graph.specs.Graph.{readSheet}
 use Rattle.graph.specs.Opened.{OpenIs}
-use Rattle.graph.proofs.Opens.{open-refusal, open-value, form-of}
+use Rattle.graph.proofs.Opens.{open-refusal, open-value}
+use Rattle.graph.proofs.Proper.{read-form}
 use Rattle.bundle.specs.Format.{readBundle}
 use Rattle.messages.proofs.Written.{fields-read}
 use Rattle.checker.specs.Checker.{checked, check}
@@ -34,6 +35,6 @@ module _ (sheet bundle work mid : List ℕ) {o : Reading} (h : OpenIs (readSheet
       record {
         long = g .long ∙ h .long;
         is =
-            g .is (fields-read sheet (sheetIn mid) small (form-of sheet (sheetIn mid) e))
+            g .is (fields-read sheet (sheetIn mid) small (read-form sheet (sheetIn mid) e .0))
             ∙ sym (ap (λ (x : Answer Sheet). verdictOf (andThen x (λ s. andThen (readBundle s bundle) (checked s)))) e);
       }

@@ -6,7 +6,7 @@ use mathlib.Core.List.{List}
 use native.Mathlib.Omega.{arith}
 use lib.ListN.{length, getD}
 use Rattle.folds.specs.Answers.{Answer, value, refused, unless, andThen}
-use Rattle.folds.proofs.Tests.{not-value, andThen-value, unless-value}
+use Rattle.folds.proofs.Tests.{not-value}
 use Rattle.sheet.specs.Sheet.{Sheet}
 use Rattle.sheet.specs.Format.{readForm}
 use Rattle.sheet.specs.Tables.{sheetIn, Loaded}
@@ -101,11 +101,3 @@ module _ {a : Answer Sheet} {w last : List ℕ} {o : Reading} (h : OpenIs a w la
 
     pub open-levelled : Levelled (sheetIn last) last
     open-levelled = subst (λ (s : Sheet). Levelled s last) (sym (h .held (opened .0) (opened .1))) (h .levelled (opened .0) (opened .1))
-
--- a sheet that is read has the form of one
-pub form-of : (b : List ℕ) (s : Sheet) → readSheet b ≡ value s → readForm b ≡ value s
-unfolding readSheet
-form-of b s e =
-    let x = andThen-value (readForm b) (λ t. unless 10 (circle t) (value t)) s e in
-    let y = unless-value 10 (circle (x .0)) (value (x .0)) s (x .2) in
-    x .1 ∙ y .1

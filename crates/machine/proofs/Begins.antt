@@ -11,7 +11,8 @@ use Rattle.sheet.specs.declared.Reading.{Reading}
 use Rattle.sheet.specs.declared.Reading.the-variants as readings
 use Rattle.graph.specs.Graph.{readSheet}
 use Rattle.graph.specs.Opened as graph
-use Rattle.graph.proofs.Opens.{open-refusal, open-value, form-of}
+use Rattle.graph.proofs.Opens.{open-refusal, open-value}
+use Rattle.graph.proofs.Proper.{read-form}
 use Rattle.bundle.specs.Bundle.{Bundle}
 use Rattle.messages.specs.Admitted.{admittedBytes, judgedOf}
 use Rattle.messages.specs.declared.Judged.{Judged}
@@ -56,7 +57,7 @@ module _ (sheet bundle work mid state : List ℕ) {o : Reading} (h : graph.OpenI
   unfolding starting
   begin-opened small q after last x g =
       let v : readSheet sheet ≡ value (sheetIn mid) = open-value h q in
-      let f = fields-read sheet (sheetIn mid) small (form-of sheet (sheetIn mid) v) in
+      let f = fields-read sheet (sheetIn mid) small (read-form sheet (sheetIn mid) v .0) in
       let a : starting sheet bundle ≡ beside (sheetIn mid) (admittedBytes (sheetIn mid) bundle) = ap (λ (y : Answer Sheet). andThen y (λ s. beside s (admittedBytes s bundle))) v in
       record {
         long = g .long ∙ h .long;

@@ -3,3 +3,4 @@ pub mod Starts
 pub mod Spent
 pub mod Guards
 pub mod Steps
+pub mod Singles

@@ -6,15 +6,14 @@ use native.Mathlib.Omega.{arith}
 use lib.ListN.{length, getD}
 use Rattle.folds.specs.Answers.{Answer, value, refused, andThen, fitting}
 use Rattle.sheet.specs.Sheet.{Sheet, taskCount}
-use Rattle.sheet.specs.Tables.{sheetIn, Loaded}
-use Rattle.sheet.specs.Answers.{readingOf}
+use Rattle.sheet.specs.Tables.{sheetIn}
 use Rattle.sheet.specs.declared.Reading.{Reading}
 use Rattle.sheet.specs.declared.Reading.the-variants as readings
 use Rattle.chains.specs.Chains.{Chained}
 use Rattle.chains.specs.declared.End.the-variants.{Source, Target}
 use Rattle.graph.specs.Graph.{readSheet}
-use Rattle.graph.specs.Found.{Levelled}
 use Rattle.graph.specs.Opened.{OpenIs}
+use Rattle.graph.proofs.Opens.{open-refusal, open-value}
 use Rattle.graph.proofs.Proper.{Proper, proper}
 use Rattle.bundle.specs.Writing.{bundleBytes}
 use Rattle.bundle.specs.declared.writer.Judged.{Judged}
@@ -25,6 +24,7 @@ use Rattle.planner.specs.Planner.{planned, bundleOf, plan}
 use Rattle.planner.proofs.Schedules.{Built, built, placing, plan-of, empty-fair, planned-build}
 use Rattle.schedule.specs.Layout.{scheduleIn}
 use Rattle.placing.specs.Choosing.{Single}
+use Rattle.placing.proofs.Singles.{read-single}
 use Rattle.turns.specs.Turns.{Afterwards}
 use Rattle.programmes.specs.Scheduled.{Scheduled}
 use Rattle.programmes.specs.Written.{bundleFor, planFor, WriteIs, PlanIs}
@@ -42,10 +42,6 @@ plan-for lent b = go (readSheet b)
     go : (a : Answer Sheet) → andThen a (λ s. andThen (planned s) (bundleFor lent s)) ≡ andThen (andThen a (λ s. andThen (planned s) (λ σ. value (bundleBytes (bundleOf s σ))))) (fitting lent)
     go (value s) = within s (planned s)
     go (refused n at) = refl
-
--- no link stands twice in a sheet that is read
-pub read-single : (b : List ℕ) (s : Sheet) → readSheet b ≡ value s → Single s
-read-single b s e = record { once = proper b s e .single }
 
 -- the tasks that are placed are the sheet's
 built-below : {s : Sheet} {σ φ : Schedule} {ts : List ℕ} → Built s σ φ ts → (i : ℕ) → i < length ts → getD ts i 0 < taskCount s
@@ -72,34 +68,11 @@ scheduled {w₀} {w} p a q =
       tasks = λ i h. rw (a .sheet) (order-below (sheetIn w₀) p (scheduleIn w) q i h);
     }
 
--- an answer that was read is a value, and one that was refused a refusal
-read-some : (a : Answer Sheet) → readings.Read ≡ readingOf a → (s : Sheet) × (a ≡ value s)
-read-some (value s) e = (s, refl)
-read-some (refused n at) e = let z : _≡_ {A = ℕ} 0 1 = cc in absurd (omega arith)
-
-refused-same : (a : Answer Sheet) (r e : ℕ) → readings.Refused r e ≡ readingOf a → a ≡ refused r e
-refused-same (value s) r e h = let z : _≡_ {A = ℕ} 0 1 = cc in absurd (omega arith)
-refused-same (refused n at) r e h = let p : r ≡ n = cc in let q : e ≡ at = cc in sym (ap (λ (x : ℕ). refused x e) p ∙ ap (refused n) q)
-
--- a sheet that was opened
-module _ {x : Answer Sheet} {work mid : List ℕ} {o : Reading} (h : OpenIs x work mid o) (e : o ≡ readings.Read) where
-  opened : (s : Sheet) × (x ≡ value s)
-  opened = read-some x (sym e ∙ h .answer)
-
-  pub open-loaded : Loaded mid
-  open-loaded = h .loaded (opened .0) (opened .1)
-
-  pub open-value : x ≡ value (sheetIn mid)
-  open-value = opened .1 ∙ ap value (sym (h .held (opened .0) (opened .1)))
-
-  pub open-levelled : Levelled (sheetIn mid) mid
-  open-levelled = subst (λ (s : Sheet). Levelled s mid) (sym (h .held (opened .0) (opened .1))) (h .levelled (opened .0) (opened .1))
-
 module _ (b : List ℕ) {work mid : List ℕ} {o : Reading} (h : OpenIs (readSheet b) work mid o) where
   pub plan-refused : (out : List ℕ) (r at : ℕ) → o ≡ readings.Refused r at → PlanIs (planFor (length out) b) work mid out out (Refused r at)
   plan-refused out r at e =
       record {
-        is = write-refused out (ap (λ (a : Answer Sheet). andThen a (λ s. andThen (planned s) (bundleFor (length out) s))) (refused-same (readSheet b) r at (sym e ∙ h .answer)));
+        is = write-refused out (ap (λ (a : Answer Sheet). andThen a (λ s. andThen (planned s) (bundleFor (length out) s))) (open-refusal h r at e));
         long = h .long;
       }
 
