@@ -108,12 +108,12 @@ module _ (b c : List ℕ) (k : ℕ) {a : Answer Sheet} {work mid : List ℕ} {o 
         }
 
 -- the written bundle
-judged-no : (y : Answer (List ℕ)) (n e : ℕ) → judged.Refused n e ≡ writtenOf y → ends.Refused n e ≡ outcomeOf length y
+pub judged-no : (y : Answer (List ℕ)) (n e : ℕ) → judged.Refused n e ≡ writtenOf y → ends.Refused n e ≡ outcomeOf length y
 unfolding writtenOf
 judged-no (value v) n e h = let z : _≡_ {A = ℕ} 0 1 = cc in absurd (omega arith)
 judged-no (refused m d) n e h = let p : n ≡ m = cc in let q : e ≡ d = cc in ap (λ (i : ℕ). ends.Refused i e) p ∙ ap (ends.Refused m) q
 
-judged-yes : (y : Answer (List ℕ)) (n : ℕ) → judged.Long n ≡ writtenOf y → ends.Done n ≡ outcomeOf length y
+pub judged-yes : (y : Answer (List ℕ)) (n : ℕ) → judged.Long n ≡ writtenOf y → ends.Done n ≡ outcomeOf length y
 unfolding writtenOf
 judged-yes (value v) n h = let p : n ≡ length v = cc in ap ends.Done p
 judged-yes (refused m d) n h = let z : _≡_ {A = ℕ} 0 1 = cc in absurd (omega arith)

@@ -1,3 +1,4 @@
 pub mod Opening
 pub mod Bundling
 pub mod Running
+pub mod Planning

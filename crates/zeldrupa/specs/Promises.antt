@@ -17,6 +17,7 @@ use Rattle.bundle.specs.Writing.{bundleValues}
 use Rattle.bundle.specs.Writing as bundles
 use Rattle.checker.specs.Checker.{check}
 use Rattle.planner.specs.Planner.{plan}
+use Rattle.listing.specs.Listing.{listing}
 use Rattle.answers.specs.Values.{levelsOf, tabled, no-place, taskTable, linkTable, boardAfter, commandTable, claimAfter, valueCount}
 
 -- what is returned, the place, and the work area afterwards, by an answer whose results have f as their place
@@ -80,3 +81,10 @@ planAnswer sheet work out = longEnough fixed work (andThen (plan sheet) (fitting
 
 abbrev pub GivesPlan : List ℕ → List ℕ → List ℕ → List ℕ → List ℕ → ℕ → ℕ → Type 0
 GivesPlan sheet work work′ out = Gives (planAnswer sheet (length work) (length out)) work work′ out
+
+-- zeldrupa_listing: the bytes of the listing, of a plan or of a refusal
+unfoldable pub listingAnswer : List ℕ → ℕ → ℕ → Answer (List ℕ)
+listingAnswer sheet work out = longEnough fixed work (fitting out (listing sheet))
+
+abbrev pub GivesListing : List ℕ → List ℕ → List ℕ → List ℕ → List ℕ → ℕ → ℕ → Type 0
+GivesListing sheet work work′ out = Gives (listingAnswer sheet (length work) (length out)) work work′ out

@@ -3,13 +3,13 @@
 // and of the stepping machine in specs/Stepping.antt.
 ghost use mathlib.Core.Path.{_≡_};
 ghost use lib.ListN.{length};
-ghost use Rattle.zeldrupa.specs.Promises.{Gives, GivesSheet, GivesBundle, GivesCheck, levelsAnswer, writeSheetAnswer, readSheetAnswer, readBundleAnswer, writeBundleAnswer};
+ghost use Rattle.zeldrupa.specs.Promises.{Gives, GivesSheet, GivesBundle, GivesCheck, GivesPlan, GivesListing, levelsAnswer, writeSheetAnswer, readSheetAnswer, readBundleAnswer, writeBundleAnswer};
 ghost use Rattle.zeldrupa.specs.Stepping.{GivesStart, GivesRun, GivesStep, GivesLeft, GivesProcessor, GivesStamp};
 use answers::bundles;
 use answers::ending;
+use answers::plans;
 use answers::sheets;
 use answers::stepping;
-
 
 // Reads a sheet into its tables: two values a task, four a link; processors, limit, tasks and links into `board`.
 #[no_mangle]
@@ -130,6 +130,44 @@ pub extern "C" fn zeldrupa_check(
         return 13;
     }
     let o = bundles::check(sheet, bundle, work);
+    workspace::clear(work);
+    ending::conclude(o, place)
+}
+
+// Plans a sheet: the bytes of the bundle.
+#[no_mangle]
+pub extern "C" fn zeldrupa_plan(
+    sheet: &[u8],
+    work: &mut [u32],
+    out: &mut [u8],
+    place: &mut u64,
+) -> u8
+    ensures { λ r. ⌜ GivesPlan (now (sheet .entry)) (now (work .entry)) (now (work .exit)) (now (out .entry)) (now (out .exit)) (now (place .exit)) r ⌝ }
+{
+    if work.len() < 22528 {
+        *place = 22528;
+        return 13;
+    }
+    let o = plans::write(sheet, work, out);
+    workspace::clear(work);
+    ending::conclude(o, place)
+}
+
+// The listing of a sheet's plan, or of its refusal.
+#[no_mangle]
+pub extern "C" fn zeldrupa_listing(
+    sheet: &[u8],
+    work: &mut [u32],
+    out: &mut [u8],
+    place: &mut u64,
+) -> u8
+    ensures { λ r. ⌜ GivesListing (now (sheet .entry)) (now (work .entry)) (now (work .exit)) (now (out .entry)) (now (out .exit)) (now (place .exit)) r ⌝ }
+{
+    if work.len() < 22528 {
+        *place = 22528;
+        return 13;
+    }
+    let o = plans::list(sheet, work, out);
     workspace::clear(work);
     ending::conclude(o, place)
 }

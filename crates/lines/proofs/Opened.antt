@@ -1,0 +1,60 @@
+-- From an opened sheet to its listing.
+use Prim.Native.Nat.{ℕ}
+use mathlib.Core.Path.{_≡_, sym, ap, _∙_}
+use mathlib.Core.List.{List}
+use lib.ListN.{length}
+use Rattle.folds.specs.Answers.{Answer, value, refused, andThen}
+use Rattle.sheet.specs.Sheet.{Sheet}
+use Rattle.sheet.specs.Tables.{sheetIn}
+use Rattle.sheet.specs.declared.Reading.{Reading}
+use Rattle.sheet.specs.declared.Reading.the-variants.{Read, Refused}
+use Rattle.graph.specs.Graph.{readSheet}
+use Rattle.graph.specs.Opened.{OpenIs}
+use Rattle.graph.proofs.Opens.{open-refusal, open-value}
+use Rattle.planner.specs.Schedule.{Schedule}
+use Rattle.planner.specs.Planner.{planned}
+use Rattle.schedule.specs.Layout.{scheduleIn}
+use Rattle.placing.specs.Choosing.{Single}
+use Rattle.placing.proofs.Singles.{read-single}
+use Rattle.turns.specs.Turns.{answerOf, Afterwards}
+use Rattle.turns.specs.declared.Planned.{Planned}
+use Rattle.turns.specs.declared.Planned.the-variants as planning
+use Rattle.listing.specs.Listing.{linesOf, refusalLine, scheduleLines, listing}
+use Rattle.lines.specs.Listed.{FitIs, ListIs, plannedLines}
+use Rattle.lines.specs.declared.Listed.{Listed}
+use Rattle.lines.proofs.Fits.{fit-as}
+
+-- the lines of an answer
+planned-as : (s : Sheet) (a : Answer Schedule) → a ≡ planned s → linesOf (andThen a (λ σ. value (s, σ))) ≡ plannedLines s
+unfolding plannedLines
+planned-as s a e = ap (λ (x : Answer Schedule). linesOf (andThen x (λ σ. value (s, σ)))) e
+
+module _ (w w′ : List ℕ) {out out′ : List ℕ} (p : Planned) {r : Listed} (h : answerOf p (scheduleIn w′) ≡ planned (sheetIn w)) where
+  pub planned-refused : (t : ℕ) → p ≡ planning.Refused t → FitIs (refusalLine 11 t) out out′ r → FitIs (plannedLines (sheetIn w)) out out′ r
+  planned-refused t e f = fit-as (planned-as (sheetIn w) (refused 11 t) (sym (ap (λ (x : Planned). answerOf x (scheduleIn w′)) e) ∙ h)) f
+
+  pub planned-done : p ≡ planning.Done → Afterwards w w′ → FitIs (scheduleLines (sheetIn w′) (scheduleIn w′)) out out′ r → FitIs (plannedLines (sheetIn w)) out out′ r
+  planned-done e a f =
+      fit-as
+      (ap (λ (s : Sheet). scheduleLines s (scheduleIn w′)) (a .sheet)
+      ∙ planned-as (sheetIn w) (value (scheduleIn w′)) (sym (ap (λ (x : Planned). answerOf x (scheduleIn w′)) e) ∙ h)) f
+
+module _ (b : List ℕ) {work mid : List ℕ} {o : Reading} (h : OpenIs (readSheet b) work mid o) where
+  pub list-refused : {out out′ : List ℕ} {r : Listed} (n number at : ℕ) → o ≡ Refused n at → number ≡ n → FitIs (refusalLine number at) out out′ r → ListIs b work mid out out′ r
+  unfolding listing
+  list-refused n number at q e f =
+      let a : readSheet b ≡ refused n at = open-refusal h n at q in
+      record {
+        fit = fit-as (ap (λ (x : ℕ). refusalLine x at) e ∙ sym (ap (λ (x : Answer Sheet). linesOf (andThen x (λ s. andThen (planned s) (λ σ. value (s, σ))))) a)) f;
+        long = h .long;
+      }
+
+  module _ (q : o ≡ Read) where
+    pub open-single : Single (sheetIn mid)
+    open-single = read-single b (sheetIn mid) (open-value h q)
+
+    pub list-read : {out out′ : List ℕ} {r : Listed} (last : List ℕ) → length last ≡ length mid → FitIs (plannedLines (sheetIn mid)) out out′ r → ListIs b work last out out′ r
+    unfolding listing plannedLines
+    list-read last l f =
+        let a : readSheet b ≡ value (sheetIn mid) = open-value h q in
+        record { fit = fit-as (sym (ap (λ (x : Answer Sheet). linesOf (andThen x (λ s. andThen (planned s) (λ σ. value (s, σ))))) a)) f; long = l ∙ h .long }

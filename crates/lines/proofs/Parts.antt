@@ -1,0 +1,144 @@
+-- Lines: how long each is, and that its parts put one behind the other are the line.
+use Prim.Native.Nat.{ℕ, zero, suc, _+_, _≤_, _<_, max}
+use mathlib.Core.Path.{_≡_, sym, ap, ap₂}
+use mathlib.Core.Logic.{⊎-elim}
+use mathlib.Core.List.{List, _++_, append-assoc}
+use native.Mathlib.Omega.{arith}
+use lib.ListN.{length, length-append}
+use Rattle.folds.specs.Folds.{gather, greatest}
+use Rattle.folds.proofs.Tests.{below-suc}
+use Rattle.folds.proofs.Loops.{gather-zero, gather-one, greatest-zero, greatest-more, greatest-at}
+use Rattle.sheet.specs.Sheet.{Sheet, taskCount}
+use Rattle.planner.specs.Schedule.{Schedule, placeOf, startOf, finishOf}
+use Rattle.planner.specs.Planner.{claimOf}
+use Rattle.listing.specs.Listing.{decimal, field, lineEnd, planWord, refusedWord, planLine, taskLine, refusalLine, scheduleLines}
+use Rattle.lines.specs.Lines.{PutIs, twoFields}
+use Rattle.lines.proofs.Puts.{put-then, put-as, put-nothing}
+
+-- lengths
+pub fields-length : (a b : ℕ) → length (twoFields a b) ≡ 3 + length (decimal a) + length (decimal b)
+unfolding twoFields
+fields-length a b = omega (arith, length-append (decimal a) (field b ++ lineEnd), length-append (decimal b) lineEnd)
+
+pub plan-length : (s : Sheet) (σ : Schedule) → length (planLine s σ) ≡ 7 + length (decimal (σ .opened)) + length (decimal (claimOf s σ))
+unfolding planLine twoFields
+plan-length s σ = omega (arith, length-append planWord (twoFields (σ .opened) (claimOf s σ)), fields-length (σ .opened) (claimOf s σ))
+
+pub refusal-length : (number place : ℕ) → length (refusalLine number place) ≡ 10 + length (decimal number) + length (decimal place)
+unfolding refusalLine twoFields
+refusal-length number place = omega (arith, length-append refusedWord (twoFields number place), fields-length number place)
+
+pub task-length : (σ : Schedule) (t : ℕ)
+    → length (taskLine σ t) ≡ 4 + length (decimal t) + length (decimal (placeOf σ t)) + length (decimal (startOf σ t)) + length (decimal (finishOf σ t))
+unfolding taskLine twoFields
+task-length σ t =
+    omega (
+      arith,
+      length-append (decimal t) (field (placeOf σ t) ++ twoFields (startOf σ t) (finishOf σ t)),
+      length-append (field (placeOf σ t)) (twoFields (startOf σ t) (finishOf σ t)),
+      fields-length (startOf σ t) (finishOf σ t),
+    )
+
+pub schedule-length : (s : Sheet) (σ : Schedule) → length (scheduleLines s σ) ≡ length (planLine s σ) + length (gather (taskCount s) (taskLine σ))
+unfolding scheduleLines
+schedule-length s σ = length-append (planLine s σ) (gather (taskCount s) (taskLine σ))
+
+-- the lists up to one, with one more, are within all
+pub gather-room : {X : Type 0} (f : ℕ → List X) (n t : ℕ) → t < n → length (gather t f) + length (f t) ≤ length (gather n f)
+unfolding gather
+gather-room f zero t h = absurd (omega arith)
+gather-room f (suc n) t h =
+    ⊎-elim (λ l. omega (arith, length-append (gather n f) (f n), gather-room f n t l))
+    (λ e. rw e (omega (arith, length-append (gather n f) (f n)))) (below-suc h)
+
+-- one line more
+pub needed-more : (f : ℕ → List ℕ) (a n r t : ℕ) → n ≡ a + length (gather t f) → r ≡ length (f t) → n + r ≡ a + length (gather (t + 1) f)
+needed-more f a n r t p q = omega (arith, p, q, ap length (gather-one t f), length-append (gather t f) (f t))
+
+-- the digits of a number that was read
+pub digits-of : {x y : ℕ} → x ≡ y → length (decimal x) ≡ length (decimal y)
+digits-of e = ap (λ (k : ℕ). length (decimal k)) e
+
+-- the parts of each line
+put-three : {b m₁ m₂ r : List ℕ} {at i j k : ℕ} {u v w : List ℕ} → at ≤ length b → PutIs b m₁ at u i → PutIs m₁ m₂ i v j → PutIs m₂ r j w k → PutIs b r at (u ++ (v ++ w)) k
+put-three {u = u} {v = v} {w = w} h p q s = put-as (append-assoc u v w) (put-then h (put-then h p q) s)
+
+pub fields-put : {b m₁ m₂ r : List ℕ} {at i j k : ℕ} (x y : ℕ) → at ≤ length b → PutIs b m₁ at (field x) i → PutIs m₁ m₂ i (field y) j → PutIs m₂ r j lineEnd k → PutIs b r at (twoFields x y) k
+unfolding twoFields
+fields-put x y h p q s = put-three h p q s
+
+pub plan-put : {b m r : List ℕ} {i j x y : ℕ} (s : Sheet) (σ : Schedule) → x ≡ σ .opened → y ≡ claimOf s σ → PutIs b m 0 planWord i → PutIs m r i (twoFields x y) j → PutIs b r 0 (planLine s σ) j
+unfolding planLine twoFields
+plan-put s σ d e p q = put-then (omega arith) p (put-as (ap₂ twoFields d e) q)
+
+pub refusal-put : {b m r : List ℕ} {i j : ℕ} (number place : ℕ) → PutIs b m 0 refusedWord i → PutIs m r i (twoFields number place) j → PutIs b r 0 (refusalLine number place) j
+unfolding refusalLine twoFields
+refusal-put number place p q = put-then (omega arith) p q
+
+pub task-put : {b m₁ m₂ r : List ℕ} {at i j k x y z : ℕ} (σ : Schedule) (t : ℕ) → at ≤ length b → x ≡ placeOf σ t → y ≡ startOf σ t → z ≡ finishOf σ t
+    → PutIs b m₁ at (decimal t) i → PutIs m₁ m₂ i (field x) j → PutIs m₂ r j (twoFields y z) k → PutIs b r at (taskLine σ t) k
+unfolding taskLine twoFields
+task-put σ t h d e f p q s = put-three h p (put-as (ap field d) q) (put-as (ap₂ twoFields e f) s)
+
+-- room for the parts of a line that has room
+pub fields-room : (b m₁ : List ℕ) {at i : ℕ} (x y : ℕ) → at + length (twoFields x y) ≤ length b → PutIs b m₁ at (field x) i → length m₁ ≡ length b
+    → i + length (field y) ≤ length m₁
+fields-room b m₁ x y h p e = omega (arith, fields-length x y, p .behind)
+
+pub end-room : (b m₁ m₂ : List ℕ) {at i j : ℕ} (x y : ℕ) → at + length (twoFields x y) ≤ length b → PutIs b m₁ at (field x) i → length m₁ ≡ length b
+    → PutIs m₁ m₂ i (field y) j → length m₂ ≡ length m₁ → j < length m₂
+end-room b m₁ m₂ x y h p e q f = omega (arith, fields-length x y, p .behind, q .behind)
+
+pub plan-room : (b m : List ℕ) {i : ℕ} (s : Sheet) (σ : Schedule) (x y : ℕ) → x ≡ σ .opened → y ≡ claimOf s σ → length (planLine s σ) ≤ length b
+    → PutIs b m 0 planWord i → length m ≡ length b → i + length (twoFields x y) ≤ length m
+plan-room b m s σ x y d e h p k = omega (arith, fields-length x y, plan-length s σ, digits-of d, digits-of e, p .behind)
+
+pub refusal-room : (b m : List ℕ) {i : ℕ} (number place : ℕ) → length (refusalLine number place) ≤ length b
+    → PutIs b m 0 refusedWord i → length m ≡ length b → i + length (twoFields number place) ≤ length m
+refusal-room b m number place h p k = omega (arith, fields-length number place, refusal-length number place, p .behind)
+
+module _ (b : List ℕ) {at : ℕ} (σ : Schedule) (t x y z : ℕ) (d : x ≡ placeOf σ t) (e : y ≡ startOf σ t) (f : z ≡ finishOf σ t) (h : at + length (taskLine σ t) ≤ length b) where
+  pub task-room : (m₁ : List ℕ) {i : ℕ} → PutIs b m₁ at (decimal t) i → length m₁ ≡ length b → i + length (field x) ≤ length m₁
+  task-room m₁ p k = omega (arith, task-length σ t, digits-of d, p .behind)
+
+  pub times-room : (m₁ m₂ : List ℕ) {i j : ℕ} → PutIs b m₁ at (decimal t) i → length m₁ ≡ length b → PutIs m₁ m₂ i (field x) j → length m₂ ≡ length m₁ → j + length (twoFields y z) ≤ length m₂
+  times-room m₁ m₂ p k q l = omega (arith, task-length σ t, fields-length y z, digits-of d, digits-of e, digits-of f, p .behind, q .behind)
+
+pub tasks-room : (b m : List ℕ) {at i : ℕ} (f : ℕ → List ℕ) (n t : ℕ) → at + length (gather n f) ≤ length b → t < n → PutIs b m at (gather t f) i → length m ≡ length b → i + length (f t) ≤ length m
+tasks-room b m f n t h l p k = omega (arith, gather-room f n t l, p .behind)
+
+pub schedule-room : (b m : List ℕ) {i : ℕ} (s : Sheet) (σ : Schedule) → length (scheduleLines s σ) ≤ length b → PutIs b m 0 (planLine s σ) i → length m ≡ length b
+    → i + length (gather (taskCount s) (taskLine σ)) ≤ length m
+schedule-room b m s σ h p k = omega (arith, schedule-length s σ, p .behind)
+
+-- the lines of tasks, one by one
+pub tasks-none : (f : ℕ → List ℕ) (b : List ℕ) (at : ℕ) → at ≤ length b → PutIs b b at (gather 0 f) at
+tasks-none f b at h = put-as (sym (gather-zero f)) (put-nothing b at h)
+
+pub tasks-more : {b m r : List ℕ} {at i j : ℕ} (f : ℕ → List ℕ) (t : ℕ) → at ≤ length b → PutIs b m at (gather t f) i → PutIs m r i (f t) j → PutIs b r at (gather (t + 1) f) j
+tasks-more f t h p q = put-as (sym (gather-one t f)) (put-then h p q)
+
+pub schedule-put : {b m r : List ℕ} {i j : ℕ} (s : Sheet) (σ : Schedule) → PutIs b m 0 (planLine s σ) i → PutIs m r i (gather (taskCount s) (taskLine σ)) j → PutIs b r 0 (scheduleLines s σ) j
+unfolding scheduleLines
+schedule-put s σ p q = put-then (omega arith) p q
+
+-- the claim
+pub claim-none : (f : ℕ → ℕ) → 0 ≡ greatest 0 f
+claim-none f = sym (greatest-zero f)
+
+pub claim-more : (σ : Schedule) (t : ℕ) {c x r : ℕ} → c ≡ greatest t (finishOf σ) → x ≡ finishOf σ t → r ≡ max c x → r ≡ greatest (t + 1) (finishOf σ)
+claim-more σ t p q e = greatest-more t (finishOf σ) p q e
+
+pub claim-all : (s : Sheet) (σ : Schedule) (t : ℕ) {c : ℕ} → c ≡ greatest t (finishOf σ) → t ≡ taskCount s → c ≡ claimOf s σ
+unfolding claimOf
+claim-all s σ t p e = greatest-at (finishOf σ) t (taskCount s) p e
+
+pub tasks-all : {b m : List ℕ} {at i : ℕ} (f : ℕ → List ℕ) (t n : ℕ) → PutIs b m at (gather t f) i → t ≡ n → PutIs b m at (gather n f) i
+tasks-all f t n p e = put-as (ap (λ (k : ℕ). gather k f) e) p
+
+-- the length of all lines, one by one
+pub needed-none : (a : ℕ) (f : ℕ → List ℕ) → a ≡ a + length (gather 0 f)
+needed-none a f = omega (arith, ap length (gather-zero f))
+
+pub needed-all : (s : Sheet) (σ : Schedule) (t a n : ℕ) → a ≡ length (planLine s σ) → n ≡ a + length (gather t (taskLine σ)) → t ≡ taskCount s → n ≡ length (scheduleLines s σ)
+needed-all s σ t a n p q e = omega (arith, schedule-length s σ, ap (λ (k : ℕ). length (gather k (taskLine σ))) e)

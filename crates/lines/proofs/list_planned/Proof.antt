@@ -1,0 +1,28 @@
+-- `lines::list_planned` meets its contract.
+use denote.Ref.{now}
+use Rattle.lines.proofs.Opened.{planned-refused, planned-done}
+use borrow.Author.Needs.{needs}
+use Rattle.lines.proofs.list_planned.Statement.{statement}
+use Rattle.lines.proofs.list_planned.Tie as tie
+
+returns : tie.Need-returns
+returns c = planned-refused (now (c .before .before .before .before .before .before .before .before .before .before .before .before .before .args .w)) (c .before .before .before .before .before .before .before .before .before .schedule .last .0) _ (c .before .before .before .before .before .before .before .before .before .schedule .ensures .0) _ (c .before .before .before .before .before .t .given .1) (c .before .before .list-refusal .ensures)
+
+returns-2 : tie.Need-returns-2
+returns-2 c = planned-done (now (c .before .before .before .before .before .before .before .before .before .before .before .before .before .args .w)) (c .before .before .before .before .before .before .before .before .before .schedule .last .0) _ (c .before .before .before .before .before .before .before .before .before .schedule .ensures .0) (c .before .before .before .before .before .enum-told .given .1) (c .before .before .before .before .before .before .before .before .before .schedule .ensures .1) (c .before .before .list-schedule .ensures)
+
+pub list-planned-spec : {M : Type 1} → statement M
+list-planned-spec =
+    tie.close
+    (tie.spec
+    (λ c κs. search needs)
+    (λ c. search needs)
+    (λ c κs. search needs)
+    (λ c. search needs)
+    (λ c κs. search needs)
+    (λ c. search needs)
+    (λ c. search needs)
+    returns
+    (λ c. search needs)
+    (λ c. search needs)
+    returns-2)

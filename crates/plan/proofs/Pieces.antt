@@ -1,0 +1,61 @@
+-- Reads that bring a piece, the end or a failure; and that a listing fits.
+use Prim.Native.Nat.{ℕ, _-_, _≤_}
+use mathlib.Core.Path.{_≡_, sym, ap, _∙_}
+use mathlib.Core.List.{List}
+use native.Mathlib.Omega.{arith}
+use borrow.Author.Tests.{le-ltb}
+use borrow.Rule.Slice.PartMut.{midOf}
+use lib.ListN.{length, drop, length-drop}
+use lib.Seq.{take-all}
+use Rattle.folds.specs.Answers.{value, fitting}
+use Rattle.lines.specs.Listed.{listedOf, FitIs}
+use Rattle.lines.specs.declared.Listed.{Listed}
+use Rattle.lines.specs.declared.Listed.the-variants.{Long, Short}
+use Rattle.plan.specs.Pieces.{GotIs, InputIs, Whole}
+use Rattle.plan.specs.declared.Got.the-variants as got
+use Rattle.plan.specs.declared.Input.{Input}
+use Rattle.plan.specs.declared.Input.the-variants as input
+
+no-end : {A : Type 0} {n : ℕ} → got.End ≡ got.More n → A
+no-end e = let z : _≡_ {A = ℕ} 0 1 = cc in absurd (omega arith)
+
+no-failure : {A : Type 0} {n : ℕ} → got.Failed ≡ got.More n → A
+no-failure e = let z : _≡_ {A = ℕ} 0 1 = cc in absurd (omega arith)
+
+pub got-end : {room : ℕ} → GotIs room got.End
+got-end = record { some = λ n e. no-end e; within = λ n e. no-end e }
+
+pub got-failed : {room : ℕ} → GotIs room got.Failed
+got-failed = record { some = λ n e. no-failure e; within = λ n e. no-failure e }
+
+-- a piece that fits what was lent behind the first `at` bytes
+pub got-more : (b last : List ℕ) (at n : ℕ) → at ≤ length b → length last ≡ length (midOf at (length b - at) b) → n ≤ length last → (n ≡ 0 → ⊥)
+    → GotIs (length b - at) (got.More n)
+got-more b last at n h e l p =
+    let mid : length (midOf at (length b - at) b) ≡ length b - at =
+    ap length (take-all (length b - at) (drop at b) (omega (arith, length-drop at b))) ∙ length-drop at b in
+    record {
+      some = λ m q. let s : n ≡ m = cc in omega arith;
+      within = λ m q. let s : n ≡ m = cc in omega arith;
+    }
+
+pub input-failed : {room : ℕ} → InputIs room input.Failed
+input-failed = record { within = λ n e. let z : _≡_ {A = ℕ} 0 1 = cc in absurd (omega arith) }
+
+pub input-bytes : {room : ℕ} (n : ℕ) → n ≤ room → InputIs room (input.Bytes n)
+input-bytes n h = record { within = λ m e. let s : n ≡ m = cc in omega arith }
+
+-- an output of 21,551 bytes is long enough
+pub whole : {v out out′ : List ℕ} {r : Listed} → FitIs v out out′ r → length out ≡ 21551 → Whole r
+whole {v} {out} h e =
+    let b : fitting (length out) v ≡ value v = rw (le-ltb (length out) (length v) (omega (arith, h .short))) in
+    record { size = length v; long = h .answer ∙ ap listedOf b; short = h .short }
+
+pub whole-long : {r : Listed} (n : ℕ) → Whole r → r ≡ Long n → (r ≡ Long n) × (n ≤ 21551)
+whole-long n w e = let x = sym (w .long) ∙ e in let s : w .size ≡ n = cc in (e, omega (arith, w .short))
+
+pub whole-short : {A : Type 0} {r : Listed} (n : ℕ) → Whole r → r ≡ Short n → A
+whole-short n w e = let x = sym (w .long) ∙ e in let z : _≡_ {A = ℕ} 0 1 = cc in absurd (omega arith)
+
+pub input-within : {room : ℕ} {r : Input} (last : List ℕ) (n : ℕ) → InputIs room r → r ≡ input.Bytes n → length last ≡ room → n ≤ length last
+input-within last n h e k = omega (arith, h .within n e)
