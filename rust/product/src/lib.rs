@@ -1,17 +1,63 @@
-//! The proved product from Rust: its C interface as it is, and safe functions over it.
+//! The proved product from Rust: safe functions over its C interface.
 //!
-//! Each safe function lends its slices to the C function of the same name and gives the answer's
-//! number and place. The number is 0 for a result, whose length is then the place.
+//! Each lends its slices to the C function of the same name and gives the answer's number and
+//! place. The number is 0 for a result; what the place then is stands at each function.
 
-pub mod formats;
-pub mod raw;
-
-pub use formats::{levels, read_bundle, read_sheet, write_bundle, write_sheet};
+#[macro_use]
+mod calls;
 
 /// The number and the place of an answer.
 pub type Answer = (u8, u64);
 
-/// The fixed length of work areas, in words: what the product says to an area of none.
+interface! {
+    /// Reads a sheet into tables of values and the board: processors, limit, task count, link count.
+    read_sheet = zeldrupa_read_sheet(
+        sheet: &[u8], work: &mut [u32], tasks: &mut [u16], links: &mut [u16], board: &mut [u32; 4]
+    );
+
+    /// Writes the sheet of these values; the place is its length.
+    write_sheet = zeldrupa_write_sheet(
+        processors: u8, limit: u32, tasks: &[u16], links: &[u16], work: &mut [u32], out: &mut [u8]
+    );
+
+    /// Writes the level of each task; the place is their count.
+    levels = zeldrupa_levels(sheet: &[u8], work: &mut [u32], out: &mut [u32]);
+
+    /// Reads a bundle for a sheet into a table of values, whose length is the place, and the claim.
+    read_bundle = zeldrupa_read_bundle(
+        sheet: &[u8], bundle: &[u8], work: &mut [u32], commands: &mut [u16], claim: &mut u32
+    );
+
+    /// Writes the bundle of these values for a sheet; the place is its length.
+    write_bundle = zeldrupa_write_bundle(
+        sheet: &[u8], commands: &[u16], claim: u32, work: &mut [u32], out: &mut [u8]
+    );
+
+    /// Checks a bundle for a sheet.
+    check = zeldrupa_check(sheet: &[u8], bundle: &[u8], work: &mut [u32]);
+
+    /// Starts the machine; `state` keeps its state from then on.
+    start = zeldrupa_start(sheet: &[u8], bundle: &[u8], work: &mut [u32], state: &mut [u32]);
+
+    /// Starts the machine and makes these choices; the place is how many of them stepped.
+    run = zeldrupa_run(
+        sheet: &[u8], bundle: &[u8], choices: &[u8], work: &mut [u32], state: &mut [u32]
+    );
+
+    /// One command of the chosen processor; the place is 1 if it stepped, 0 if it could not.
+    step = zeldrupa_step(sheet: &[u8], bundle: &[u8], state: &mut [u32], choice: u64);
+
+    /// The place is the count of commands still to do.
+    left = zeldrupa_left(bundle: &[u8], state: &[u32]);
+
+    /// Gives the clock, the position and the store in use of processor k.
+    processor = zeldrupa_processor(bundle: &[u8], state: &[u32], k: u64, numbers: &mut [u32; 3]);
+
+    /// The place is one more than the stamp of a link's message, or 0 while it is not sent.
+    stamp = zeldrupa_stamp(state: &[u32], link: u64);
+}
+
+/// The fixed length of work areas and of states, in words: what the product says to an area of none.
 pub fn work_length() -> usize {
     let (number, place) = levels(&[], &mut [], &mut []);
     assert_eq!(number, 13, "an empty work area is short");

@@ -1,16 +1,8 @@
 //! A programme bundle: reading it from bytes (21 to 25), its values, and writing it from values.
 
+use crate::command_bytes::*;
 use crate::refusal::*;
 use crate::sheet::{Sheet, MOST_PROCESSORS};
-
-const OPEN: u8 = 0x50;
-const RUN: u8 = 0x52;
-const SEND: u8 = 0x53;
-const RECEIVE: u8 = 0x56;
-const CLAIM: u8 = 0x5A;
-
-/// The bytes of the claim.
-const CLAIM_LENGTH: usize = 5;
 
 /// A command of a programme, or the one that opens it, with its operand.
 #[derive(Clone, Copy, Debug, PartialEq, Eq)]

@@ -5,6 +5,7 @@
 
 pub mod bundle;
 pub mod checker;
+mod command_bytes;
 pub mod graph;
 pub mod interface;
 pub mod listing;

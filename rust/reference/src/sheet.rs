@@ -1,5 +1,6 @@
 //! A task sheet: its values, reading it from bytes (1 to 10), making it from values, and writing it.
 
+use crate::command_bytes::*;
 use crate::graph::Graph;
 use crate::refusal::*;
 use crate::task_set::TaskSet;
@@ -10,17 +11,6 @@ pub const MOST_PROCESSORS: usize = 16;
 pub const MOST_TASKS: usize = 256;
 /// The most links of a sheet.
 pub const MOST_LINKS: usize = 1024;
-
-const BOARD: u8 = 0x4D;
-const TASK: u8 = 0x54;
-const LINK: u8 = 0x45;
-const END: u8 = 0x51;
-
-/// The bytes of each command.
-const BOARD_LENGTH: usize = 6;
-const TASK_LENGTH: usize = 5;
-const LINK_LENGTH: usize = 7;
-const END_LENGTH: usize = 1;
 
 /// A task: how long it runs and the store it takes.
 #[derive(Clone, Copy, Debug, PartialEq, Eq)]

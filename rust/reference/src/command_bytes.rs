@@ -1,0 +1,27 @@
+//! The command bytes of sheets and bundles, and the lengths of commands that are counted by them.
+
+/// The first byte of a sheet: the board.
+pub const BOARD: u8 = 0x4D;
+/// A task of a sheet.
+pub const TASK: u8 = 0x54;
+/// A link of a sheet.
+pub const LINK: u8 = 0x45;
+/// The end of a sheet.
+pub const END: u8 = 0x51;
+
+/// Opens a programme of a bundle.
+pub const OPEN: u8 = 0x50;
+/// Runs a task.
+pub const RUN: u8 = 0x52;
+/// Sends a link's message.
+pub const SEND: u8 = 0x53;
+/// Receives a link's message.
+pub const RECEIVE: u8 = 0x56;
+/// The claimed time, which ends a bundle.
+pub const CLAIM: u8 = 0x5A;
+
+pub const BOARD_LENGTH: usize = 6;
+pub const TASK_LENGTH: usize = 5;
+pub const LINK_LENGTH: usize = 7;
+pub const END_LENGTH: usize = 1;
+pub const CLAIM_LENGTH: usize = 5;
