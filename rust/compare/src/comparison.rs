@@ -1,12 +1,12 @@
 //! One call of the product against the reference: number, place, and every lent byte afterwards.
 
-use crate::lent::{Element, Output, WorkArea};
+use crate::lent::{Area, Element, Output};
 use crate::tally::{Function, Tally};
 use inputs::Random;
 use product::Answer;
 use reference::refusal::{room, Refusal, SHORT_WORK_AREA};
 
-/// The most words that a work area has beyond the fixed length.
+/// The most words that an area has beyond the fixed length.
 const LONGEST_EXTRA: usize = 4096;
 /// The result's length that outputs are made for where there is none.
 pub const NO_RESULT: usize = 24;
@@ -24,8 +24,8 @@ pub type Input<'a> = (&'static str, &'a dyn Hex);
 pub struct Call<'a> {
     pub function: Function,
     pub inputs: &'a [Input<'a>],
-    /// The length of its work area.
-    pub work: usize,
+    /// The length of its work area, if it has one.
+    pub work: Option<usize>,
     pub answer: Answer,
 }
 
@@ -33,9 +33,11 @@ pub struct Call<'a> {
 pub struct Comparison {
     pub random: Random,
     pub tally: Tally,
-    pub work: WorkArea,
-    /// The fixed length of work areas.
-    work_length: usize,
+    pub work: Area,
+    /// The area of a machine's state.
+    pub state: Area,
+    /// The fixed length of both areas.
+    pub work_length: usize,
 }
 
 impl Comparison {
@@ -44,11 +46,12 @@ impl Comparison {
         let mut random = Random::new(seed);
         let work_length = product::work_length();
         assert!(work_length <= 1_048_576, "the fixed length {work_length} is too long");
-        let work = WorkArea::new(&mut random, work_length + LONGEST_EXTRA);
-        Comparison { random, tally: Tally::default(), work, work_length }
+        let mut area = || Area::new(&mut random, work_length + LONGEST_EXTRA);
+        let (work, state) = (area(), area());
+        Comparison { random, tally: Tally::default(), work, state, work_length }
     }
 
-    /// The length of the next work area: the fixed one, a longer one, or now and then a shorter one.
+    /// The length of the next work area or state: the fixed one, a longer one, or now and then a shorter one.
     pub fn next_work(&mut self) -> usize {
         let random = &mut self.random;
         match random.below(64) {
@@ -74,7 +77,7 @@ impl Comparison {
         }
     }
 
-    /// The reference's answer in a call with a work area of this length (13).
+    /// The reference's answer in a call with a work area or a state of this length (13).
     pub fn with_work<T>(&self, work: usize, answer: Result<T, Refusal>) -> Result<T, Refusal> {
         match work < self.work_length {
             true => Err(Refusal::new(SHORT_WORK_AREA, self.work_length)),
@@ -108,7 +111,7 @@ impl Comparison {
             false => Some("the output"),
         };
         let right = expected.map(|result| result.len() as u64);
-        self.judge(Call { function, inputs, work, answer }, right, wrong)
+        self.judge(Call { function, inputs, work: Some(work), answer }, right, wrong)
     }
 
     /// Counts a call's answer and holds it against the right one, where a result has its place, and
@@ -122,10 +125,10 @@ impl Comparison {
         let Call { function, inputs, work, answer } = call;
         let right =
             right.map_or_else(|refusal| (refusal.number, refusal.place), |place| (0, place));
-        let work_right = match right.0 {
+        let work_right = work.is_none_or(|work| match right.0 {
             SHORT_WORK_AREA => self.work.untouched(work),
             _ => self.work.cleared(work),
-        };
+        });
         let wrong = match answer == right {
             false => Some("the answer"),
             true if !work_right => Some("the work area"),
@@ -138,8 +141,9 @@ impl Comparison {
         let mut text = format!(
             "zeldrupa_{}: {wrong} is not as it should be\n\
              number and place: {answer:?} from the product, {right:?} from the reference\n\
-             work area: {work} words\n",
+             work area: {} words\n",
             function.name(),
+            work.unwrap_or(0),
         );
         for (name, input) in inputs {
             text += &format!("{name}: {}\n", input.hex());
@@ -165,6 +169,12 @@ impl Hex for &[u16] {
     }
 }
 
+impl Hex for &[u64] {
+    fn hex(&self) -> String {
+        self.iter().map(|value| format!("{value:X} ")).collect()
+    }
+}
+
 impl Hex for u8 {
     fn hex(&self) -> String {
         format!("{self:02X}")
@@ -174,5 +184,11 @@ impl Hex for u8 {
 impl Hex for u32 {
     fn hex(&self) -> String {
         format!("{self:08X}")
+    }
+}
+
+impl Hex for u64 {
+    fn hex(&self) -> String {
+        format!("{self:X}")
     }
 }

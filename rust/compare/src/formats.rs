@@ -45,7 +45,7 @@ impl Comparison {
         ];
         let wrong = wrong.into_iter().find(|(_, right)| !right).map(|(name, _)| name);
         let inputs = &[("sheet", &sheet as _)];
-        let call = Call { function: Function::ReadSheet, inputs, work, answer };
+        let call = Call { function: Function::ReadSheet, inputs, work: Some(work), answer };
         // Two tables have no one length, so the place of a result is 0.
         self.judge(call, expected.map(|_| 0), wrong)
     }

@@ -57,37 +57,48 @@ impl<T: Element> Output<T> {
     }
 }
 
-/// The work area, lent anew for each call at some length.
-pub struct WorkArea {
+/// A work area, or the area of a machine's state, lent at some length.
+pub struct Area {
     rubbish: Vec<u32>,
     now: Vec<u32>,
 }
 
-impl WorkArea {
-    /// A work area that can be lent at up to this length.
+impl Area {
+    /// An area that can be lent at up to this length.
     pub fn new(random: &mut Random, most: usize) -> Self {
         let rubbish: Vec<u32> = (0..MARGIN + most + MARGIN).map(|_| random.bits() as u32).collect();
-        WorkArea { now: rubbish.clone(), rubbish }
+        Area { now: rubbish.clone(), rubbish }
     }
 
     /// Puts rubbish in again and lends this length.
     pub fn lend(&mut self, length: usize) -> &mut [u32] {
         let all = MARGIN + length + MARGIN;
         self.now[..all].copy_from_slice(&self.rubbish[..all]);
+        self.kept(length)
+    }
+
+    /// Lends this length as the last call left it.
+    pub fn kept(&mut self, length: usize) -> &mut [u32] {
         &mut self.now[MARGIN..MARGIN + length]
     }
 
     /// Whether the part of this length is all zero, and nothing around it was touched.
     pub fn cleared(&self, length: usize) -> bool {
-        let end = MARGIN + length;
-        self.now[..MARGIN] == self.rubbish[..MARGIN]
-            && self.now[MARGIN..end].iter().all(|&word| word == 0)
-            && self.now[end..end + MARGIN] == self.rubbish[end..end + MARGIN]
+        // Without an early end, which would keep the words from being looked at many at a time.
+        let bits = self.now[MARGIN..MARGIN + length].iter().fold(0, |bits, word| bits | word);
+        bits == 0 && self.around_untouched(length)
     }
 
     /// Whether the part of this length and all around it is as it was.
     pub fn untouched(&self, length: usize) -> bool {
         let all = MARGIN + length + MARGIN;
         self.now[..all] == self.rubbish[..all]
+    }
+
+    /// Whether nothing around the part of this length was touched.
+    pub fn around_untouched(&self, length: usize) -> bool {
+        let end = MARGIN + length;
+        self.now[..MARGIN] == self.rubbish[..MARGIN]
+            && self.now[end..end + MARGIN] == self.rubbish[end..end + MARGIN]
     }
 }

@@ -6,14 +6,22 @@ mod comparison;
 mod families;
 mod formats;
 mod lent;
+mod machine;
 mod tally;
 
-use comparison::{Comparison, Difference};
+use comparison::Difference;
+use families::Report;
+use reference::refusal::STUCK;
 use std::env;
 use std::process::ExitCode;
+use tally::{Function, Tally};
 
-/// The fewest inputs that count as a comparison.
-const FEWEST_INPUTS: usize = 100_000;
+const THREADS: usize = 2;
+/// The fewest calls that count as a comparison.
+const FEWEST_CALLS: usize = 100_000;
+/// The fewest pairs of a sheet and a bundle, and how many of them have to get stuck.
+const FEWEST_PAIRS: usize = 200_000;
+const FEWEST_STUCK: usize = 3000;
 
 fn main() -> ExitCode {
     let seed = match env::args().nth(1).map(|seed| seed.parse()) {
@@ -24,22 +32,46 @@ fn main() -> ExitCode {
             return ExitCode::FAILURE;
         }
     };
-    let mut comparison = Comparison::new(seed);
-    let outcome = families::run(&mut comparison);
-    let tally = &comparison.tally;
-    let inputs = tally.inputs();
-    if let Err(Difference(text)) = outcome {
-        println!("{text}compare: a difference after {inputs} inputs of seed {seed}");
+    let reports = families::run(seed, THREADS);
+    let mut tally = Tally::default();
+    for Report { name, tally: calls, .. } in &reports {
+        println!("{name:<26}{:>9} calls", calls.calls());
+        tally.add(calls);
+    }
+    let calls = tally.calls();
+    if let Some((name, text)) = reports.iter().find_map(difference) {
+        println!("{text}compare: a difference among {name}, seed {seed}");
         return ExitCode::FAILURE;
     }
     tally.print();
-    for (function, number) in tally.missed() {
-        println!("{} never answered {number}", function.name());
-    }
-    if !tally.missed().is_empty() || inputs < FEWEST_INPUTS {
-        println!("compare: {inputs} inputs are not enough");
+    let shortfalls = shortfalls(&tally);
+    if !shortfalls.is_empty() {
+        println!("{}\ncompare: {calls} calls are not enough", shortfalls.join("\n"));
         return ExitCode::FAILURE;
     }
-    println!("compare: {inputs} inputs, 0 differences");
+    println!("compare: {calls} calls, 0 differences");
     ExitCode::SUCCESS
+}
+
+fn difference(report: &Report) -> Option<(&'static str, &str)> {
+    let Err(Difference(text)) = &report.outcome else { return None };
+    Some((report.name, text))
+}
+
+/// What was compared too seldom.
+fn shortfalls(tally: &Tally) -> Vec<String> {
+    let missed = tally.missed().into_iter();
+    let mut shortfalls: Vec<String> = missed
+        .map(|(function, number)| format!("{} never answered {number}", function.name()))
+        .collect();
+    for (what, count, fewest) in [
+        ("calls", tally.calls(), FEWEST_CALLS),
+        ("pairs", tally.calls_of(Function::Check), FEWEST_PAIRS),
+        ("pairs that get stuck", tally.answers(Function::Check, STUCK), FEWEST_STUCK),
+    ] {
+        if count < fewest {
+            shortfalls.push(format!("{what}: {count}, fewer than {fewest}"));
+        }
+    }
+    shortfalls
 }

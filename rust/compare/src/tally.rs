@@ -8,16 +8,33 @@ pub enum Function {
     Levels,
     ReadBundle,
     WriteBundle,
+    Check,
+    Start,
+    Run,
+    Step,
+    Left,
+    Processor,
+    Stamp,
 }
 
 /// Every function that is compared.
-pub const FUNCTIONS: [Function; 5] = [
+pub const FUNCTIONS: [Function; 12] = [
     Function::ReadSheet,
     Function::WriteSheet,
     Function::Levels,
     Function::ReadBundle,
     Function::WriteBundle,
+    Function::Check,
+    Function::Start,
+    Function::Run,
+    Function::Step,
+    Function::Left,
+    Function::Processor,
+    Function::Stamp,
 ];
+
+/// How many functions stand side by side in the table of answers.
+const COLUMNS: usize = 6;
 
 impl Function {
     /// Its name without the prefix.
@@ -28,23 +45,39 @@ impl Function {
             Function::Levels => "levels",
             Function::ReadBundle => "read_bundle",
             Function::WriteBundle => "write_bundle",
+            Function::Check => "check",
+            Function::Start => "start",
+            Function::Run => "run",
+            Function::Step => "step",
+            Function::Left => "left",
+            Function::Processor => "processor",
+            Function::Stamp => "stamp",
         }
     }
 
-    /// The numbers that it can answer with.
-    fn numbers(self) -> &'static [u8] {
+    /// Whether it can answer with this number.
+    fn can_answer(self, number: u8) -> bool {
+        let sheet = matches!(number, 0..=10 | 13);
         match self {
-            Function::ReadSheet | Function::Levels => &[0, 1, 2, 3, 4, 5, 6, 7, 8, 9, 10, 12, 13],
-            Function::WriteSheet => &[0, 1, 5, 6, 7, 8, 9, 10, 12, 13],
+            Function::ReadSheet | Function::Levels => sheet || number == 12,
+            Function::WriteSheet => matches!(number, 0 | 1 | 5..=10 | 12 | 13),
             Function::ReadBundle | Function::WriteBundle => {
-                &[0, 1, 2, 3, 4, 5, 6, 7, 8, 9, 10, 12, 13, 21, 22, 23, 24, 25]
+                sheet || number == 12 || matches!(number, 21..=25)
+            }
+            Function::Check => sheet || matches!(number, 21..=30),
+            Function::Start | Function::Run => sheet || matches!(number, 21..=28),
+            Function::Step | Function::Left | Function::Processor | Function::Stamp => {
+                matches!(number, 0 | 13)
             }
         }
     }
 }
 
+/// Every number that an answer can have.
+const NUMBERS: std::ops::RangeInclusive<u8> = 0..=30;
+
 /// The counts of answers, by function and number.
-#[derive(Default)]
+#[derive(Clone, Default)]
 pub struct Tally {
     counts: [[usize; 31]; FUNCTIONS.len()],
 }
@@ -55,33 +88,50 @@ impl Tally {
         self.counts[function as usize][usize::from(number)] += 1;
     }
 
+    /// Adds another tally's counts.
+    pub fn add(&mut self, other: &Tally) {
+        let counts = self.counts.as_flattened_mut().iter_mut();
+        counts.zip(other.counts.as_flattened()).for_each(|(count, more)| *count += more);
+    }
+
     /// All answers.
-    pub fn inputs(&self) -> usize {
+    pub fn calls(&self) -> usize {
         self.counts.as_flattened().iter().sum()
     }
 
-    /// Prints a row for each number and a column for each function.
+    /// The answers of one function.
+    pub fn calls_of(&self, function: Function) -> usize {
+        self.counts[function as usize].iter().sum()
+    }
+
+    /// How often a function gave this number.
+    pub fn answers(&self, function: Function, number: u8) -> usize {
+        self.counts[function as usize][usize::from(number)]
+    }
+
+    /// Prints tables with a row for each number and a column for each function.
     pub fn print(&self) {
-        let row = |name: &str, cell: &dyn Fn(Function) -> String| {
-            let cells: String = FUNCTIONS.iter().map(|&f| format!("{:>14}", cell(f))).collect();
-            println!("{name:>7}{cells}");
-        };
-        row("", &|function| function.name().into());
-        row("inputs", &|function| self.counts[function as usize].iter().sum::<usize>().to_string());
-        for number in 0..31u8 {
-            if FUNCTIONS.iter().any(|function| function.numbers().contains(&number)) {
-                row(&number.to_string(), &|function| match function.numbers().contains(&number) {
-                    true => self.counts[function as usize][usize::from(number)].to_string(),
-                    false => "-".into(),
-                });
+        for functions in FUNCTIONS.chunks(COLUMNS) {
+            let row = |name: &str, cell: &dyn Fn(Function) -> String| {
+                let cells: String = functions.iter().map(|&f| format!("{:>14}", cell(f))).collect();
+                println!("{name:>7}{cells}");
+            };
+            row("", &|function| function.name().into());
+            row("calls", &|function| self.calls_of(function).to_string());
+            for number in NUMBERS {
+                if functions.iter().any(|function| function.can_answer(number)) {
+                    row(&number.to_string(), &|function| match function.can_answer(number) {
+                        true => self.answers(function, number).to_string(),
+                        false => "-".into(),
+                    });
+                }
             }
         }
     }
 
     /// The answers that a function can give and never gave.
     pub fn missed(&self) -> Vec<(Function, u8)> {
-        let all =
-            FUNCTIONS.into_iter().flat_map(|f| f.numbers().iter().map(move |&number| (f, number)));
-        all.filter(|&(f, number)| self.counts[f as usize][usize::from(number)] == 0).collect()
+        let all = FUNCTIONS.into_iter().flat_map(|f| NUMBERS.map(move |number| (f, number)));
+        all.filter(|&(f, number)| f.can_answer(number) && self.answers(f, number) == 0).collect()
     }
 }

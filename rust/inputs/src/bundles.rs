@@ -129,8 +129,11 @@ pub fn orderly(random: &mut Random, sheet: &Sheet) -> Bundle {
 pub fn tangled(random: &mut Random, sheet: &Sheet) -> Bundle {
     let mut bundle = orderly(random, sheet);
     let mut commands: Vec<&[u16]> = bundle.commands.chunks_exact(2).collect();
-    for _ in 0..random.within(1..=8) {
-        let from = random.below(commands.len());
+    let is_message = |command: &[u16]| matches!(command[0], SEND | RECEIVE);
+    let messages = commands.iter().filter(|command| is_message(command)).count();
+    for _ in 0..if messages == 0 { 0 } else { random.within(1..=8) } {
+        let mut places = (0..commands.len()).filter(|&at| is_message(commands[at]));
+        let from = places.nth(random.below(messages)).expect("one of the messages");
         let opens = |command: &&[u16]| command[0] == OPEN;
         let start = commands[..=from].iter().rposition(opens).map_or(0, |open| open + 1);
         let end = commands[from + 1..]
@@ -139,10 +142,53 @@ pub fn tangled(random: &mut Random, sheet: &Sheet) -> Bundle {
             .map_or(commands.len(), |open| from + 1 + open);
         match commands[from][0] {
             RECEIVE => commands[random.within(start..=from)..=from].rotate_right(1),
-            SEND => commands[from..=random.within(from..=end - 1)].rotate_left(1),
-            _ => (),
+            _ => commands[from..=random.within(from..=end - 1)].rotate_left(1),
         }
     }
     bundle.commands = commands.concat();
     bundle
+}
+
+/// Exchanges two sends or receives of different programmes, where there are some.
+pub fn exchange(random: &mut Random, bundle: &mut Bundle) {
+    let mut programme = 0;
+    let mut messages = Vec::new();
+    for (number, command) in bundle.commands.chunks_exact(2).enumerate() {
+        match command[0] {
+            OPEN => programme += 1,
+            SEND | RECEIVE => messages.push((programme, number)),
+            _ => (),
+        }
+    }
+    if messages.is_empty() {
+        return;
+    }
+    let (home, one) = random.pick(&messages);
+    messages.retain(|&(programme, _)| programme != home);
+    if messages.is_empty() {
+        return;
+    }
+    let (_, other) = random.pick(&messages);
+    (0..2).for_each(|i| bundle.commands.swap(2 * one + i, 2 * other + i));
+}
+
+/// The store that each programme needs: the stores of its tasks and the bytes of its receives.
+pub fn needs(sheet: &Sheet, bundle: &Bundle) -> Vec<u32> {
+    let mut needs: Vec<u32> = Vec::new();
+    for command in bundle.commands.chunks_exact(2) {
+        let operand = usize::from(command[1]);
+        let store = match command[0] {
+            OPEN => {
+                needs.push(0);
+                0
+            }
+            RUN => sheet.tasks[2 * operand + 1],
+            RECEIVE => sheet.links[4 * operand + 3],
+            _ => 0,
+        };
+        if let Some(need) = needs.last_mut() {
+            *need += u32::from(store);
+        }
+    }
+    needs
 }

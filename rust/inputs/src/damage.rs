@@ -25,6 +25,18 @@ pub fn bundle_command(byte: u8) -> usize {
     }
 }
 
+/// A sheet's bytes with one to three damages.
+pub fn sheet(random: &mut Random, mut sheet: Vec<u8>) -> Vec<u8> {
+    (0..random.within(1..=3)).for_each(|_| bytes(random, &mut sheet, sheet_command));
+    sheet
+}
+
+/// A bundle's bytes with one to three damages.
+pub fn bundle(random: &mut Random, mut bundle: Vec<u8>) -> Vec<u8> {
+    (0..random.within(1..=3)).for_each(|_| bytes(random, &mut bundle, bundle_command));
+    bundle
+}
+
 /// Damages bytes once; `length` tells how long each command is.
 pub fn bytes(random: &mut Random, bytes: &mut Vec<u8>, length: fn(u8) -> usize) {
     let at = random.below(bytes.len() + 1);
@@ -42,9 +54,9 @@ pub fn bytes(random: &mut Random, bytes: &mut Vec<u8>, length: fn(u8) -> usize) 
         }
         4 => bytes.truncate(at),
         5 => bytes.push(byte),
-        kind => {
+        _ => {
             let mut commands = split(bytes, length);
-            damage_records(random, &mut commands, kind);
+            damage_records(random, &mut commands);
             *bytes = commands.concat();
         }
     }
@@ -66,24 +78,27 @@ pub fn values(random: &mut Random, values: &mut Vec<u16>, record: usize) {
             values.remove(at);
         }
         5 => values.truncate(at),
-        kind => {
-            let mut records: Vec<Vec<u16>> = values.chunks(record).map(<[u16]>::to_vec).collect();
-            damage_records(random, &mut records, kind);
-            *values = records.concat();
-        }
+        _ => records(random, values, record),
     }
 }
 
+/// Swaps, doubles, moves or removes a record in a list of values.
+pub fn records(random: &mut Random, values: &mut Vec<u16>, record: usize) {
+    let mut records: Vec<Vec<u16>> = values.chunks(record).map(<[u16]>::to_vec).collect();
+    damage_records(random, &mut records);
+    *values = records.concat();
+}
+
 /// Swaps, doubles, moves or removes a record.
-fn damage_records<T: Clone>(random: &mut Random, records: &mut Vec<Vec<T>>, kind: usize) {
+fn damage_records<T: Clone>(random: &mut Random, records: &mut Vec<Vec<T>>) {
     if records.is_empty() {
         return;
     }
     let (one, other) = (random.below(records.len()), random.below(records.len()));
-    match kind {
-        6 => records.swap(one, other),
-        7 => records.insert(other, records[one].clone()),
-        8 => {
+    match random.below(4) {
+        0 => records.swap(one, other),
+        1 => records.insert(other, records[one].clone()),
+        2 => {
             let moved = records.remove(one);
             records.insert(other.min(records.len()), moved);
         }

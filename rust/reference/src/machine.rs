@@ -108,6 +108,11 @@ impl<'a> Machine<'a> {
         &self.processors
     }
 
+    /// How many links there are.
+    pub fn links(&self) -> usize {
+        self.stamps.len()
+    }
+
     /// The stamp of a link's message, once it has been sent.
     pub fn stamp(&self, link: usize) -> Option<u32> {
         self.stamps.get(link).copied().flatten()

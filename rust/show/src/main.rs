@@ -33,10 +33,7 @@ fn main() -> ExitCode {
     let [processors, limit, task_count, link_count] = board;
     println!("processors {processors}, store limit {limit}");
     for (task, values) in tasks.chunks(2).take(task_count as usize).enumerate() {
-        println!(
-            "task {task}: work {}, store {}, level {}",
-            values[0], values[1], levels[task]
-        );
+        println!("task {task}: work {}, store {}, level {}", values[0], values[1], levels[task]);
     }
     for (link, values) in links.chunks(4).take(link_count as usize).enumerate() {
         println!(

@@ -1,27 +1,9 @@
-//! The families of inputs: which sheets, bundles and values each function gets.
+//! The families of the formats: which sheets, bundles and values the readers and writers get.
 
+use super::{mostly_small, planned, seldom_largest};
 use crate::comparison::{Comparison, Outcome};
 use inputs::{bundles, damage, sheets};
-use reference::planner;
-use reference::sheet::Sheet;
 use reference::trials;
-
-/// Runs every family.
-pub fn run(c: &mut Comparison) -> Outcome {
-    trial_sheets(c)?;
-    refused_sheets(c)?;
-    valid_sheets(c, 3000)?;
-    damaged_sheets(c, 12_000)?;
-    damaged_sheet_values(c, 16_000)?;
-    circles(c)?;
-    brimful_sheets(c)?;
-    cut_sheets(c)?;
-    bundles_of_the_form(c, 5000)?;
-    damaged_bundles(c, 16_000)?;
-    damaged_bundle_values(c, 16_000)?;
-    cut_bundles(c)?;
-    long_inputs(c)
-}
 
 /// Everything that reads a sheet, with this one.
 fn every_reader(c: &mut Comparison, sheet: &[u8], bundle: &bundles::Bundle) -> Outcome {
@@ -32,7 +14,7 @@ fn every_reader(c: &mut Comparison, sheet: &[u8], bundle: &bundles::Bundle) -> O
 }
 
 /// The trial sheets and bundles.
-fn trial_sheets(c: &mut Comparison) -> Outcome {
+pub fn trial_sheets(c: &mut Comparison) -> Outcome {
     let files = trials::files();
     let of_kind = |kind: &'static str| files.iter().filter(move |(name, _)| name.ends_with(kind));
     for (_, sheet) in of_kind(".sheet") {
@@ -46,7 +28,7 @@ fn trial_sheets(c: &mut Comparison) -> Outcome {
 }
 
 /// A sheet for each refusal of sheets, with every function.
-fn refused_sheets(c: &mut Comparison) -> Outcome {
+pub fn refused_sheets(c: &mut Comparison) -> Outcome {
     let task: &[u8] = &[0x54, 1, 0, 1, 0];
     let link: &[u8] = &[0x45, 0, 1, 1, 0, 1, 0];
     let full = task.repeat(257);
@@ -84,12 +66,9 @@ fn refused_sheets(c: &mut Comparison) -> Outcome {
 }
 
 /// Valid sheets of all sizes, from bytes and from values.
-fn valid_sheets(c: &mut Comparison, rounds: usize) -> Outcome {
-    for round in 0..rounds {
-        let values = match round % 50 {
-            0 => sheets::largest(&mut c.random),
-            _ => sheets::valid(&mut c.random),
-        };
+pub fn valid_sheets(c: &mut Comparison) -> Outcome {
+    for round in 0..3000 {
+        let values = seldom_largest(c, round);
         let mut sheet = values.encode();
         c.read_sheet(&sheet)?;
         c.levels(&sheet)?;
@@ -102,16 +81,10 @@ fn valid_sheets(c: &mut Comparison, rounds: usize) -> Outcome {
 }
 
 /// Sheets with one to three damages.
-fn damaged_sheets(c: &mut Comparison, rounds: usize) -> Outcome {
-    for round in 0..rounds {
-        let values = match round % 8 {
-            0 => sheets::valid(&mut c.random),
-            _ => sheets::small(&mut c.random),
-        };
-        let mut sheet = values.encode();
-        for _ in 0..c.random.within(1..=3) {
-            damage::bytes(&mut c.random, &mut sheet, damage::sheet_command);
-        }
+pub fn damaged_sheets(c: &mut Comparison) -> Outcome {
+    for round in 0..12_000 {
+        let values = mostly_small(c, round);
+        let sheet = damage::sheet(&mut c.random, values.encode());
         c.read_sheet(&sheet)?;
         c.levels(&sheet)?;
         if round % 4 == 0 {
@@ -123,12 +96,9 @@ fn damaged_sheets(c: &mut Comparison, rounds: usize) -> Outcome {
 }
 
 /// Values of sheets with one to three damages: odd lengths, 256 and more, doubled and loose links.
-fn damaged_sheet_values(c: &mut Comparison, rounds: usize) -> Outcome {
-    for round in 0..rounds {
-        let mut values = match round % 8 {
-            0 => sheets::valid(&mut c.random),
-            _ => sheets::small(&mut c.random),
-        };
+pub fn damaged_sheet_values(c: &mut Comparison) -> Outcome {
+    for round in 0..16_000 {
+        let mut values = mostly_small(c, round);
         for _ in 0..c.random.within(1..=3) {
             match c.random.below(8) {
                 0 => values.processors = c.random.bits() as u8,
@@ -143,7 +113,7 @@ fn damaged_sheet_values(c: &mut Comparison, rounds: usize) -> Outcome {
 }
 
 /// Circles of every size, and links that close one in a valid sheet.
-fn circles(c: &mut Comparison) -> Outcome {
+pub fn circles(c: &mut Comparison) -> Outcome {
     for size in 1..=sheets::MOST_TASKS {
         for _ in 0..3 {
             let values = sheets::circle(&mut c.random, size);
@@ -166,7 +136,7 @@ fn circles(c: &mut Comparison) -> Outcome {
 }
 
 /// Sheets at and over the most tasks and links, whole, cut, doubled and out of range there.
-fn brimful_sheets(c: &mut Comparison) -> Outcome {
+pub fn brimful_sheets(c: &mut Comparison) -> Outcome {
     for _ in 0..20 {
         let full = sheets::largest(&mut c.random);
         let mut more_tasks = full.clone();
@@ -195,7 +165,7 @@ fn brimful_sheets(c: &mut Comparison) -> Outcome {
 }
 
 /// Every prefix of several sheets, and of their lists of values.
-fn cut_sheets(c: &mut Comparison) -> Outcome {
+pub fn cut_sheets(c: &mut Comparison) -> Outcome {
     let mut whole = vec![trials::k1_sheet(), sheets::largest(&mut c.random).encode()];
     whole.extend((0..12).map(|_| sheets::small(&mut c.random).encode()));
     for sheet in whole {
@@ -231,25 +201,14 @@ fn formed(c: &mut Comparison, values: &sheets::Sheet) -> bundles::Bundle {
         }
         2 => bundles::orderly(random, values),
         3 => bundles::tangled(random, values),
-        _ => planned(values).unwrap_or_else(|| bundles::orderly(random, values)),
+        _ => planned(random, values),
     }
 }
 
-/// The bundle of the planner for a valid sheet, where it has one.
-fn planned(values: &sheets::Sheet) -> Option<bundles::Bundle> {
-    let sheet = Sheet::read(&values.encode()).ok()?;
-    let bytes = planner::plan(&sheet).ok()?.to_bundle(&sheet);
-    let bundle = reference::bundle::Bundle::read(&sheet, &bytes).ok()?;
-    Some(bundles::Bundle { commands: bundle.values(), claim: bundle.claim })
-}
-
 /// Bundles of the right form, from bytes and from values.
-fn bundles_of_the_form(c: &mut Comparison, rounds: usize) -> Outcome {
-    for round in 0..rounds {
-        let values = match round % 100 {
-            0 => sheets::largest(&mut c.random),
-            _ => sheets::valid(&mut c.random),
-        };
+pub fn bundles_of_the_form(c: &mut Comparison) -> Outcome {
+    for round in 0..5000 {
+        let values = seldom_largest(c, round);
         let (sheet, bundle) = (values.encode(), formed(c, &values));
         let mut bytes = bundle.encode();
         c.read_bundle(&sheet, &bytes)?;
@@ -262,16 +221,11 @@ fn bundles_of_the_form(c: &mut Comparison, rounds: usize) -> Outcome {
 }
 
 /// Bundles with one to three damages.
-fn damaged_bundles(c: &mut Comparison, rounds: usize) -> Outcome {
-    for round in 0..rounds {
-        let values = match round % 8 {
-            0 => sheets::valid(&mut c.random),
-            _ => sheets::small(&mut c.random),
-        };
-        let mut bundle = formed(c, &values).encode();
-        for _ in 0..c.random.within(1..=3) {
-            damage::bytes(&mut c.random, &mut bundle, damage::bundle_command);
-        }
+pub fn damaged_bundles(c: &mut Comparison) -> Outcome {
+    for round in 0..16_000 {
+        let values = mostly_small(c, round);
+        let bundle = formed(c, &values).encode();
+        let bundle = damage::bundle(&mut c.random, bundle);
         c.read_bundle(&values.encode(), &bundle)?;
     }
     Ok(())
@@ -279,12 +233,9 @@ fn damaged_bundles(c: &mut Comparison, rounds: usize) -> Outcome {
 
 /// Values of bundles with one to three damages: odd lengths, 256 and more, strange commands, claims
 /// in between, programmes out of turn.
-fn damaged_bundle_values(c: &mut Comparison, rounds: usize) -> Outcome {
-    for round in 0..rounds {
-        let values = match round % 8 {
-            0 => sheets::valid(&mut c.random),
-            _ => sheets::small(&mut c.random),
-        };
+pub fn damaged_bundle_values(c: &mut Comparison) -> Outcome {
+    for round in 0..16_000 {
+        let values = mostly_small(c, round);
         let mut bundle = formed(c, &values);
         for _ in 0..c.random.within(1..=3) {
             damage::values(&mut c.random, &mut bundle.commands, 2);
@@ -299,7 +250,7 @@ fn damaged_bundle_values(c: &mut Comparison, rounds: usize) -> Outcome {
 }
 
 /// Every prefix of several bundles, and of their lists of values.
-fn cut_bundles(c: &mut Comparison) -> Outcome {
+pub fn cut_bundles(c: &mut Comparison) -> Outcome {
     let largest = sheets::largest(&mut c.random);
     let mut whole = vec![(largest.encode(), bundles::orderly(&mut c.random, &largest))];
     for _ in 0..12 {
@@ -324,7 +275,7 @@ fn cut_bundles(c: &mut Comparison) -> Outcome {
 }
 
 /// Inputs far longer than any plan: bundles of a million commands, sheets and values past all limits.
-fn long_inputs(c: &mut Comparison) -> Outcome {
+pub fn long_inputs(c: &mut Comparison) -> Outcome {
     let values = sheets::largest(&mut c.random);
     let sheet = values.encode();
     for commands in [1_000_000, 70_000] {

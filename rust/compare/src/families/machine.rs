@@ -1,0 +1,218 @@
+//! The families of the checker and the machine: pairs of a sheet and a bundle, and states.
+
+use super::{mostly_small, planned};
+use crate::comparison::{Comparison, Outcome};
+use inputs::{bundles, damage, sheets};
+use reference::trials;
+
+/// Checks a pair, and mostly runs it on the machine too.
+fn pair(c: &mut Comparison, sheet: &[u8], bundle: &[u8]) -> Outcome {
+    c.check(sheet, bundle)?;
+    match c.random.once_in(3) {
+        true => Ok(()),
+        false => c.machine(sheet, bundle),
+    }
+}
+
+/// A sheet, mostly small, and mostly with store enough, since 28 hides what comes behind it.
+fn roomy(c: &mut Comparison, round: usize) -> sheets::Sheet {
+    let mut values = mostly_small(c, round);
+    if !c.random.once_in(8) {
+        values.limit = u32::MAX;
+    }
+    values
+}
+
+/// A bundle with every run and message right: of the planner or of a random run.
+fn right_bundle(c: &mut Comparison, values: &sheets::Sheet) -> bundles::Bundle {
+    match c.random.once_in(2) {
+        true => planned(&mut c.random, values),
+        false => bundles::orderly(&mut c.random, values),
+    }
+}
+
+/// Every trial sheet with every trial bundle.
+pub fn trial_pairs(c: &mut Comparison) -> Outcome {
+    let files = trials::files();
+    let of_kind = |kind: &'static str| files.iter().filter(move |(name, _)| name.ends_with(kind));
+    for (_, sheet) in of_kind(".sheet") {
+        for (_, bundle) in of_kind(".bundle") {
+            (0..8).try_for_each(|_| pair(c, sheet, bundle))?;
+        }
+    }
+    Ok(())
+}
+
+/// Bundles that are right, but perhaps for their store.
+pub fn right(c: &mut Comparison) -> Outcome {
+    for round in 0..25_000 {
+        let values = roomy(c, round);
+        let bundle = right_bundle(c, &values);
+        pair(c, &values.encode(), &bundle.encode())?;
+    }
+    Ok(())
+}
+
+/// Right bundles with another claim, mostly off by one.
+pub fn wrong_claims(c: &mut Comparison) -> Outcome {
+    for round in 0..15_000 {
+        let values = roomy(c, round);
+        let mut bundle = right_bundle(c, &values);
+        bundle.claim = match c.random.below(5) {
+            0..=1 => bundle.claim.wrapping_sub(1),
+            2..=3 => bundle.claim.wrapping_add(1),
+            _ => c.random.bits() as u32,
+        };
+        pair(c, &values.encode(), &bundle.encode())?;
+    }
+    Ok(())
+}
+
+/// Right bundles with commands swapped, moved, dropped or doubled.
+pub fn moved_commands(c: &mut Comparison) -> Outcome {
+    for round in 0..55_000 {
+        let values = roomy(c, round);
+        let mut bundle = right_bundle(c, &values);
+        for _ in 0..c.random.within(1..=2) {
+            damage::records(&mut c.random, &mut bundle.commands, 2);
+        }
+        pair(c, &values.encode(), &bundle.encode())?;
+    }
+    Ok(())
+}
+
+/// Right bundles with sends and receives exchanged between programmes.
+pub fn exchanged_messages(c: &mut Comparison) -> Outcome {
+    for round in 0..20_000 {
+        let values = roomy(c, round);
+        let mut bundle = right_bundle(c, &values);
+        bundles::exchange(&mut c.random, &mut bundle);
+        pair(c, &values.encode(), &bundle.encode())?;
+    }
+    Ok(())
+}
+
+/// Bundles with receives moved up and sends moved down in their programmes, of which many get stuck.
+pub fn tangled(c: &mut Comparison) -> Outcome {
+    for round in 0..35_000 {
+        let mut values = roomy(c, round);
+        values.processors = c.random.within(2..=6) as u8;
+        let bundle = bundles::tangled(&mut c.random, &values);
+        pair(c, &values.encode(), &bundle.encode())?;
+    }
+    Ok(())
+}
+
+/// Sheets whose limit is just what one of the programmes needs, or one less or more.
+pub fn stores_at_the_limit(c: &mut Comparison) -> Outcome {
+    for round in 0..20_000 {
+        let mut values = mostly_small(c, round);
+        let bundle = right_bundle(c, &values);
+        let needs = bundles::needs(&values, &bundle);
+        let need = match c.random.once_in(3) {
+            true => c.random.pick(&needs),
+            false => needs.into_iter().max().unwrap_or(0),
+        };
+        values.limit = (need + c.random.below(3) as u32).saturating_sub(1);
+        pair(c, &values.encode(), &bundle.encode())?;
+    }
+    Ok(())
+}
+
+/// Right bundles with one to three damages in their bytes.
+pub fn damaged(c: &mut Comparison) -> Outcome {
+    for round in 0..30_000 {
+        let values = roomy(c, round);
+        let bundle = right_bundle(c, &values).encode();
+        let bundle = damage::bundle(&mut c.random, bundle);
+        pair(c, &values.encode(), &bundle)?;
+    }
+    Ok(())
+}
+
+/// Damaged sheets, circles and sheets past their limits, with bundles for what they were.
+pub fn sheets_in_fault(c: &mut Comparison) -> Outcome {
+    for round in 0..15_000 {
+        let values = mostly_small(c, round);
+        let sheet = match round % 8 {
+            1 => sheets::circle(&mut c.random, 1 + round % 16).encode(),
+            2 => {
+                let mut values = values.clone();
+                values.tasks = [1, 1].repeat(257);
+                values.encode()
+            }
+            _ => damage::sheet(&mut c.random, values.encode()),
+        };
+        let bundle = right_bundle(c, &values).encode();
+        pair(c, &sheet, &bundle)?;
+    }
+    Ok(())
+}
+
+/// Bundles that were made for another sheet.
+pub fn other_sheets(c: &mut Comparison) -> Outcome {
+    for round in 0..5000 {
+        let (values, other) = (roomy(c, round), roomy(c, round));
+        let bundle = right_bundle(c, &other);
+        pair(c, &values.encode(), &bundle.encode())?;
+    }
+    Ok(())
+}
+
+/// Every prefix of several bundles.
+pub fn cut(c: &mut Comparison) -> Outcome {
+    for round in 0..200 {
+        let values = mostly_small(c, round % 100);
+        let (sheet, bundle) = (values.encode(), right_bundle(c, &values).encode());
+        for length in 0..=bundle.len() {
+            pair(c, &sheet, &bundle[..length])?;
+        }
+    }
+    Ok(())
+}
+
+/// Sheets of 256 tasks and 1,024 links, with bundles right and stuck.
+pub fn largest(c: &mut Comparison) -> Outcome {
+    for round in 0..300 {
+        let mut values = sheets::largest(&mut c.random);
+        values.limit = u32::MAX;
+        let bundle = match round % 3 {
+            0 => planned(&mut c.random, &values),
+            1 => bundles::orderly(&mut c.random, &values),
+            _ => bundles::tangled(&mut c.random, &values),
+        };
+        pair(c, &values.encode(), &bundle.encode())?;
+    }
+    Ok(())
+}
+
+/// Any words as a state: rubbish, small numbers, damaged states, and states of other bytes.
+pub fn any_states(c: &mut Comparison) -> Outcome {
+    for round in 0..400 {
+        let values = mostly_small(c, round);
+        let (mut sheet, mut bundle) = (values.encode(), right_bundle(c, &values).encode());
+        let mut words = vec![0; c.work_length + round % 3];
+        product::start(&sheet, &bundle, &mut vec![0; c.work_length], &mut words);
+        let random = &mut c.random;
+        match round % 4 {
+            0 => words.fill_with(|| random.bits() as u32),
+            1 => {
+                let bits = random.within(1..=31);
+                words.fill_with(|| random.bits() as u32 >> bits);
+            }
+            2 => {
+                for _ in 0..random.within(1..=12) {
+                    let at = random.pick(&[32, 128, 1200]);
+                    words[random.below(at)] = random.bits() as u32 >> random.below(32);
+                }
+            }
+            _ => {
+                let other = sheets::small(random);
+                sheet = other.encode();
+                bundle = damage::bundle(random, bundle);
+            }
+        }
+        c.any_words(&sheet, &bundle, &words, 30)?;
+    }
+    Ok(())
+}
