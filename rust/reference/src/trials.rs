@@ -1,8 +1,8 @@
-//! The trial sheets K1 to K8 with their bundles, as bytes and as files.
+//! The trial sheets with their bundles, as bytes and as files, and what the program `trials` prints.
 
 use crate::bundle::{write_claim, Command};
-use crate::planner;
 use crate::sheet::Sheet;
+use crate::{figures, listing, planner};
 use Command::{Open, Receive, Run, Send};
 
 /// K1: four tasks of store 10 and three links of 4 bytes on three processors.
@@ -76,9 +76,35 @@ pub fn k8_circle_sheet() -> Vec<u8> {
     circle_sheet(3, &[[0, 1], [1, 2], [2, 1]])
 }
 
+/// K9 and K10 by name: K1's sheet a byte shorter and longer, with other processors, and no bytes.
+pub fn k9_and_k10() -> Vec<(String, Vec<u8>)> {
+    let whole = k1_sheet();
+    let mut sheets = vec![
+        ("K9-47".into(), whole[..47].to_vec()),
+        ("K9-49".into(), [&whole[..], &[0x51]].concat()),
+    ];
+    for processors in [0, 1, 16, 17] {
+        let mut sheet = whole.clone();
+        sheet[1] = processors;
+        sheets.push((format!("K10-{processors}"), sheet));
+    }
+    sheets.push(("K10-empty".into(), Vec::new()));
+    sheets
+}
+
+/// What the program `trials` prints: the name and the listing of K9, K10 and each figure.
+pub fn listings() -> Vec<u8> {
+    let figures = figures::all().into_iter();
+    let figures = figures.map(|figure| (figure.name.to_string(), figure.sheet().to_bytes()));
+    let named = k9_and_k10().into_iter().chain(figures);
+    named
+        .flat_map(|(name, sheet)| [name.as_bytes(), b"\n", &listing::print(&sheet)].concat())
+        .collect()
+}
+
 /// The files of the examples: their names and bytes.
-pub fn files() -> Vec<(&'static str, Vec<u8>)> {
-    vec![
+pub fn files() -> Vec<(String, Vec<u8>)> {
+    let mut files = vec![
         ("k1.sheet", k1_sheet()),
         ("k1.bundle", K1_BUNDLE.to_vec()),
         ("k2.sheet", k2_sheet()),
@@ -96,7 +122,18 @@ pub fn files() -> Vec<(&'static str, Vec<u8>)> {
         ("k7.bundle", k7_bundle()),
         ("k8-self.sheet", k8_self_sheet()),
         ("k8-circle.sheet", k8_circle_sheet()),
+        ("trials.txt", listings()),
+        ("figures/001-F6.1.bundle", figures::gauss_jordan_bundle()),
     ]
+    .into_iter()
+    .map(|(name, bytes)| (name.to_string(), bytes))
+    .collect::<Vec<_>>();
+    files.extend(
+        figures::all()
+            .into_iter()
+            .map(|figure| (format!("figures/{}.sheet", figure.name), figure.sheet().to_bytes())),
+    );
+    files
 }
 
 /// K1 but for the processors, the store limit and the work of task 2.

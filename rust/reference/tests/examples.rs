@@ -1,4 +1,4 @@
-//! The files in the examples folder are the trial sheets and bundles, and its page names each.
+//! The files in the examples folder are what the maker writes, and its page names each.
 
 use reference::trials;
 use std::collections::BTreeSet;
@@ -9,10 +9,18 @@ fn folder() -> PathBuf {
     PathBuf::from(env!("CARGO_MANIFEST_DIR")).join("../../examples")
 }
 
+/// The names of the files in a folder of the examples, which stands before each.
+fn names(inner: &str) -> Vec<String> {
+    let entries = fs::read_dir(folder().join(inner)).unwrap().map(Result::unwrap);
+    let files = entries.filter(|entry| entry.file_type().unwrap().is_file());
+    let names = files.map(|entry| inner.to_string() + entry.file_name().to_str().unwrap());
+    names.filter(|name| name != "README.md").collect()
+}
+
 #[test]
 fn files_are_what_the_maker_writes() {
     for (name, bytes) in trials::files() {
-        let file = fs::read(folder().join(name)).expect(name);
+        let file = fs::read(folder().join(&name)).expect(&name);
         assert_eq!(file, bytes, "{name} differs: run make-examples");
     }
 }
@@ -20,12 +28,8 @@ fn files_are_what_the_maker_writes() {
 #[test]
 fn page_names_each_file() {
     let page = fs::read_to_string(folder().join("README.md")).unwrap();
-    let made: BTreeSet<String> = trials::files().iter().map(|(name, _)| name.to_string()).collect();
-    let found: BTreeSet<String> = fs::read_dir(folder())
-        .unwrap()
-        .map(|entry| entry.unwrap().file_name().into_string().unwrap())
-        .filter(|name| name != "README.md")
-        .collect();
+    let made: BTreeSet<String> = trials::files().into_iter().map(|(name, _)| name).collect();
+    let found = BTreeSet::from_iter(names("").into_iter().chain(names("figures/")));
     assert_eq!(made, found);
     for name in made {
         assert!(page.contains(&format!("`{name}`")), "README.md does not name {name}");
