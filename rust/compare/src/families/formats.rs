@@ -1,6 +1,6 @@
 //! The families of the formats: which sheets, bundles and values the readers and writers get.
 
-use super::{mostly_small, planned, seldom_largest};
+use super::{mostly_small, planned, seldom_largest, trial_files};
 use crate::comparison::{Comparison, Outcome};
 use inputs::{bundles, damage, sheets};
 use reference::trials;
@@ -15,13 +15,11 @@ fn every_reader(c: &mut Comparison, sheet: &[u8], bundle: &bundles::Bundle) -> O
 
 /// The trial sheets and bundles.
 pub fn trial_sheets(c: &mut Comparison) -> Outcome {
-    let files = trials::files();
-    let of_kind = |kind: &'static str| files.iter().filter(move |(name, _)| name.ends_with(kind));
-    for (_, sheet) in of_kind(".sheet") {
-        c.read_sheet(sheet)?;
-        c.levels(sheet)?;
-        for (_, bundle) in of_kind(".bundle") {
-            c.read_bundle(sheet, bundle)?;
+    for sheet in trial_files(".sheet") {
+        c.read_sheet(&sheet)?;
+        c.levels(&sheet)?;
+        for bundle in trial_files(".bundle") {
+            c.read_bundle(&sheet, &bundle)?;
         }
     }
     Ok(())

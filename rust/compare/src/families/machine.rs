@@ -1,9 +1,8 @@
 //! The families of the checker and the machine: pairs of a sheet and a bundle, and states.
 
-use super::{mostly_small, planned};
+use super::{faulty_sheet, mostly_small, planned, trial_files};
 use crate::comparison::{Comparison, Outcome};
 use inputs::{bundles, damage, sheets};
-use reference::trials;
 
 /// Checks a pair, and mostly runs it on the machine too.
 fn pair(c: &mut Comparison, sheet: &[u8], bundle: &[u8]) -> Outcome {
@@ -33,11 +32,9 @@ fn right_bundle(c: &mut Comparison, values: &sheets::Sheet) -> bundles::Bundle {
 
 /// Every trial sheet with every trial bundle.
 pub fn trial_pairs(c: &mut Comparison) -> Outcome {
-    let files = trials::files();
-    let of_kind = |kind: &'static str| files.iter().filter(move |(name, _)| name.ends_with(kind));
-    for (_, sheet) in of_kind(".sheet") {
-        for (_, bundle) in of_kind(".bundle") {
-            (0..8).try_for_each(|_| pair(c, sheet, bundle))?;
+    for sheet in trial_files(".sheet") {
+        for bundle in trial_files(".bundle") {
+            (0..8).try_for_each(|_| pair(c, &sheet, &bundle))?;
         }
     }
     Ok(())
@@ -134,15 +131,7 @@ pub fn damaged(c: &mut Comparison) -> Outcome {
 pub fn sheets_in_fault(c: &mut Comparison) -> Outcome {
     for round in 0..15_000 {
         let values = mostly_small(c, round);
-        let sheet = match round % 8 {
-            1 => sheets::circle(&mut c.random, 1 + round % 16).encode(),
-            2 => {
-                let mut values = values.clone();
-                values.tasks = [1, 1].repeat(257);
-                values.encode()
-            }
-            _ => damage::sheet(&mut c.random, values.encode()),
-        };
+        let sheet = faulty_sheet(c, &values, round);
         let bundle = right_bundle(c, &values).encode();
         pair(c, &sheet, &bundle)?;
     }

@@ -6,9 +6,10 @@ mod machine;
 
 use crate::comparison::{Comparison, Outcome};
 use crate::tally::Tally;
-use inputs::{bundles, sheets, Random};
+use inputs::{bundles, damage, sheets, Random};
 use reference::planner;
 use reference::sheet::Sheet;
+use reference::trials;
 use std::sync::atomic::{AtomicUsize, Ordering};
 use std::sync::Mutex;
 use std::thread;
@@ -68,6 +69,21 @@ pub fn run(seed: u64, threads: usize) -> Vec<Report> {
     let mut reports = reports.into_inner().expect("no family panics");
     reports.sort_by_key(|&(number, _)| number);
     reports.into_iter().map(|(_, report)| report).collect()
+}
+
+/// The trial files whose names end so.
+fn trial_files(end: &str) -> Vec<Vec<u8>> {
+    let files = trials::files().into_iter().filter(|(name, _)| name.ends_with(end));
+    files.map(|(_, bytes)| bytes).collect()
+}
+
+/// A sheet in fault: a circle, a task too many, or the damaged bytes of these values.
+fn faulty_sheet(c: &mut Comparison, values: &sheets::Sheet, round: usize) -> Vec<u8> {
+    match round % 8 {
+        1 => sheets::circle(&mut c.random, 1 + round % 40).encode(),
+        2 => sheets::Sheet { tasks: [1, 1].repeat(257), ..values.clone() }.encode(),
+        _ => damage::sheet(&mut c.random, values.encode()),
+    }
 }
 
 /// Mostly a small sheet, and every eighth time any valid one.
