@@ -60,68 +60,103 @@ pub fn loose(random: &mut Random, sheet: &Sheet, commands: usize) -> Bundle {
 /// A bundle that a random run of the machine wrote down: each task once, each message right, never
 /// stuck, with the right claim. Only its store may be over the limit. The sheet is a valid one.
 pub fn orderly(random: &mut Random, sheet: &Sheet) -> Bundle {
-    let tasks = sheet.task_count();
-    let links: Vec<&[u16]> = sheet.links.chunks_exact(4).collect();
-    let programmes = random.within(1..=sheet.processors.into());
-    let place: Vec<usize> = (0..tasks).map(|_| random.below(programmes)).collect();
-    let crosses = |link: &[u16]| place[usize::from(link[0])] != place[usize::from(link[1])];
-
-    let mut missing = vec![0; tasks];
-    let mut outgoing = vec![Vec::new(); tasks];
-    for (number, link) in links.iter().enumerate() {
-        missing[usize::from(link[1])] += 1;
-        outgoing[usize::from(link[0])].push(number);
-    }
-    let mut able: Vec<[u16; 2]> =
-        (0..tasks).filter(|&task| missing[task] == 0).map(|task| [RUN, task as u16]).collect();
-    let mut written = vec![Vec::new(); programmes];
-    let mut clocks = vec![0u32; programmes];
-    let mut stamps = vec![0u32; links.len()];
-    while !able.is_empty() {
-        let [command, number] = able.swap_remove(random.below(able.len()));
-        let operand = usize::from(number);
-        // A link whose message or source has come to the target's processor.
-        let mut arrived = Vec::new();
-        let k = match command {
-            RUN => {
-                let k = place[operand];
-                clocks[k] += u32::from(sheet.tasks[2 * operand]);
-                for &link in &outgoing[operand] {
-                    match crosses(links[link]) {
-                        true => able.push([SEND, link as u16]),
-                        false => arrived.push(link),
-                    }
-                }
-                k
-            }
-            SEND => {
-                let k = place[usize::from(links[operand][0])];
-                stamps[operand] = clocks[k] + u32::from(links[operand][2]);
-                able.push([RECEIVE, number]);
-                k
-            }
-            _ => {
-                let k = place[usize::from(links[operand][1])];
-                clocks[k] = clocks[k].max(stamps[operand]);
-                arrived.push(operand);
-                k
-            }
-        };
-        written[k].push([command, number]);
-        for link in arrived {
-            let target = links[link][1];
-            missing[usize::from(target)] -= 1;
-            if missing[usize::from(target)] == 0 {
-                able.push([RUN, target]);
-            }
-        }
+    let mut run = Run::new(random, sheet);
+    while !run.able.is_empty() {
+        let next = run.able.swap_remove(random.below(run.able.len()));
+        run.take(next);
     }
     let mut commands = Vec::new();
-    for (number, programme) in written.iter().enumerate() {
+    for (number, programme) in run.written.iter().enumerate() {
         commands.extend([OPEN, number as u16]);
         commands.extend(programme.as_flattened());
     }
-    Bundle { commands, claim: clocks.into_iter().max().unwrap_or(0) }
+    Bundle { commands, claim: run.clocks.into_iter().max().unwrap_or(0) }
+}
+
+/// A run of the machine whose programmes are written as it goes.
+struct Run<'a> {
+    sheet: &'a Sheet,
+    links: Vec<&'a [u16]>,
+    /// The processor of each task.
+    place: Vec<usize>,
+    /// How many sources or messages each task still waits for.
+    missing: Vec<usize>,
+    /// The commands that can be next, byte and operand.
+    able: Vec<[u16; 2]>,
+    written: Vec<Vec<[u16; 2]>>,
+    clocks: Vec<u32>,
+    stamps: Vec<u32>,
+}
+
+impl<'a> Run<'a> {
+    /// The fresh run, each task on a random processor.
+    fn new(random: &mut Random, sheet: &'a Sheet) -> Self {
+        let tasks = sheet.task_count();
+        let links: Vec<&[u16]> = sheet.links.chunks_exact(4).collect();
+        let programmes = random.within(1..=sheet.processors.into());
+        let place = (0..tasks).map(|_| random.below(programmes)).collect();
+        let mut missing = vec![0; tasks];
+        links.iter().for_each(|link| missing[usize::from(link[1])] += 1);
+        let free = (0..tasks).filter(|&task| missing[task] == 0);
+        Run {
+            sheet,
+            able: free.map(|task| [RUN, task as u16]).collect(),
+            place,
+            missing,
+            written: vec![Vec::new(); programmes],
+            clocks: vec![0; programmes],
+            stamps: vec![0; links.len()],
+            links,
+        }
+    }
+
+    /// Does a command that can be next.
+    fn take(&mut self, [command, number]: [u16; 2]) {
+        let operand = usize::from(number);
+        let k = match command {
+            RUN => self.place[operand],
+            SEND => self.place[usize::from(self.links[operand][0])],
+            _ => self.place[usize::from(self.links[operand][1])],
+        };
+        self.written[k].push([command, number]);
+        match command {
+            RUN => {
+                self.clocks[k] += u32::from(self.sheet.tasks[2 * operand]);
+                self.hand_on(operand);
+            }
+            SEND => {
+                self.stamps[operand] = self.clocks[k] + u32::from(self.links[operand][2]);
+                self.able.push([RECEIVE, number]);
+            }
+            _ => {
+                self.clocks[k] = self.clocks[k].max(self.stamps[operand]);
+                self.arrive(operand);
+            }
+        }
+    }
+
+    /// After the run of a task: its links inside the processor have arrived, the others can be sent.
+    fn hand_on(&mut self, task: usize) {
+        for number in 0..self.links.len() {
+            let [source, target] = [0, 1].map(|end| usize::from(self.links[number][end]));
+            if source == task {
+                match self.place[target] == self.place[task] {
+                    true => self.arrive(number),
+                    false => self.able.push([SEND, number as u16]),
+                }
+            }
+        }
+    }
+
+    /// What a link brings has come to its target's processor.
+    fn arrive(&mut self, link: usize) {
+        let target = self.links[link][1];
+        let missing = &mut self.missing[usize::from(target)];
+        *missing -= 1;
+        if *missing == 0 {
+            self.able.push([RUN, target]);
+        }
+    }
 }
 
 /// An orderly bundle with some receives moved up and some sends moved down in their programmes: its

@@ -212,6 +212,9 @@ fn written(sheet: &Sheet, placed: &[Placed]) -> Vec<u8> {
     bundle
 }
 
+/// The commands of each programme.
+type Programmes = [Vec<Command>];
+
 /// The checker's answer behind the form, from lists of commands, with steps in a random order.
 fn plain_check(random: &mut Random, sheet: &Sheet, bytes: &[u8]) -> Result<(), Refusal> {
     let bundle = Bundle::read(sheet, bytes)?;
@@ -224,6 +227,21 @@ fn plain_check(random: &mut Random, sheet: &Sheet, bytes: &[u8]) -> Result<(), R
             _ => programmes.last_mut().unwrap().push(Command::Receive(pair[1])),
         }
     }
+    plain_runs_and_messages(sheet, &programmes)?;
+    plain_stores(sheet, &programmes)?;
+    let (done, clocks) = plain_run(random, sheet, &programmes);
+    if let Some(k) = (0..programmes.len()).find(|&k| done[k] < programmes[k].len()) {
+        return Err(Refusal::new(29, k));
+    }
+    let clock = clocks.into_iter().max().unwrap_or(0);
+    if clock != bundle.claim {
+        return Err(Refusal::new(30, clock as usize));
+    }
+    Ok(())
+}
+
+/// Each task run once (26), each link with the messages that it needs (27).
+fn plain_runs_and_messages(sheet: &Sheet, programmes: &Programmes) -> Result<(), Refusal> {
     let places = |command: Command| -> Vec<(usize, usize)> {
         let each = programmes.iter().enumerate();
         let all = each.flat_map(|(k, list)| (0..list.len()).map(move |i| (k, i)));
@@ -251,6 +269,11 @@ fn plain_check(random: &mut Random, sheet: &Sheet, bytes: &[u8]) -> Result<(), R
             return Err(Refusal::new(27, number));
         }
     }
+    Ok(())
+}
+
+/// The store of each programme (28).
+fn plain_stores(sheet: &Sheet, programmes: &Programmes) -> Result<(), Refusal> {
     let store = |command: &Command| match *command {
         Command::Run(task) => u64::from(sheet.tasks[usize::from(task)].store),
         Command::Receive(link) => u64::from(sheet.links[usize::from(link)].bytes),
@@ -261,6 +284,15 @@ fn plain_check(random: &mut Random, sheet: &Sheet, bytes: &[u8]) -> Result<(), R
             return Err(Refusal::new(28, k));
         }
     }
+    Ok(())
+}
+
+/// How many commands each programme has done when nobody can step, and the clocks then.
+fn plain_run(
+    random: &mut Random,
+    sheet: &Sheet,
+    programmes: &Programmes,
+) -> (Vec<usize>, Vec<u32>) {
     let mut clocks = vec![0u32; programmes.len()];
     let mut done = vec![0; programmes.len()];
     let mut stamps = vec![None; sheet.links.len()];
@@ -272,7 +304,7 @@ fn plain_check(random: &mut Random, sheet: &Sheet, bytes: &[u8]) -> Result<(), R
             })
             .collect();
         if able.is_empty() {
-            break;
+            return (done, clocks);
         }
         let k = random.pick(&able);
         match programmes[k][done[k]] {
@@ -286,14 +318,6 @@ fn plain_check(random: &mut Random, sheet: &Sheet, bytes: &[u8]) -> Result<(), R
         }
         done[k] += 1;
     }
-    if let Some(k) = (0..programmes.len()).find(|&k| done[k] < programmes[k].len()) {
-        return Err(Refusal::new(29, k));
-    }
-    let clock = clocks.into_iter().max().unwrap_or(0);
-    if clock != bundle.claim {
-        return Err(Refusal::new(30, clock as usize));
-    }
-    Ok(())
 }
 
 /// A sheet of at most this many tasks, mostly with weights that make ties and the guard matter.
@@ -409,6 +433,33 @@ fn circles() {
     }
 }
 
+/// Any list of choices: each step takes one off the commands left, and the ends are alike.
+fn any_choices(
+    random: &mut Random,
+    sheet: &Sheet,
+    mut machine: Machine,
+    verdict: Result<(), Refusal>,
+) {
+    for _ in 0..400 {
+        let left = machine.left();
+        let choice = random.below(machine.processors().len() + 1) as u64;
+        let stepped = machine.step(choice).stepped();
+        assert_eq!(machine.left() + usize::from(stepped), left);
+        assert!(machine.processors().iter().all(|processor| processor.store <= sheet.limit));
+    }
+    while (0..machine.processors().len()).any(|k| machine.step(k as u64).stepped()) {}
+    match verdict {
+        Ok(()) => assert_eq!((machine.left(), machine.latest_clock()), (0, machine.claim)),
+        Err(refusal) if refusal.number == 29 => {
+            assert!(machine.processors()[refusal.place as usize].unfinished())
+        }
+        Err(refusal) => {
+            assert_eq!((refusal.number, refusal.place), (30, machine.latest_clock().into()))
+        }
+    }
+    assert!(!machine.step(u64::MAX).stepped());
+}
+
 #[test]
 fn verdicts_and_machines() {
     let mut random = Random::new(4);
@@ -428,29 +479,10 @@ fn verdicts_and_machines() {
         assert_eq!(verdict, plain_check(&mut random, &sheet, &bytes), "{values:?} {bytes:02X?}");
         counts[verdict.err().map_or(0, |refusal| usize::from(refusal.number))] += 1;
 
-        // Any list of choices: each step takes one off the commands left, and the ends are alike.
-        let Ok(mut machine) = Machine::start(&sheet, &bytes) else {
-            assert!(verdict.is_err_and(|refusal| refusal.number <= 28));
-            continue;
-        };
-        for _ in 0..400 {
-            let left = machine.left();
-            let choice = random.below(machine.processors().len() + 1) as u64;
-            let stepped = machine.step(choice).stepped();
-            assert_eq!(machine.left() + usize::from(stepped), left);
-            assert!(machine.processors().iter().all(|processor| processor.store <= sheet.limit));
+        match Machine::start(&sheet, &bytes) {
+            Ok(machine) => any_choices(&mut random, &sheet, machine, verdict),
+            Err(_) => assert!(verdict.is_err_and(|refusal| refusal.number <= 28)),
         }
-        while (0..machine.processors().len()).any(|k| machine.step(k as u64).stepped()) {}
-        match verdict {
-            Ok(()) => assert_eq!((machine.left(), machine.latest_clock()), (0, machine.claim)),
-            Err(refusal) if refusal.number == 29 => {
-                assert!(machine.processors()[refusal.place as usize].unfinished())
-            }
-            Err(refusal) => {
-                assert_eq!((refusal.number, refusal.place), (30, machine.latest_clock().into()))
-            }
-        }
-        assert!(!machine.step(u64::MAX).stepped());
     }
     for number in [0, 21, 22, 23, 24, 25, 26, 27, 28, 29, 30] {
         assert!(counts[number] > 10, "{number} came {} times", counts[number]);

@@ -2,7 +2,7 @@
 
 use super::{faulty_sheet, mostly_small, planned, trial_files};
 use crate::comparison::{Comparison, Outcome};
-use inputs::{bundles, damage, sheets};
+use inputs::{bundles, damage, sheets, Random};
 
 /// Checks a pair, and mostly runs it on the machine too.
 fn pair(c: &mut Comparison, sheet: &[u8], bundle: &[u8]) -> Outcome {
@@ -40,80 +40,69 @@ pub fn trial_pairs(c: &mut Comparison) -> Outcome {
     Ok(())
 }
 
-/// Bundles that are right, but perhaps for their store.
-pub fn right(c: &mut Comparison) -> Outcome {
-    for round in 0..25_000 {
-        let values = roomy(c, round);
-        let bundle = right_bundle(c, &values);
+/// Compares on so many pairs of a sheet and a right bundle for it, both as an edit leaves them.
+fn edited(
+    c: &mut Comparison,
+    rounds: usize,
+    edit: impl Fn(&mut Random, &mut sheets::Sheet, &mut bundles::Bundle),
+) -> Outcome {
+    for round in 0..rounds {
+        let mut values = roomy(c, round);
+        let mut bundle = right_bundle(c, &values);
+        edit(&mut c.random, &mut values, &mut bundle);
         pair(c, &values.encode(), &bundle.encode())?;
     }
     Ok(())
+}
+
+/// Bundles that are right, but perhaps for their store.
+pub fn right(c: &mut Comparison) -> Outcome {
+    edited(c, 25_000, |_, _, _| ())
 }
 
 /// Right bundles with another claim, mostly off by one.
 pub fn wrong_claims(c: &mut Comparison) -> Outcome {
-    for round in 0..15_000 {
-        let values = roomy(c, round);
-        let mut bundle = right_bundle(c, &values);
-        bundle.claim = match c.random.below(5) {
+    edited(c, 15_000, |random, _, bundle| {
+        bundle.claim = match random.below(5) {
             0..=1 => bundle.claim.wrapping_sub(1),
             2..=3 => bundle.claim.wrapping_add(1),
-            _ => c.random.bits() as u32,
-        };
-        pair(c, &values.encode(), &bundle.encode())?;
-    }
-    Ok(())
+            _ => random.bits() as u32,
+        }
+    })
 }
 
 /// Right bundles with commands swapped, moved, dropped or doubled.
 pub fn moved_commands(c: &mut Comparison) -> Outcome {
-    for round in 0..55_000 {
-        let values = roomy(c, round);
-        let mut bundle = right_bundle(c, &values);
-        for _ in 0..c.random.within(1..=2) {
-            damage::records(&mut c.random, &mut bundle.commands, 2);
+    edited(c, 55_000, |random, _, bundle| {
+        for _ in 0..random.within(1..=2) {
+            damage::records(random, &mut bundle.commands, 2);
         }
-        pair(c, &values.encode(), &bundle.encode())?;
-    }
-    Ok(())
+    })
 }
 
 /// Right bundles with sends and receives exchanged between programmes.
 pub fn exchanged_messages(c: &mut Comparison) -> Outcome {
-    for round in 0..20_000 {
-        let values = roomy(c, round);
-        let mut bundle = right_bundle(c, &values);
-        bundles::exchange(&mut c.random, &mut bundle);
-        pair(c, &values.encode(), &bundle.encode())?;
-    }
-    Ok(())
+    edited(c, 20_000, |random, _, bundle| bundles::exchange(random, bundle))
 }
 
 /// Bundles with receives moved up and sends moved down in their programmes, of which many get stuck.
 pub fn tangled(c: &mut Comparison) -> Outcome {
-    for round in 0..35_000 {
-        let mut values = roomy(c, round);
-        values.processors = c.random.within(2..=6) as u8;
-        let bundle = bundles::tangled(&mut c.random, &values);
-        pair(c, &values.encode(), &bundle.encode())?;
-    }
-    Ok(())
+    edited(c, 35_000, |random, values, bundle| {
+        values.processors = random.within(2..=6) as u8;
+        *bundle = bundles::tangled(random, values);
+    })
 }
 
 /// Sheets whose limit is just what one of the programmes needs, or one less or more.
 pub fn stores_at_the_limit(c: &mut Comparison) -> Outcome {
-    for round in 0..20_000 {
-        let mut values = mostly_small(c, round);
-        let bundle = right_bundle(c, &values);
-        let needs = bundles::needs(&values, &bundle);
-        let need = match c.random.once_in(3) {
-            true => c.random.pick(&needs),
+    edited(c, 20_000, |random, values, bundle| {
+        let needs = bundles::needs(values, bundle);
+        let need = match random.once_in(3) {
+            true => random.pick(&needs),
             false => needs.into_iter().max().unwrap_or(0),
         };
-        values.limit = (need + c.random.below(3) as u32).saturating_sub(1);
-        pair(c, &values.encode(), &bundle.encode())?;
-    }
-    Ok(())
+        values.limit = (need + random.below(3) as u32).saturating_sub(1);
+    })
 }
 
 /// Right bundles with one to three damages in their bytes.
