@@ -25,16 +25,10 @@ pub fn bundle_command(byte: u8) -> usize {
     }
 }
 
-/// A sheet's bytes with one to three damages.
-pub fn sheet(random: &mut Random, mut sheet: Vec<u8>) -> Vec<u8> {
-    (0..random.within(1..=3)).for_each(|_| bytes(random, &mut sheet, sheet_command));
-    sheet
-}
-
-/// A bundle's bytes with one to three damages.
-pub fn bundle(random: &mut Random, mut bundle: Vec<u8>) -> Vec<u8> {
-    (0..random.within(1..=3)).for_each(|_| bytes(random, &mut bundle, bundle_command));
-    bundle
+/// The bytes with one to three damages; `length` tells how long each command is.
+pub fn few(random: &mut Random, mut whole: Vec<u8>, length: fn(u8) -> usize) -> Vec<u8> {
+    (0..random.within(1..=3)).for_each(|_| bytes(random, &mut whole, length));
+    whole
 }
 
 /// Damages bytes once; `length` tells how long each command is.

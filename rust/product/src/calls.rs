@@ -1,44 +1,36 @@
 //! The C calls: a slice is lent as its pointer, then its length in elements.
 
 /// Declares each C function and a safe function over it, which lends its slices and arrays and gives
-/// the answer. The signature is read from the left: what is safe to take, what C takes, what is passed.
+/// the answer. Each parameter adds to three lists: what the safe function takes, what C takes, and
+/// what is passed.
 macro_rules! interface {
     ($($(#[$doc:meta])* $name:ident = $symbol:ident($($parameters:tt)*);)*) => {
-        $(interface! { @ [$(#[$doc])* $name $symbol] [] [] [] $($parameters)*, })*
+        $(interface! { @next [$(#[$doc])* $name $symbol] [] [] [] $($parameters)*, })*
     };
-    (@ $of:tt [$($safe:tt)*] [$($c:tt)*] [$($pass:tt)*] $lent:ident: &[$element:ty], $($rest:tt)*) => {
-        interface! { @ $of
-            [$($safe)* $lent: &[$element],]
-            [$($c)* *const $element, usize,]
-            [$($pass)* $lent.as_ptr(), $lent.len(),]
-            $($rest)*
+    (@next $of:tt $safe:tt $c:tt $pass:tt $lent:ident: &[$element:ty], $($rest:tt)*) => {
+        interface! { @add $of $safe $c $pass
+            [$lent: &[$element]] [*const $element, usize] [$lent.as_ptr(), $lent.len()] $($rest)*
         }
     };
-    (@ $of:tt [$($safe:tt)*] [$($c:tt)*] [$($pass:tt)*] $lent:ident: &mut [$element:ty], $($rest:tt)*) => {
-        interface! { @ $of
-            [$($safe)* $lent: &mut [$element],]
-            [$($c)* *mut $element, usize,]
-            [$($pass)* $lent.as_mut_ptr(), $lent.len(),]
-            $($rest)*
+    (@next $of:tt $safe:tt $c:tt $pass:tt $lent:ident: &mut [$element:ty], $($rest:tt)*) => {
+        interface! { @add $of $safe $c $pass
+            [$lent: &mut [$element]] [*mut $element, usize] [$lent.as_mut_ptr(), $lent.len()] $($rest)*
         }
     };
-    (@ $of:tt [$($safe:tt)*] [$($c:tt)*] [$($pass:tt)*] $lent:ident: &mut $whole:ty, $($rest:tt)*) => {
-        interface! { @ $of
-            [$($safe)* $lent: &mut $whole,]
-            [$($c)* *mut $whole,]
-            [$($pass)* $lent,]
-            $($rest)*
+    (@next $of:tt $safe:tt $c:tt $pass:tt $lent:ident: &mut $whole:ty, $($rest:tt)*) => {
+        interface! { @add $of $safe $c $pass [$lent: &mut $whole] [*mut $whole] [$lent] $($rest)* }
+    };
+    (@next $of:tt $safe:tt $c:tt $pass:tt $given:ident: $number:ty, $($rest:tt)*) => {
+        interface! { @add $of $safe $c $pass [$given: $number] [$number] [$given] $($rest)* }
+    };
+    (@add $of:tt [$($safe:tt)*] [$($c:tt)*] [$($pass:tt)*]
+        [$($more_safe:tt)*] [$($more_c:tt)*] [$($more_pass:tt)*] $($rest:tt)*
+    ) => {
+        interface! { @next $of
+            [$($safe)* $($more_safe)*,] [$($c)* $($more_c)*,] [$($pass)* $($more_pass)*,] $($rest)*
         }
     };
-    (@ $of:tt [$($safe:tt)*] [$($c:tt)*] [$($pass:tt)*] $given:ident: $number:ty, $($rest:tt)*) => {
-        interface! { @ $of
-            [$($safe)* $given: $number,]
-            [$($c)* $number,]
-            [$($pass)* $given,]
-            $($rest)*
-        }
-    };
-    (@ [$(#[$doc:meta])* $name:ident $symbol:ident]
+    (@next [$(#[$doc:meta])* $name:ident $symbol:ident]
         [$($safe:tt)*] [$($c:ty,)*] [$($pass:expr,)*]
     ) => {
         $(#[$doc])*

@@ -82,7 +82,7 @@ pub fn valid_sheets(c: &mut Comparison) -> Outcome {
 pub fn damaged_sheets(c: &mut Comparison) -> Outcome {
     for round in 0..12_000 {
         let values = mostly_small(c, round);
-        let sheet = damage::sheet(&mut c.random, values.encode());
+        let sheet = damage::few(&mut c.random, values.encode(), damage::sheet_command);
         c.read_sheet(&sheet)?;
         c.levels(&sheet)?;
         if round % 4 == 0 {
@@ -223,7 +223,7 @@ pub fn damaged_bundles(c: &mut Comparison) -> Outcome {
     for round in 0..16_000 {
         let values = mostly_small(c, round);
         let bundle = formed(c, &values).encode();
-        let bundle = damage::bundle(&mut c.random, bundle);
+        let bundle = damage::few(&mut c.random, bundle, damage::bundle_command);
         c.read_bundle(&values.encode(), &bundle)?;
     }
     Ok(())

@@ -110,7 +110,7 @@ pub fn damaged(c: &mut Comparison) -> Outcome {
     for round in 0..30_000 {
         let values = roomy(c, round);
         let bundle = right_bundle(c, &values).encode();
-        let bundle = damage::bundle(&mut c.random, bundle);
+        let bundle = damage::few(&mut c.random, bundle, damage::bundle_command);
         pair(c, &values.encode(), &bundle)?;
     }
     Ok(())
@@ -187,7 +187,7 @@ pub fn any_states(c: &mut Comparison) -> Outcome {
             _ => {
                 let other = sheets::small(random);
                 sheet = other.encode();
-                bundle = damage::bundle(random, bundle);
+                bundle = damage::few(random, bundle, damage::bundle_command);
             }
         }
         c.any_words(&sheet, &bundle, &words, 30)?;

@@ -82,7 +82,7 @@ fn faulty_sheet(c: &mut Comparison, values: &sheets::Sheet, round: usize) -> Vec
     match round % 8 {
         1 => sheets::circle(&mut c.random, 1 + round % 40).encode(),
         2 => sheets::Sheet { tasks: [1, 1].repeat(257), ..values.clone() }.encode(),
-        _ => damage::sheet(&mut c.random, values.encode()),
+        _ => damage::few(&mut c.random, values.encode(), damage::sheet_command),
     }
 }
 
