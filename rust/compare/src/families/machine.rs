@@ -149,8 +149,14 @@ pub fn cut(c: &mut Comparison) -> Outcome {
     Ok(())
 }
 
-/// Sheets of 256 tasks and 1,024 links, with bundles right and stuck.
+/// Sheets of 256 tasks and 1,024 links, with bundles right, stuck, and far longer than any plan.
 pub fn largest(c: &mut Comparison) -> Outcome {
+    for commands in [70_000, 1_000_000] {
+        let values = sheets::largest(&mut c.random);
+        let bundle = bundles::loose(&mut c.random, &values, commands).encode();
+        c.check(&values.encode(), &bundle)?;
+        c.machine(&values.encode(), &bundle)?;
+    }
     for round in 0..300 {
         let mut values = sheets::largest(&mut c.random);
         values.limit = u32::MAX;
