@@ -12,7 +12,7 @@ use std::time::Instant;
 const SHEETS: usize = 16;
 /// The rounds over all sheets of a shape, each with the reference and then the product.
 const ROUNDS: usize = 101;
-/// Longer than any bundle of a plan.
+/// Longer than any bundle or listing of a plan.
 const MOST_BYTES: usize = 8192;
 
 fn main() {
@@ -26,6 +26,7 @@ fn main() {
     for shape in [Shape::Dense, Shape::Layers, Shape::FanIn, Shape::Chain, Shape::Loose] {
         let inputs = Inputs::new(shape);
         measure_formats(&inputs);
+        measure_planner(&inputs);
         measure_machine(&inputs);
     }
 }
@@ -87,6 +88,22 @@ fn measure_formats(inputs: &Inputs) {
         "levels",
         |i| passes(interface::levels(&sheets[i], &mut levels)),
         |i| succeeds(product::levels(&sheets[i], &mut work, &mut own_levels)),
+    );
+}
+
+fn measure_planner(inputs: &Inputs) {
+    let sheets = &inputs.sheets;
+    let mut work = vec![0; product::work_length()];
+    let (mut out, mut own) = (vec![0; MOST_BYTES], vec![0; MOST_BYTES]);
+    inputs.compare(
+        "plan",
+        |i| passes(interface::plan(&sheets[i], &mut out)),
+        |i| succeeds(product::plan(&sheets[i], &mut work, &mut own)),
+    );
+    inputs.compare(
+        "listing",
+        |i| passes(interface::listing(&sheets[i], &mut out)),
+        |i| succeeds(product::listing(&sheets[i], &mut work, &mut own)),
     );
 }
 

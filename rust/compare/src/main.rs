@@ -7,6 +7,7 @@ mod families;
 mod formats;
 mod lent;
 mod machine;
+mod planner;
 mod tally;
 
 use comparison::Difference;
@@ -19,6 +20,8 @@ use tally::{Function, Tally};
 const THREADS: usize = 2;
 /// The fewest calls that count as a comparison.
 const FEWEST_CALLS: usize = 100_000;
+/// The fewest sheets that are planned.
+const FEWEST_PLANS: usize = 50_000;
 /// The fewest pairs of a sheet and a bundle, and how many of them have to get stuck.
 const FEWEST_PAIRS: usize = 200_000;
 const FEWEST_STUCK: usize = 3000;
@@ -60,12 +63,10 @@ fn difference(report: &Report) -> Option<(&'static str, &str)> {
 
 /// What was compared too seldom.
 fn shortfalls(tally: &Tally) -> Vec<String> {
-    let missed = tally.missed().into_iter();
-    let mut shortfalls: Vec<String> = missed
-        .map(|(function, number)| format!("{} never answered {number}", function.name()))
-        .collect();
+    let mut shortfalls = tally.missed();
     for (what, count, fewest) in [
         ("calls", tally.calls(), FEWEST_CALLS),
+        ("plans", tally.calls_of(Function::Plan), FEWEST_PLANS),
         ("pairs", tally.calls_of(Function::Check), FEWEST_PAIRS),
         ("pairs that get stuck", tally.answers(Function::Check, STUCK), FEWEST_STUCK),
     ] {

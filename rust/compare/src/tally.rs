@@ -1,4 +1,7 @@
-//! How often each function gave each answer, and which answers it has to give at least once.
+//! How often each function gave each answer and each rule of placing decided, and which of them have to
+//! at least once.
+
+use reference::planner::{Step, Turn};
 
 /// A function of the interface.
 #[derive(Clone, Copy, Debug, PartialEq, Eq)]
@@ -6,6 +9,8 @@ pub enum Function {
     ReadSheet,
     WriteSheet,
     Levels,
+    Plan,
+    Listing,
     ReadBundle,
     WriteBundle,
     Check,
@@ -18,10 +23,12 @@ pub enum Function {
 }
 
 /// Every function that is compared.
-pub const FUNCTIONS: [Function; 12] = [
+pub const FUNCTIONS: [Function; 14] = [
     Function::ReadSheet,
     Function::WriteSheet,
     Function::Levels,
+    Function::Plan,
+    Function::Listing,
     Function::ReadBundle,
     Function::WriteBundle,
     Function::Check,
@@ -34,7 +41,7 @@ pub const FUNCTIONS: [Function; 12] = [
 ];
 
 /// How many functions stand side by side in the table of answers.
-const COLUMNS: usize = 6;
+const COLUMNS: usize = 7;
 
 impl Function {
     /// Its name without the prefix.
@@ -43,6 +50,8 @@ impl Function {
             Function::ReadSheet => "read_sheet",
             Function::WriteSheet => "write_sheet",
             Function::Levels => "levels",
+            Function::Plan => "plan",
+            Function::Listing => "listing",
             Function::ReadBundle => "read_bundle",
             Function::WriteBundle => "write_bundle",
             Function::Check => "check",
@@ -61,6 +70,8 @@ impl Function {
         match self {
             Function::ReadSheet | Function::Levels => sheet || number == 12,
             Function::WriteSheet => matches!(number, 0 | 1 | 5..=10 | 12 | 13),
+            Function::Plan => matches!(number, 0..=13),
+            Function::Listing => matches!(number, 0 | 12 | 13),
             Function::ReadBundle | Function::WriteBundle => {
                 sheet || number == 12 || matches!(number, 21..=25)
             }
@@ -76,10 +87,15 @@ impl Function {
 /// Every number that an answer can have.
 const NUMBERS: std::ops::RangeInclusive<u8> = 0..=30;
 
-/// The counts of answers, by function and number.
+/// The rules that give a task its processor: the four steps, and the guard where it bars the
+/// processor that the task would have joined.
+const RULES: [&str; 5] = ["join", "idle", "open", "last resort", "the guard"];
+
+/// The counts of answers, by function and number, and of turns by the rule that decided.
 #[derive(Clone, Default)]
 pub struct Tally {
     counts: [[usize; 31]; FUNCTIONS.len()],
+    rules: [usize; RULES.len()],
 }
 
 impl Tally {
@@ -88,10 +104,23 @@ impl Tally {
         self.counts[function as usize][usize::from(number)] += 1;
     }
 
+    /// Counts the rules that decided in a turn of the planner.
+    pub fn count_turn(&mut self, turn: Turn) {
+        let step = match turn.step {
+            Step::Join => 0,
+            Step::Idle => 1,
+            Step::Open => 2,
+            Step::LastResort => 3,
+        };
+        self.rules[step] += 1;
+        self.rules[4] += usize::from(turn.barred);
+    }
+
     /// Adds another tally's counts.
     pub fn add(&mut self, other: &Tally) {
-        let counts = self.counts.as_flattened_mut().iter_mut();
-        counts.zip(other.counts.as_flattened()).for_each(|(count, more)| *count += more);
+        let counts = self.counts.as_flattened_mut().iter_mut().chain(&mut self.rules);
+        let more = other.counts.as_flattened().iter().chain(&other.rules);
+        counts.zip(more).for_each(|(count, more)| *count += more);
     }
 
     /// All answers.
@@ -109,8 +138,10 @@ impl Tally {
         self.counts[function as usize][usize::from(number)]
     }
 
-    /// Prints tables with a row for each number and a column for each function.
+    /// Prints tables with a row for each number and a column for each function, and the rules.
     pub fn print(&self) {
+        let rules = RULES.iter().zip(&self.rules).map(|(rule, count)| format!("{rule} {count}"));
+        println!("turns decided by {}", rules.collect::<Vec<_>>().join(", "));
         for functions in FUNCTIONS.chunks(COLUMNS) {
             let row = |name: &str, cell: &dyn Fn(Function) -> String| {
                 let cells: String = functions.iter().map(|&f| format!("{:>14}", cell(f))).collect();
@@ -129,9 +160,13 @@ impl Tally {
         }
     }
 
-    /// The answers that a function can give and never gave.
-    pub fn missed(&self) -> Vec<(Function, u8)> {
+    /// What never came, in words: answers that a function can give, and rules that can decide.
+    pub fn missed(&self) -> Vec<String> {
         let all = FUNCTIONS.into_iter().flat_map(|f| NUMBERS.map(move |number| (f, number)));
-        all.filter(|&(f, number)| f.can_answer(number) && self.answers(f, number) == 0).collect()
+        let answers =
+            all.filter(|&(f, number)| f.can_answer(number) && self.answers(f, number) == 0);
+        let answers = answers.map(|(f, number)| format!("{} never answered {number}", f.name()));
+        let rules = RULES.iter().zip(self.rules).filter(|&(_, count)| count == 0);
+        answers.chain(rules.map(|(rule, _)| format!("{rule} never decided"))).collect()
     }
 }

@@ -100,16 +100,62 @@ pub fn largest(random: &mut Random) -> Sheet {
     with_shape(random, MOST_TASKS, Shape::Dense)
 }
 
+/// A valid sheet of at most this many tasks, mostly with weights that make ties and the guard matter.
+pub fn telling(random: &mut Random, most: usize) -> Sheet {
+    let tasks = random.within(1..=most);
+    let shape = match random.below(3) {
+        0 => random.pick(&SHAPES),
+        1 => Shape::Sparse,
+        _ => Shape::Dense,
+    };
+    let mut sheet = with_shape(random, tasks, shape);
+    if !random.once_in(5) {
+        let (works, costs) = random.pick(&[(1, 3), (2, 5), (4, 8), (9, 9), (9, 20), (20, 100)]);
+        weigh(random, &mut sheet, works, costs);
+    }
+    if !random.once_in(4) {
+        sheet.limit = u32::MAX;
+    }
+    sheet
+}
+
+/// A valid sheet on which the guard often decides: cheap tasks, dear messages, many links and at
+/// least four processors.
+pub fn guarded(random: &mut Random) -> Sheet {
+    let tasks = random.within(6..=48);
+    let tries = distinct(random, 4 * tasks, 1, |random| [0; 2].map(|_| random.below(tasks)));
+    let mut sheet = with_pairs(random, tasks, tries);
+    weigh(random, &mut sheet, 8, 60);
+    sheet.processors = random.within(4..=16) as u8;
+    if !random.once_in(4) {
+        sheet.limit = u32::MAX;
+    }
+    sheet
+}
+
+/// Gives all works up to `works`, and all costs below `costs`.
+pub fn weigh(random: &mut Random, sheet: &mut Sheet, works: usize, costs: usize) {
+    let all_works = sheet.tasks.iter_mut().step_by(2);
+    all_works.for_each(|work| *work = random.within(1..=works) as u16);
+    let all_costs = sheet.links.iter_mut().skip(2).step_by(4);
+    all_costs.for_each(|cost| *cost = random.below(costs) as u16);
+}
+
 /// A valid sheet of this many tasks and this shape.
 pub fn with_shape(random: &mut Random, tasks: usize, shape: Shape) -> Sheet {
+    let pairs = pairs(random, tasks, shape);
+    with_pairs(random, tasks, pairs)
+}
+
+/// A valid sheet of this many tasks with links from the first to the second of these pairs, in which
+/// the first is the lower; both get other numbers, mostly.
+fn with_pairs(random: &mut Random, tasks: usize, pairs: Vec<[usize; 2]>) -> Sheet {
     let mut names: Vec<u16> = (0..tasks as u16).collect();
     if !random.once_in(4) {
         random.shuffle(&mut names);
     }
-    let mut pairs: Vec<[u16; 2]> = pairs(random, tasks, shape)
-        .into_iter()
-        .map(|[from, to]| [names[from], names[to]])
-        .collect();
+    let mut pairs: Vec<[u16; 2]> =
+        pairs.into_iter().map(|[from, to]| [names[from], names[to]]).collect();
     if random.once_in(2) {
         random.shuffle(&mut pairs);
     }
@@ -150,13 +196,13 @@ fn pairs(random: &mut Random, tasks: usize, shape: Shape) -> Vec<[usize; 2]> {
         Shape::FanIn => (1..tasks).map(|from| [from - 1, tasks - 1]).collect(),
         Shape::Sparse => {
             let count = random.below(most.min(2 * tasks) + 1);
-            distinct(random, count, |random| [random.below(tasks), random.below(tasks)])
+            distinct(random, count, 40, |random| [0; 2].map(|_| random.below(tasks)))
         }
-        Shape::Dense => distinct(random, most, |random| [random.below(tasks), random.below(tasks)]),
+        Shape::Dense => distinct(random, most, 40, |random| [0; 2].map(|_| random.below(tasks))),
         Shape::Layers => {
             let width = random.within(1..=tasks);
             let count = random.below(most + 1).min(tasks * width / 2);
-            distinct(random, count, |random| {
+            distinct(random, count, 40, |random| {
                 let from = random.below(tasks);
                 let next = (from / width + 1) * width;
                 [from, (next + random.below(width)).min(tasks - 1)]
@@ -165,15 +211,17 @@ fn pairs(random: &mut Random, tasks: usize, shape: Shape) -> Vec<[usize; 2]> {
     }
 }
 
-/// Up to `count` different pairs of a lower and a higher number from a source of pairs.
+/// Up to `count` different pairs of a lower and a higher number from a source of pairs, with so many
+/// tries for each.
 fn distinct(
     random: &mut Random,
     count: usize,
+    tries: usize,
     draw: impl Fn(&mut Random) -> [usize; 2],
 ) -> Vec<[usize; 2]> {
     let mut seen = HashSet::new();
     let mut pairs = Vec::with_capacity(count);
-    for _ in 0..40 * count {
+    for _ in 0..tries * count {
         if pairs.len() == count {
             break;
         }

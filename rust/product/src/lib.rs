@@ -23,6 +23,12 @@ interface! {
     /// Writes the level of each task; the place is their count.
     levels = zeldrupa_levels(sheet: &[u8], work: &mut [u32], out: &mut [u32]);
 
+    /// Plans a sheet and writes the bundle; the place is its length.
+    plan = zeldrupa_plan(sheet: &[u8], work: &mut [u32], out: &mut [u8]);
+
+    /// Writes the listing of a sheet's plan, or of its refusal; the place is its length.
+    listing = zeldrupa_listing(sheet: &[u8], work: &mut [u32], out: &mut [u8]);
+
     /// Reads a bundle for a sheet into a table of values, whose length is the place, and the claim.
     read_bundle = zeldrupa_read_bundle(
         sheet: &[u8], bundle: &[u8], work: &mut [u32], commands: &mut [u16], claim: &mut u32

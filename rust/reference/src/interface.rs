@@ -34,10 +34,9 @@ pub fn plan(sheet: &[u8], out: &mut [u8]) -> Result<usize, Refusal> {
     lend(&planner::plan(&sheet)?.to_bundle(&sheet), out)
 }
 
-/// Writes the listing of a sheet's plan and gives its length (1 to 12).
+/// Writes the listing of a sheet's plan, or of its refusal, and gives its length (12).
 pub fn listing(sheet: &[u8], out: &mut [u8]) -> Result<usize, Refusal> {
-    let sheet = Sheet::read(sheet)?;
-    lend(&listing::plan_lines(&planner::plan(&sheet)?), out)
+    lend(&listing::lines(&Sheet::read(sheet).and_then(|sheet| planner::plan(&sheet))), out)
 }
 
 /// Reads a bundle into a table of values; gives their count and the claim (1 to 10, 21 to 25, 12).

@@ -10,14 +10,19 @@ pub const INPUT_LENGTH: usize = 8512;
 /// What the program prints for a whole standard input.
 pub fn print(input: &[u8]) -> Vec<u8> {
     let sheet = &input[..input.len().min(INPUT_LENGTH)];
-    match Sheet::read(sheet).and_then(|sheet| plan(&sheet)) {
-        Ok(plan) => plan_lines(&plan),
-        Err(refusal) => refusal_line(refusal),
+    lines(&Sheet::read(sheet).and_then(|sheet| plan(&sheet)))
+}
+
+/// The lines of a plan or of a refusal.
+pub fn lines(plan: &Result<Plan, Refusal>) -> Vec<u8> {
+    match plan {
+        Ok(plan) => plan_lines(plan),
+        Err(refusal) => refusal_line(*refusal),
     }
 }
 
 /// The lines of a plan.
-pub fn plan_lines(plan: &Plan) -> Vec<u8> {
+fn plan_lines(plan: &Plan) -> Vec<u8> {
     let mut lines = Vec::with_capacity(16 + 24 * plan.placements.len());
     lines.extend(b"PLAN ");
     put_line(&mut lines, &[plan.programmes.len() as u64, plan.claim.into()]);
@@ -29,7 +34,7 @@ pub fn plan_lines(plan: &Plan) -> Vec<u8> {
 }
 
 /// The line of a refusal.
-pub fn refusal_line(refusal: Refusal) -> Vec<u8> {
+fn refusal_line(refusal: Refusal) -> Vec<u8> {
     let mut line = b"REFUSED ".to_vec();
     put_line(&mut line, &[refusal.number.into(), refusal.place]);
     line

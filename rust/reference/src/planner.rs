@@ -29,9 +29,32 @@ pub struct Plan {
     pub claim: u32,
 }
 
+/// The four steps that can give a task its processor.
+#[derive(Clone, Copy, Debug, PartialEq, Eq)]
+pub enum Step {
+    Join,
+    Idle,
+    Open,
+    LastResort,
+}
+
+/// How a task came to its processor.
+#[derive(Clone, Copy, Debug, PartialEq, Eq)]
+pub struct Turn {
+    pub step: Step,
+    pub processor: usize,
+    /// Whether the guard barred the processor that the task would have joined.
+    pub barred: bool,
+}
+
 /// Plans a sheet (11).
 pub fn plan(sheet: &Sheet) -> Result<Plan, Refusal> {
-    Board::new(sheet, true).place_all()
+    plan_with(sheet, |_| ())
+}
+
+/// Plans a sheet, and shows each turn as it goes.
+pub fn plan_with(sheet: &Sheet, see: impl FnMut(Turn)) -> Result<Plan, Refusal> {
+    Board::new(sheet, true).place_all(see)
 }
 
 impl Plan {
@@ -123,12 +146,14 @@ impl<'a> Board<'a> {
     }
 
     /// Places the first ready task until none is left.
-    fn place_all(mut self) -> Result<Plan, Refusal> {
+    fn place_all(mut self, mut see: impl FnMut(Turn)) -> Result<Plan, Refusal> {
         while let Some(key) = self.ready.pop() {
             let task = task_of(key);
             let (starts, needs) = (self.starts(task), self.needs(task));
-            let k = self.choose(task, &starts, &needs).ok_or(Refusal::new(NO_STORE, task))?;
+            let turn = self.choose(task, &starts, &needs).ok_or(Refusal::new(NO_STORE, task))?;
+            let k = turn.processor;
             self.place(task, k, starts[k], needs[k]);
+            see(turn);
         }
         let mut programmes = vec![Vec::new(); self.open];
         for &task in &self.placed {
@@ -141,34 +166,42 @@ impl<'a> Board<'a> {
 
     /// The processor for a ready task, by the four steps, from its start and the need of store on
     /// each; the next number stands for a fresh one.
-    fn choose(&self, task: usize, starts: &Row, needs: &Row) -> Option<usize> {
-        let inputs = &self.inputs[task];
-        let arrival = inputs.arrival;
+    fn choose(&self, task: usize, starts: &Row, needs: &Row) -> Option<Turn> {
         let fits = ProcessorSet::with(|k| needs[k] <= self.sheet.limit);
         let open = fits & ProcessorSet::below(self.open);
-
-        let join = open & inputs.holders & ProcessorSet::with(|k| starts[k] < arrival);
-        if !join.is_empty() {
-            let barred = self.barred(task, starts);
-            let admissible = join.iter().filter(|&k| Some(k) != barred);
-            let join = admissible.min_by_key(|&k| starts[k]);
-            if join.is_some() {
-                return join;
-            }
+        let (join, barred) = self.join(task, starts, open);
+        let turn = |step, processor| Turn { step, processor, barred };
+        if let Some(k) = join {
+            return Some(turn(Step::Join, k));
         }
+        if let Some(k) = self.idle(task, open) {
+            return Some(turn(Step::Idle, k));
+        }
+        if self.open < self.sheet.processors.into() && fits.holds(self.open) {
+            return Some(turn(Step::Open, self.open));
+        }
+        Some(turn(Step::LastResort, least(open, starts)?))
+    }
 
+    /// The processor that a task joins, and whether the guard barred another that would come first.
+    fn join(&self, task: usize, starts: &Row, open: ProcessorSet) -> (Option<usize>, bool) {
+        let inputs = &self.inputs[task];
+        let earlier = ProcessorSet::with(|k| starts[k] < inputs.arrival);
+        let holding = open & inputs.holders & earlier;
+        let Some(first) = least(holding, starts) else { return (None, false) };
+        if self.barred(task, starts) != Some(first) {
+            return (Some(first), false);
+        }
+        (least(holding & ProcessorSet::with(|k| k != first), starts), true)
+    }
+
+    /// The processor on which a task follows others that nobody waits for but with it.
+    fn idle(&self, task: usize, open: ProcessorSet) -> Option<usize> {
         let reached = &self.sheet.successors[task];
+        let arrival = self.inputs[task].arrival;
         let ended = open & ProcessorSet::with(|k| self.ends[k] <= arrival);
         let idle = ended.iter().filter(|&k| self.successors[k].within(&self.unplaced, reached));
-        let idle = idle.min_by_key(|&k| Reverse(self.ends[k]));
-        if idle.is_some() {
-            return idle;
-        }
-
-        if self.open < self.sheet.processors.into() && fits.holds(self.open) {
-            return Some(self.open);
-        }
-        open.iter().min_by_key(|&k| starts[k])
+        idle.min_by_key(|&k| Reverse(self.ends[k]))
     }
 
     /// The processor, if any, that the guard bars for a task with these starts.
@@ -230,6 +263,11 @@ impl<'a> Board<'a> {
         let alone = u32::from(self.sheet.tasks[task].store) + inputs.bytes;
         array::from_fn(|k| self.stores[k] + alone - inputs.bytes_from[k])
     }
+}
+
+/// The processor of the least start, the lowest of several.
+fn least(processors: ProcessorSet, starts: &Row) -> Option<usize> {
+    processors.iter().min_by_key(|&k| starts[k])
 }
 
 /// What the placed predecessors of one task bring it, by the processor they are on.
@@ -336,8 +374,8 @@ mod tests {
     #[test]
     fn guard_is_needed_in_k3() {
         let sheet = Sheet::read(&trials::k3_sheet()).unwrap();
-        assert_eq!(Board::new(&sheet, true).place_all().unwrap().claim, 6);
-        assert_eq!(Board::new(&sheet, false).place_all().unwrap().claim, 7);
+        assert_eq!(Board::new(&sheet, true).place_all(|_| ()).unwrap().claim, 6);
+        assert_eq!(Board::new(&sheet, false).place_all(|_| ()).unwrap().claim, 7);
     }
 
     #[test]

@@ -30,11 +30,6 @@ impl ProcessorSet {
         k < MOST_PROCESSORS && self.0 >> k & 1 == 1
     }
 
-    /// Whether none is in.
-    pub fn is_empty(self) -> bool {
-        self.0 == 0
-    }
-
     /// Its processors in rising number.
     pub fn iter(self) -> impl Iterator<Item = usize> {
         let mut left = self.0;
@@ -64,7 +59,7 @@ mod tests {
         assert_eq!(set.iter().collect::<Vec<_>>(), [0, 3, 6, 9, 12, 15]);
         assert_eq!((set & ProcessorSet::below(6)).iter().collect::<Vec<_>>(), [0, 3]);
         assert!(set.holds(15) && !set.holds(14) && !set.holds(16));
-        assert!((set & ProcessorSet::with(|k| k == 1)).is_empty());
+        assert_eq!((set & ProcessorSet::with(|k| k == 1)).iter().next(), None);
         for count in [0, 1, 15, 16] {
             assert_eq!(ProcessorSet::below(count), ProcessorSet::with(|k| k < count));
         }

@@ -5,9 +5,10 @@
 use reference::checker::check;
 use reference::figures::{all, bundle, gauss_jordan_bundle, Figure};
 use reference::graph::levels;
-use reference::planner::{plan, Plan};
+use reference::planner::{plan, plan_with, Plan, Step};
 use reference::sheet::Sheet;
 use reference::Refusal;
+use Step::{Idle, Join, Open};
 
 fn figure(name: &str) -> Figure {
     all().into_iter().find(|figure| figure.name == name).expect(name)
@@ -15,6 +16,14 @@ fn figure(name: &str) -> Figure {
 
 fn planned(name: &str) -> Plan {
     plan(&figure(name).sheet()).expect("nothing needs store")
+}
+
+/// The steps that gave the tasks of a figure their processors, and how often the guard barred one.
+fn steps(name: &str) -> (Vec<Step>, usize) {
+    let mut turns = Vec::new();
+    plan_with(&figure(name).sheet(), |turn| turns.push(turn)).expect("nothing needs store");
+    let barred = turns.iter().filter(|turn| turn.barred).count();
+    (turns.into_iter().map(|turn| turn.step).collect(), barred)
 }
 
 fn starts(plan: &Plan) -> Vec<u32> {
@@ -46,6 +55,7 @@ fn scheduling_example() {
     assert_eq!(levels(&figure("000-F1").sheet()), [5, 3, 2, 7]);
     let plan = planned("000-F1");
     assert_eq!((plan.programmes.len(), plan.claim), (2, 5));
+    assert_eq!(steps("000-F1"), (vec![Open, Open, Join, Idle], 0));
     takes("000-F1", &[&[3, 1], &[2], &[0]], 5);
     // Without the guard.
     takes("000-F1", &[&[3, 2], &[0, 1]], 7);
@@ -64,6 +74,7 @@ fn bounded_example() {
         assert_eq!(starts(&plan), [0, 2, 1, 7, 8, 11]);
         assert_eq!(plan.claim, 13);
     }
+    assert_eq!(steps("000-F3"), (vec![Open, Join, Open, Join, Idle, Join], 0));
     takes("000-F3", &[&[0, 2, 5], &[1, 3], &[4]], 13);
 }
 

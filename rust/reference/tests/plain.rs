@@ -1,7 +1,6 @@
 //! The rules word for word, without any cleverness, held against the reference on made-up inputs.
 
-use inputs::sheets::{self, Shape};
-use inputs::{bundles, damage, Random};
+use inputs::{bundles, damage, sheets, Random};
 use reference::bundle::{from_values, Bundle, Command};
 use reference::checker::check;
 use reference::graph::levels;
@@ -320,29 +319,9 @@ fn plain_run(
     }
 }
 
-/// A sheet of at most this many tasks, mostly with weights that make ties and the guard matter.
+/// A telling sheet of at most this many tasks.
 fn telling(random: &mut Random, most: usize) -> Sheet {
-    let tasks = random.within(1..=most);
-    let shape = match random.below(3) {
-        0 => random.pick(&sheets::SHAPES),
-        1 => Shape::Sparse,
-        _ => Shape::Dense,
-    };
-    let mut values = sheets::with_shape(random, tasks, shape);
-    if !random.once_in(5) {
-        let (works, costs) = random.pick(&[(1, 3), (2, 5), (4, 8), (9, 9), (9, 20), (20, 100)]);
-        values.tasks.iter_mut().step_by(2).for_each(|work| *work = random.within(1..=works) as u16);
-        values
-            .links
-            .iter_mut()
-            .skip(2)
-            .step_by(4)
-            .for_each(|cost| *cost = random.below(costs) as u16);
-    }
-    if !random.once_in(4) {
-        values.limit = u32::MAX;
-    }
-    Sheet::read(&values.encode()).unwrap()
+    Sheet::read(&sheets::telling(random, most).encode()).unwrap()
 }
 
 #[test]
@@ -360,7 +339,11 @@ fn plans() {
     let mut random = Random::new(1);
     let mut refusals = 0;
     for round in 0..8000 {
-        let sheet = telling(&mut random, if round % 4 == 0 { 24 } else { 12 });
+        let sheet = match round % 4 {
+            0 => Sheet::read(&sheets::guarded(&mut random).encode()).unwrap(),
+            1 => telling(&mut random, 24),
+            _ => telling(&mut random, 12),
+        };
         let plain = Plain { sheet: &sheet, levels: levels(&sheet), placed: Vec::new(), open: 0 };
         match (plain.place_all(), plan(&sheet)) {
             (Err(task), Err(refusal)) => {

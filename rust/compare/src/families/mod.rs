@@ -3,6 +3,7 @@
 
 mod formats;
 mod machine;
+mod plans;
 
 use crate::comparison::{Comparison, Outcome};
 use crate::tally::Tally;
@@ -31,6 +32,14 @@ const FAMILIES: &[Family] = &[
     ("damaged values of bundles", formats::damaged_bundle_values),
     ("cut bundles", formats::cut_bundles),
     ("long inputs", formats::long_inputs),
+    ("trial plans", plans::trials),
+    ("any plans", plans::any),
+    ("plans with ties", plans::ties),
+    ("plans under the guard", plans::guarded),
+    ("plans with little store", plans::little_store),
+    ("plans with free messages", plans::free_messages),
+    ("plans of greatest values", plans::greatest_values),
+    ("plans of faulty sheets", plans::faulty_sheets),
     ("trial pairs", machine::trial_pairs),
     ("right pairs", machine::right),
     ("wrong claims", machine::wrong_claims),
