@@ -10,25 +10,25 @@ use Rattle.folds.specs.Folds.{pick}
 use Rattle.folds.specs.Answers.{Answer, value, refused, andThen, fitting, written}
 use Rattle.sheet.specs.Sheet.{Sheet}
 use Rattle.sheet.specs.Tables.{sheetIn}
-use Rattle.sheet.specs.declared.Reading.{Reading}
-use Rattle.sheet.specs.declared.Reading.the-variants as readings
-use Rattle.graph.specs.Opened.{OpenIs}
+use Rattle.sheet_reader.specs.declared.Reading.{Reading}
+use Rattle.sheet_reader.specs.declared.Reading.the-variants as readings
+use Rattle.levelling.specs.Opened.{OpenIs}
 use Rattle.bundle.specs.Bundle.{Bundle}
 use Rattle.bundle.specs.Format.{readBundle}
 use Rattle.bundle.specs.Writing.{bundleValues, valueBytes}
-use Rattle.bundle.specs.Whole.{readValues, writeValues}
+use Rattle.bundle_writer.specs.Whole.{readValues, writeValues}
 use Rattle.bundle.specs.Counts.{Sized}
-use Rattle.bundle.specs.Copies.{copiedOf, ValuesIs}
-use Rattle.bundle.specs.Writes.{writtenOf, WriteIs}
-use Rattle.bundle.specs.declared.values.Copied.{Copied}
-use Rattle.bundle.specs.declared.values.Copied.the-variants as copies
-use Rattle.bundle.specs.declared.writer.Judged.{Judged}
-use Rattle.bundle.specs.declared.writer.Judged.the-variants as judged
+use Rattle.bundle_writer.specs.Copies.{copiedOf, ValuesIs}
+use Rattle.bundle_writer.specs.Writes.{writtenOf, WriteIs}
+use Rattle.bundle_writer.specs.declared.values.Copied.{Copied}
+use Rattle.bundle_writer.specs.declared.values.Copied.the-variants as copies
+use Rattle.bundle_writer.specs.declared.writer.Judged.{Judged}
+use Rattle.bundle_writer.specs.declared.writer.Judged.the-variants as judged
 use Rattle.answers.specs.Values.{commandTable, claimAfter, valueCount}
 use Rattle.answers.specs.Parts.{outcomeOf, PartIs, BundleIs}
 use Rattle.answers.specs.declared.ending.Outcome.{Outcome}
 use Rattle.answers.specs.declared.ending.Outcome.the-variants as ends
-use Rattle.graph.proofs.Opens.{open-value, open-refusal}
+use Rattle.levelling.proofs.Opens.{open-value, open-refusal}
 use Rattle.answers.proofs.Opening.{part-goes}
 
 -- the bundle whose values fit, or 12

@@ -1,4 +1,3 @@
 pub mod Opening
 pub mod Bundling
 pub mod Running
-pub mod Planning

@@ -14,17 +14,17 @@ use Rattle.numbers.proofs.Laws.{stored-one}
 use Rattle.sheet.specs.Sheet.{Sheet, taskCount, linkCount}
 use Rattle.sheet.specs.Tables.{sheetIn, Loaded}
 use Rattle.sheet.specs.Writing.{taskValues, linkValues, sheetOfValues, valueBytes, Narrow}
-use Rattle.sheet.specs.declared.Reading.{Reading}
-use Rattle.sheet.specs.declared.Reading.the-variants.{Read, Refused}
+use Rattle.sheet_reader.specs.declared.Reading.{Reading}
+use Rattle.sheet_reader.specs.declared.Reading.the-variants.{Read, Refused}
 use Rattle.sheet.proofs.Rows.{ranged, tasks-in, links-in}
-use Rattle.sheet.proofs.Stores.{all-next, all-none}
-use Rattle.sheet.proofs.Backs.{values-tasks, values-links, values-again, values-narrow, written-length}
+use Rattle.sheet_writer.proofs.Stores.{all-next, all-none}
+use Rattle.sheet_reader.proofs.Backs.{values-tasks, values-links, values-again, values-narrow, written-length}
 use Rattle.graph.specs.Graph.{level, readSheet}
-use Rattle.graph.specs.Opened.{OpenIs}
-use Rattle.graph.proofs.Opens.{open-refusal, open-value}
+use Rattle.levelling.specs.Opened.{OpenIs}
+use Rattle.levelling.proofs.Opens.{open-refusal, open-value}
 use Rattle.graph.proofs.Proper.{read-form}
 use Rattle.bundle.specs.Counts.{Sized}
-use Rattle.bundle.specs.Writes.{Counted}
+use Rattle.bundle_writer.specs.Writes.{Counted}
 use Rattle.answers.specs.Values.{levelsOf, tabled, boardOf, taskTable, linkTable, boardAfter, no-place}
 use Rattle.answers.specs.Parts.{outcomeOf, PartIs, SheetIs}
 use Rattle.answers.specs.declared.ending.Outcome.{Outcome}

@@ -11,14 +11,14 @@ ghost use Rattle.checker.specs.Checker.{check};
 ghost use Rattle.answers.specs.Values.{no-place};
 ghost use Rattle.answers.specs.Parts.{EndIs, PartIs, BundleIs};
 use crate::ending::Outcome;
-use bundle::values;
-use bundle::values::Copied;
-use bundle::writer;
-use bundle::writer::Judged;
+use bundle_writer::values;
+use bundle_writer::values::Copied;
+use bundle_writer::writer;
+use bundle_writer::writer::Judged;
 use checker::Verdict;
-use graph::open;
-use sheet::Reading;
+use levelling::open;
 use sheet::tables;
+use sheet_reader::Reading;
 
 // The values of a bundle.
 pub fn read(

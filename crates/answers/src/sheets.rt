@@ -10,15 +10,15 @@ ghost use Rattle.sheet.specs.Sheet.{taskCount};
 ghost use Rattle.sheet.specs.Tables.{sheetIn, Loaded};
 ghost use Rattle.sheet.specs.Writing.{valueBytes};
 ghost use Rattle.graph.specs.Graph.{readSheet};
-ghost use Rattle.graph.specs.Found.{Levelled};
+ghost use Rattle.levelling.specs.Found.{Levelled};
 ghost use Rattle.answers.specs.Values.{levelsOf, tabled, boardOf};
 ghost use Rattle.answers.specs.Parts.{PartIs, SheetIs};
 use crate::ending::Outcome;
-use graph::open;
-use sheet::Reading;
+use levelling::open;
 use sheet::tables;
-use sheet::unload;
-use sheet::writer;
+use sheet_reader::Reading;
+use sheet_writer::unload;
+use sheet_writer::writer;
 
 // The level words, at the front of `out`.
 fn copy_levels(w: &[u32], out: &mut [u32])

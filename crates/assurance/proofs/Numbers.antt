@@ -1,21 +1,22 @@
 -- No refusal has the number 0, so a returned 0 is a result.
-use Prim.Native.Nat.{ℕ, zero, suc, _+_, _<_}
+use Prim.Native.Nat.{ℕ, zero, suc, _<_}
 use mathlib.Core.Path.{_≡_, refl, sym}
 use mathlib.Core.Bool.{Bool, true, false, not}
 use mathlib.Core.Option.{Option, none, some}
-use mathlib.Core.List.{List, [], _∷_}
+use mathlib.Core.List.{List}
 use native.Mathlib.Omega.{arith}
-use lib.ListN.{length, drop}
-use lib.Dec.{ltb, eqb}
-use Rattle.folds.specs.Folds.{pick, both}
+use lib.ListN.{length}
+use lib.Dec.{ltb}
+use Rattle.folds.specs.Folds.{pick}
 use Rattle.folds.specs.Answers.{Answer, value, refused, andThen, unless, longEnough, fitting, number}
-use Rattle.folds.proofs.Tests.{not-value, not-some}
-use Rattle.commands.specs.Commands.{Format, verdict, judgeKind, judge, onward, follow, readFrom, readAll}
-use Rattle.sheet.specs.Sheet.{Sheet, taskCount}
-use Rattle.sheet.specs.Format as sheets
+use Rattle.folds.proofs.Tests.{not-value}
+use Rattle.sheet.specs.Sheet.{Sheet}
+use Rattle.sheet.specs.Format.{readForm}
+use Rattle.sheet.proofs.Numbers.{form-numbered}
 use Rattle.graph.specs.Graph.{circle, readSheet}
-use Rattle.bundle.specs.Bundle.{Command, Bundle}
-use Rattle.bundle.specs.Format as bundles
+use Rattle.bundle.specs.Bundle.{Bundle}
+use Rattle.bundle.specs.Format.{readBundle}
+use Rattle.bundle.proofs.Numbers.{bundle-numbered}
 use Rattle.bundle.specs.Writing.{bundleBytes}
 use Rattle.messages.specs.Messages.{at26, at27, at28}
 use Rattle.messages.specs.Admitted.{fitting as fittingStore, messaging, admitted, admittedBytes}
@@ -58,85 +59,15 @@ numbered-long n lent a h = numbered-pick (ltb lent n) (refused 13 n) a (numbered
 pub numbered-fitting : (lent : ℕ) (r : List ℕ) → Numbered (fitting lent r)
 numbered-fitting lent r = numbered-pick (ltb lent (length r)) (refused 12 (length r)) (value r) (numbered-refused 12 (length r) (omega arith)) (numbered-value r)
 
--- a number that may be there
-record Positive (o : Option ℕ) : Type 0 where
-  is : (n : ℕ) → o ≡ some n → 0 < n
-
-positive-none : Positive none
-positive-none = record { is = λ n e. not-some e }
-
-positive-pick : {o : Option ℕ} (t : Bool) (m : ℕ) → 0 < m → Positive o → Positive (pick t (some m) o)
-positive-pick true m h g = record { is = λ n e. let p : m ≡ n = cc in omega (arith, p) }
-positive-pick false m h g = g
-
--- a format whose numbers are not 0
-module _ {P K A : Type 0} (F : Format P K A) (cut : 0 < F .cut) (strange : 0 < F .strange)
-    (fault : (p : P) (k : K) (b : List ℕ) → Positive (F .fault p k b)) (ended : (p : P) (e : ℕ) (b : List ℕ) → Numbered (F .ended p e b)) where
-  numbered-from : (n : ℕ) (p : P) (e : ℕ) (b : List ℕ) → Numbered (readFrom F n p e b)
-  unfolding readFrom judge
-  numbered-from zero p e b = numbered-refused (F .cut) e cut
-  numbered-from (suc n) p e b = by b (numbered-from n)
-    where
-      Rest : Type 0
-      Rest = (q : P) (i : ℕ) (d : List ℕ) → Numbered (readFrom F n q i d)
-
-      on : (k : K) (c : Bool) → Rest → Numbered (onward F (readFrom F n) p e b k c)
-      on k true rest = ended p e (drop 1 b)
-      on k false rest = rest _ _ _
-
-      told : (k : K) (o : Option ℕ) → Positive o → Rest → Numbered (follow F (readFrom F n) p e b (verdict F k o))
-      told k none h rest = on k (F .closes k) rest
-      told k (some r) h rest = numbered-refused r e (h .is r refl)
-
-      kind : (o : Option K) (d : List ℕ) → Rest → Numbered (follow F (readFrom F n) p e b (judgeKind F p o d))
-      kind none d rest = numbered-refused (F .strange) e strange
-      kind (some k) d rest = told k (F .fault p k d) (fault p k d) rest
-
-      by : (d : List ℕ) → Rest → Numbered (follow F (readFrom F n) p e b (judge F p d))
-      by [] rest = numbered-refused (F .cut) e cut
-      by (c ∷ d) rest = kind (F .kindOf c) d rest
-
-sheet-fault : (p : sheets.Progress) (k : sheets.Kind) (b : List ℕ) → Positive (sheets.fault p k b)
-unfolding sheets.fault
-sheet-fault p k b =
-    positive-pick (not (sheets.inTurn p k)) 3 (omega arith)
-    (positive-pick (ltb (length b) (sheets.width k)) 1 (omega arith)
-    (positive-pick (sheets.full (p .sheet) k) 5 (omega arith)
-    (positive-pick (sheets.outOfRange k b) 6 (omega arith)
-    (positive-pick (sheets.loose (p .sheet) k b) 7 (omega arith)
-    (positive-pick (sheets.doubled (p .sheet) k b) 8 (omega arith)
-    positive-none)))))
-
-sheet-ended : (p : sheets.Progress) (e : ℕ) (b : List ℕ) → Numbered (sheets.ended p e b)
-unfolding sheets.ended
-sheet-ended p e b =
-    numbered-pick (ltb 0 (length b)) (refused 4 (e + 1)) (pick (eqb (taskCount (p .sheet)) 0) (refused 9 e) (value (p .sheet))) (numbered-refused 4 (e + 1) (omega arith))
-    (numbered-pick (eqb (taskCount (p .sheet)) 0) (refused 9 e) (value (p .sheet)) (numbered-refused 9 e (omega arith)) (numbered-value (p .sheet)))
-
 numbered-sheet : (b : List ℕ) → Numbered (readSheet b)
-unfolding readSheet sheets.readForm readAll
+unfolding readSheet
 numbered-sheet b =
-    numbered-then (sheets.readForm b) (λ s. unless 10 (circle s) (value s))
-    (numbered-from sheets.sheetFormat (omega arith) (omega arith) sheet-fault sheet-ended (suc (length b)) sheets.fresh 0 b)
+    numbered-then (readForm b) (λ s. unless 10 (circle s) (value s)) (record { some = λ n at e. form-numbered b n at e .0 })
     (λ s. numbered-unless 10 (circle s) (value s) (omega arith) (numbered-value s))
 
 module _ (s : Sheet) where
-  bundle-fault : (ps : List (List Command)) (k : bundles.Kind) (b : List ℕ) → Positive (bundles.fault s ps k b)
-  unfolding bundles.fault
-  bundle-fault ps k b =
-      positive-pick (both (bundles.inside k) (eqb (length ps) 0)) 23 (omega arith)
-      (positive-pick (ltb (length b) (bundles.width k)) 21 (omega arith)
-      (positive-pick (bundles.wrongNumber s (length ps) k b) 23 (omega arith)
-      (positive-pick (bundles.unknown s k b) 25 (omega arith)
-      positive-none)))
-
-  bundle-ended : (ps : List (List Command)) (e : ℕ) (b : List ℕ) → Numbered (bundles.ended ps e b)
-  unfolding bundles.ended
-  bundle-ended ps e b = numbered-pick (ltb 4 (length b)) (refused 24 (e + 5)) _ (numbered-refused 24 (e + 5) (omega arith)) (numbered-value _)
-
-  numbered-bundle : (b : List ℕ) → Numbered (bundles.readBundle s b)
-  unfolding bundles.readBundle readAll
-  numbered-bundle b = numbered-from (bundles.bundleFormat s) (omega arith) (omega arith) bundle-fault bundle-ended (suc (length b)) [] 0 b
+  numbered-bundle : (b : List ℕ) → Numbered (readBundle s b)
+  numbered-bundle b = record { some = λ n at e. omega (arith, bundle-numbered s b n at e .0) }
 
   numbered-checked : (b : Bundle) → Numbered (checked s b)
   unfolding checked closing
@@ -153,13 +84,13 @@ module _ (s : Sheet) where
 
 pub numbered-check : (sheet bundle : List ℕ) → Numbered (check sheet bundle)
 unfolding check
-numbered-check sheet bundle = numbered-then (readSheet sheet) _ (numbered-sheet sheet) (λ s. numbered-then (bundles.readBundle s bundle) _ (numbered-bundle s bundle) (numbered-checked s))
+numbered-check sheet bundle = numbered-then (readSheet sheet) _ (numbered-sheet sheet) (λ s. numbered-then (readBundle s bundle) _ (numbered-bundle s bundle) (numbered-checked s))
 
 pub numbered-starting : (sheet bundle : List ℕ) → Numbered (starting sheet bundle)
 unfolding starting admittedBytes
 numbered-starting sheet bundle =
     numbered-then (readSheet sheet) _ (numbered-sheet sheet)
-    (λ s. numbered-then (admittedBytes s bundle) _ (numbered-then (bundles.readBundle s bundle) _ (numbered-bundle s bundle) (numbered-admitted s)) (λ b. numbered-value (s, b)))
+    (λ s. numbered-then (admittedBytes s bundle) _ (numbered-then (readBundle s bundle) _ (numbered-bundle s bundle) (numbered-admitted s)) (λ b. numbered-value (s, b)))
 
 -- the planner's only number of its own is 11
 module _ (s : Sheet) (guard : Schedule → ℕ → ℕ → Bool) where

@@ -20,7 +20,7 @@ use Rattle.sheet.specs.Sheet.{Sheet, noTask, noLink, taskCount, linkCount}
 use Rattle.bundle.specs.Bundle.{Command}
 use Rattle.bundle.specs.Format.{Kind, opening, running, sending, receiving, claiming, kindOf, fault, bundleFormat}
 use Rattle.bundle.specs.Counts.{Sized, faultBelow, limitOf, countFormat}
-use Rattle.bundle.specs.Answers.{numbered, isMessage}
+use Rattle.bundle.specs.Kinds.{numbered, isMessage}
 
 module _ (m n : ℕ) (b : List ℕ) (at : ℕ) where
   pub fault-open : faultBelow m n opening (drop (at + 1) b) ≡ firstOf ((ltb (length b - (at + 1)) 1, 21) ∷ (either (not (eqb (getD b (at + 1) 0) n)) (leb m (getD b (at + 1) 0)), 23) ∷ [])

@@ -1,4 +1,3 @@
-pub mod Firsts
 pub mod Walks
 pub mod Steps
 pub mod Backs
@@ -7,11 +6,4 @@ pub mod Parts
 pub mod Rounds
 pub mod Faults
 pub mod Lying
-pub mod Scans
-pub mod Judging
-pub mod Puts
-pub mod Plain
-pub mod Copying
-pub mod Told
-pub mod Valued
-pub mod Written
+pub mod Numbers

@@ -20,7 +20,7 @@ use Rattle.bundle.specs.Bundle.{Command, run, send, receive, Bundle}
 use Rattle.bundle.specs.Format.{Kind, opening, running, sending, receiving, claiming, kindOf, width, inside, wrongNumber, unknown, fault, within, ended, bundleFormat}
 use Rattle.bundle.specs.Writing.{commandBytes, claimBytes}
 use Rattle.bundle.specs.Fits.{Known}
-use Rattle.bundle.proofs.Firsts.{firstOf-none, none-firstOf}
+use Rattle.folds.proofs.Firsts.{firstOf-none, none-firstOf}
 
 module _ (s : Sheet) (ps : List (List Command)) where
   -- what a command that nothing refuses satisfies

@@ -4,8 +4,4 @@ pub mod Writing
 pub mod Fits
 pub mod Counts
 pub mod Lies
-pub mod Answers
-pub mod ReadIs
-pub mod Whole
-pub mod Writes
-pub mod Copies
+pub mod Kinds

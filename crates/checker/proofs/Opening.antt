@@ -6,11 +6,11 @@ use lib.ListN.{getD}
 use Rattle.folds.specs.Answers.{Answer, andThen}
 use Rattle.sheet.specs.Sheet.{Sheet}
 use Rattle.sheet.specs.Tables.{sheetIn}
-use Rattle.sheet.specs.declared.Reading.{Reading}
-use Rattle.sheet.specs.declared.Reading.the-variants as readings
+use Rattle.sheet_reader.specs.declared.Reading.{Reading}
+use Rattle.sheet_reader.specs.declared.Reading.the-variants as readings
 use Rattle.graph.specs.Graph.{readSheet}
-use Rattle.graph.specs.Opened.{OpenIs}
-use Rattle.graph.proofs.Opens.{open-refusal, open-value}
+use Rattle.levelling.specs.Opened.{OpenIs}
+use Rattle.levelling.proofs.Opens.{open-refusal, open-value}
 use Rattle.graph.proofs.Proper.{read-form}
 use Rattle.bundle.specs.Format.{readBundle}
 use Rattle.messages.proofs.Written.{fields-read}

@@ -4,8 +4,8 @@ ghost use lib.ListN.{length};
 ghost use Rattle.workspace.specs.Area.{fixed};
 ghost use Rattle.checker.specs.Verdicts.{BytesIs};
 use crate::Verdict;
-use graph::open;
-use sheet::Reading;
+use levelling::open;
+use sheet_reader::Reading;
 
 // 1 to 10 of the sheet, then 21 to 30 of the bundle.
 pub fn check(sheet: &[u8], bundle: &[u8], work: &mut [u32]) -> Verdict

@@ -8,7 +8,7 @@ use native.Mathlib.Omega.{arith}
 use native.Mathlib.Numerals.{add-one}
 use lib.ListN.{length, getD, drop, length-drop, drop-of-length-le}
 use lib.Seq.{drop-cons}
-use Rattle.folds.specs.Answers.{Answer, value, refused}
+use Rattle.folds.specs.Answers.{Answer, refused}
 use Rattle.commands.specs.Reading.{Going}
 use Rattle.commands.specs.Commands.{Format, Outcome, refuse, go, verdict, judgeKind, judge, onward, follow, readFrom, readAll}
 

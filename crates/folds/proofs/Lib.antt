@@ -1,4 +1,5 @@
 pub mod Tests
+pub mod Firsts
 pub mod Loops
 pub mod Laws
 pub mod Lists

@@ -1,16 +1,5 @@
 pub mod Reaches
 pub mod Ranks
 pub mod Plain
-pub mod Reading
 pub mod Forms
 pub mod Proper
-pub mod Frames
-pub mod Heads
-pub mod Pushes
-pub mod Lights
-pub mod Walks
-pub mod Turns
-pub mod Starts
-pub mod Spreads
-pub mod Ends
-pub mod Opens

@@ -2,19 +2,19 @@
 use Prim.Native.Nat.{ℕ, zero, suc, _+_, _≤_, _<_}
 use native.Mathlib.Omega.{arith}
 use native.Mathlib.Decide.{decLt}
-use mathlib.Core.Bool.{Bool, true, false, false≢true, true≢false}
+use mathlib.Core.Bool.{Bool, true, false, true≢false}
 use mathlib.Core.Option.{Option, none, some}
-use mathlib.Core.Path.{_≡_, refl, sym, ap, subst, _∙_}
-use mathlib.Core.Logic.{_≢_, _⊎_, inl, inr, ⊎-elim}
+use mathlib.Core.Path.{_≡_, refl, sym, _∙_}
+use mathlib.Core.Logic.{_≢_, _⊎_, inl, inr}
 use lib.Dec.{eqb}
 use borrow.Author.Tests.{eqb-true, eqb-false, eq-eqb, ne-eqb}
-use Rattle.folds.specs.Folds.{pick, greatest, first}
+use Rattle.folds.specs.Folds.{greatest, first}
 use Rattle.folds.proofs.Laws.{term-le-greatest, greatest-some, greatest-le, first-some, first-none, none-first, first-lowest, first-found}
 use Rattle.sheet.specs.Sheet.{Sheet, taskCount, linkCount, workOf, sourceOf, targetOf, costOf}
-use Rattle.graph.specs.Graph.{reaches, onCircle, circle, levelBy, levelWithin, level}
+use Rattle.graph.specs.Graph.{onCircle, circle, levelBy, levelWithin, level}
 use Rattle.graph.specs.Paths.{Path, here, along, steps, weight, Last, LevelIs, Circle, LowestOnCircle}
 use Rattle.graph.proofs.Reaches.{Declared, reaches-path, path-reaches-all}
-use Rattle.graph.proofs.Ranks.{Ranked, path-falls, ranked-falling, rankOf, none-ranked}
+use Rattle.graph.proofs.Ranks.{path-falls, ranked-falling, rankOf, none-ranked}
 
 module _ (s : Sheet) where
   -- a link out of t that gives it the most, where there is a link

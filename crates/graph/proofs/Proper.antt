@@ -6,13 +6,14 @@ use mathlib.Core.Path.{_≡_, refl, sym, ap, _∙_}
 use mathlib.Core.List.{List}
 use Rattle.folds.specs.Answers.{Answer, value, refused, unless, andThen}
 use Rattle.folds.proofs.Tests.{andThen-value, unless-value, not-value}
-use Rattle.sheet.specs.Sheet.{Sheet, taskCount, linkCount, workOf, storeOf, sourceOf, targetOf, costOf, bytesOf}
+use Rattle.sheet.specs.Sheet.{Sheet, taskCount, linkCount, workOf, sourceOf, targetOf}
 use Rattle.sheet.specs.Format.{readForm}
 use Rattle.graph.specs.Graph.{circle, level, readSheet}
 use Rattle.graph.specs.Paths.{LevelIs, LowestOnCircle}
 use Rattle.graph.proofs.Reaches.{Declared}
 use Rattle.graph.proofs.Plain.{level-plain, circle-lowest, lowest-circle}
-use Rattle.graph.proofs.Forms.{Bytes, Formed, Read, Sized, form-read, form-low, form-sizes}
+use Rattle.sheet.proofs.Numbers.{form-numbered}
+use Rattle.graph.proofs.Forms.{Bytes, Sized, form-read, form-sizes}
 
 -- a sheet that `readSheet` gives; the widths of its numbers are in `Sized`, where its bytes are bytes
 pub record Proper (s : Sheet) : Type 0 where
@@ -39,19 +40,18 @@ read-form b s e =
     same h = cc
 
 pub form-declared : (b : List ℕ) (s : Sheet) → readForm b ≡ value s → Declared s
-form-declared b s e = let f = form-read b s e .formed in record { source = f .source; target = f .target }
+form-declared b s e = let f = form-read b s e in record { source = f .source; target = f .target }
 
 pub proper : (b : List ℕ) (s : Sheet) → readSheet b ≡ value s → Proper s
 proper b s e =
     let q = read-form b s e in
-    let r = form-read b s (q .0) in
-    let f = r .formed in
+    let f = form-read b s (q .0) in
     record {
-      some = r .some;
+      some = f .some;
       tasks = f .tasks;
       links = f .links;
-      board-some = r .board-some;
-      board-few = r .board-few;
+      board-some = f .board-some;
+      board-few = f .board-few;
       works = f .works;
       source = f .source;
       target = f .target;
@@ -87,7 +87,7 @@ refused-loop b t e = go (readForm b) refl e
 
     go : (a : Answer Sheet) → readForm b ≡ a → andThen a (λ s. unless 10 (circle s) (value s)) ≡ refused 10 t → LoopAt b t
     go (value s) f q = by s (circle s) f refl q
-    go (refused n at) f q = let r : n ≡ 10 = cc in absurd (omega (arith, form-low b n at f))
+    go (refused n at) f q = let r : n ≡ 10 = cc in absurd (omega (arith, form-numbered b n at f .1))
 
 pub loop-refused : (b : List ℕ) (t : ℕ) → LoopAt b t → readSheet b ≡ refused 10 t
 unfolding readSheet

@@ -1,19 +1,18 @@
 -- Ranks that fall along every link: there is one exactly where there is no circle, and a table that solves the levels' equation is then the levels.
-use Prim.Native.Nat.{ℕ, zero, suc, _+_, _*_, _≤_, _<_}
+use Prim.Native.Nat.{ℕ, zero, suc, _+_, _≤_, _<_}
 use native.Mathlib.Omega.{arith}
 use native.Mathlib.Decide.{ℕ-discrete}
-use mathlib.Core.Bool.{Bool, true, false, false≢true, true≢false}
-use mathlib.Core.Option.{Option, none, some}
+use mathlib.Core.Bool.{Bool, true, false}
+use mathlib.Core.Option.{none}
 use mathlib.Core.Path.{_≡_, refl, sym, ap, _∙_}
-use mathlib.Core.Logic.{_⊎_, inl, inr}
-use lib.Dec.{eqb}
+use mathlib.Core.Logic.{inl, inr}
 use borrow.Author.Tests.{eq-eqb, ne-eqb}
-use Rattle.folds.specs.Folds.{pick, bit, sum, greatest}
+use Rattle.folds.specs.Folds.{bit, sum, greatest}
 use Rattle.folds.proofs.Laws.{sum-le, greatest-cong, first-none, none-first}
-use Rattle.sheet.specs.Sheet.{Sheet, taskCount, linkCount, workOf, sourceOf, targetOf, costOf}
+use Rattle.sheet.specs.Sheet.{Sheet, taskCount, linkCount, workOf, sourceOf, targetOf}
 use Rattle.graph.specs.Graph.{reaches, onCircle, circle, levelBy, levelWithin, level}
 use Rattle.graph.specs.Paths.{Path, here, along, steps}
-use Rattle.graph.proofs.Reaches.{Declared, sum-less, bit-le, bit-mono, reaches-path, reaches-link, reaches-all, reaches-along}
+use Rattle.graph.proofs.Reaches.{Declared, sum-less, bit-le, bit-mono, reaches-path, reaches-along}
 
 -- each link from a task of rank below top leads to a lower rank
 pub record Falling (s : Sheet) (top : ℕ) (rank : ℕ → ℕ) : Type 0 where

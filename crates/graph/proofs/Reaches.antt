@@ -1,5 +1,5 @@
 -- What `reaches` says of links and paths: as many links as there are tasks reach whatever a path of any length does.
-use Prim.Native.Nat.{ℕ, zero, suc, _+_, _*_, _-_, _≤_, _<_}
+use Prim.Native.Nat.{ℕ, zero, suc, _+_, _-_, _≤_, _<_}
 use native.Mathlib.Omega.{arith}
 use native.Mathlib.Nat.{zero-add, suc-add}
 use native.Mathlib.Decide.{decLt}
@@ -9,7 +9,7 @@ use mathlib.Core.Path.{_≡_, refl, sym, ap, subst, _∙_}
 use mathlib.Core.Logic.{_≢_, _⊎_, inl, inr, ⊎-elim}
 use lib.Dec.{eqb}
 use borrow.Author.Tests.{eqb-true, eq-eqb}
-use Rattle.folds.specs.Folds.{pick, bit, both, either, any, sum, first}
+use Rattle.folds.specs.Folds.{bit, both, either, any, sum, first}
 use Rattle.folds.proofs.Tests.{both-parts, parts-both, either-part, part-either}
 use Rattle.folds.proofs.Laws.{any-found, any-some, sum-le, sum-mono, sum-terms, first-some, first-none}
 use Rattle.sheet.specs.Sheet.{Sheet, taskCount, linkCount, sourceOf, targetOf}

@@ -1,6 +1,2 @@
-pub mod Paths
 pub mod Graph
-pub mod Words
-pub mod Peeling
-pub mod Found
-pub mod Opened
+pub mod Paths

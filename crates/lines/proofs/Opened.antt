@@ -6,11 +6,11 @@ use lib.ListN.{length}
 use Rattle.folds.specs.Answers.{Answer, value, refused, andThen}
 use Rattle.sheet.specs.Sheet.{Sheet}
 use Rattle.sheet.specs.Tables.{sheetIn}
-use Rattle.sheet.specs.declared.Reading.{Reading}
-use Rattle.sheet.specs.declared.Reading.the-variants.{Read, Refused}
+use Rattle.sheet_reader.specs.declared.Reading.{Reading}
+use Rattle.sheet_reader.specs.declared.Reading.the-variants.{Read, Refused}
 use Rattle.graph.specs.Graph.{readSheet}
-use Rattle.graph.specs.Opened.{OpenIs}
-use Rattle.graph.proofs.Opens.{open-refusal, open-value}
+use Rattle.levelling.specs.Opened.{OpenIs}
+use Rattle.levelling.proofs.Opens.{open-refusal, open-value}
 use Rattle.planner.specs.Schedule.{Schedule}
 use Rattle.planner.specs.Planner.{planned}
 use Rattle.schedule.specs.Layout.{scheduleIn}

@@ -4,13 +4,13 @@ ghost use Prim.Native.Nat.{ℕ, _≤_};
 ghost use lib.ListN.{length};
 ghost use Rattle.workspace.specs.Area.{fixed};
 ghost use Rattle.sheet.specs.Tables.{sheetIn, Loaded};
-ghost use Rattle.graph.specs.Found.{Levelled};
+ghost use Rattle.levelling.specs.Found.{Levelled};
 ghost use Rattle.schedule.specs.Layout.{scheduleIn};
 ghost use Rattle.placing.specs.Choosing.{Single};
 ghost use Rattle.listing.specs.Listing.{refusalLine, scheduleLines};
 ghost use Rattle.lines.specs.Listed.{FitIs, ListIs, plannedLines};
-use graph::open;
-use sheet::Reading;
+use levelling::open;
+use sheet_reader::Reading;
 use turns::Planned;
 
 mod fields;

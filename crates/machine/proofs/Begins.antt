@@ -7,11 +7,11 @@ use Rattle.folds.specs.Answers.{Answer, value, refused, andThen}
 use Rattle.folds.proofs.Tests.{not-value}
 use Rattle.sheet.specs.Sheet.{Sheet}
 use Rattle.sheet.specs.Tables.{sheetIn}
-use Rattle.sheet.specs.declared.Reading.{Reading}
-use Rattle.sheet.specs.declared.Reading.the-variants as readings
+use Rattle.sheet_reader.specs.declared.Reading.{Reading}
+use Rattle.sheet_reader.specs.declared.Reading.the-variants as readings
 use Rattle.graph.specs.Graph.{readSheet}
-use Rattle.graph.specs.Opened as graph
-use Rattle.graph.proofs.Opens.{open-refusal, open-value}
+use Rattle.levelling.specs.Opened as graph
+use Rattle.levelling.proofs.Opens.{open-refusal, open-value}
 use Rattle.graph.proofs.Proper.{read-form}
 use Rattle.bundle.specs.Bundle.{Bundle}
 use Rattle.messages.specs.Admitted.{admittedBytes, judgedOf}

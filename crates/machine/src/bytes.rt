@@ -3,9 +3,9 @@ ghost use Prim.Native.Nat.{_≤_};
 ghost use lib.ListN.{length};
 ghost use Rattle.workspace.specs.Area.{fixed};
 ghost use Rattle.machine.specs.Starts.{BytesIs};
-use graph::open;
+use levelling::open;
 use messages::Judged;
-use sheet::Reading;
+use sheet_reader::Reading;
 
 // 1 to 10 and 21 to 28; where none applies, the fresh state.
 pub fn start(sheet: &[u8], bundle: &[u8], work: &mut [u32], state: &mut [u32]) -> Judged

@@ -13,10 +13,10 @@ use Rattle.bundle.specs.Format.{readBundle}
 use Rattle.bundle.specs.Counts.{Sized, commandCount}
 use Rattle.bundle.specs.Fits.{Bytes}
 use Rattle.bundle.specs.Lies.{Laid}
-use Rattle.bundle.specs.Answers.{readingOf}
-use Rattle.bundle.specs.ReadIs.{ReadIs}
-use Rattle.bundle.specs.declared.reader.Reading.{Reading}
-use Rattle.bundle.specs.declared.reader.Reading.the-variants.{Read, Refused as Unread}
+use Rattle.bundle_reader.specs.Answers.{readingOf}
+use Rattle.bundle_reader.specs.ReadIs.{ReadIs}
+use Rattle.bundle_reader.specs.declared.bytes.Reading.{Reading}
+use Rattle.bundle_reader.specs.declared.bytes.Reading.the-variants.{Read, Refused as Unread}
 use Rattle.bundle.proofs.Rounds.{read-formed}
 use Rattle.bundle.proofs.Faults.{sheetBy, sized-by}
 use Rattle.messages.specs.Messages.{at26, at27, at28, Published}

@@ -9,7 +9,7 @@ use crate::notes::note_all;
 use crate::rules::not_once;
 use crate::rules::wrong_message;
 use crate::stores::over_store;
-use bundle::reader::Reading;
+use bundle_reader::bytes::Reading;
 
 fn wide(x: u32) -> usize
     ensures { λ r. ⌜ r ≡ x ⌝ }
@@ -94,7 +94,7 @@ pub fn judge(
     requires { ⌜ (p < 17) × (n ≤ 256) × (l ≤ 1024) × (4352 ≤ length (now w)) ⌝ }
     ensures { λ r. ⌜ JudgeIs (now (sheet .entry)) (now (bundle .entry)) (now (w .entry)) (now (w .exit)) p n l limit r ⌝ }
 {
-    match bundle::reader::read(bundle, p, n, l, w) {
+    match bundle_reader::bytes::read(bundle, p, n, l, w) {
         Reading::Refused(r, at) => Judged::Refused(r, at),
         Reading::Read(m, c, claim) => { rules(sheet, bundle, w, n, l, limit, m, c, wide(claim)) }
     }

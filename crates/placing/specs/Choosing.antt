@@ -9,7 +9,7 @@ use Rattle.sheet.specs.Sheet.{Sheet, taskCount, linkCount, sourceOf, targetOf}
 use Rattle.sheet.specs.Tables.{sheetIn}
 use Rattle.planner.specs.Schedule.{Schedule}
 use Rattle.planner.specs.Placing.{ready}
-use Rattle.graph.specs.Found.{Levelled}
+use Rattle.levelling.specs.Found.{Levelled}
 use Rattle.schedule.specs.Layout.{scheduleIn}
 use Rattle.arrivals.specs.Kept.{countedBy, intoFrom, oneBy, known, Kept}
 

@@ -7,17 +7,17 @@ use lib.ListN.{length, getD}
 use Rattle.folds.specs.Answers.{Answer, value, refused, andThen, fitting}
 use Rattle.sheet.specs.Sheet.{Sheet, taskCount}
 use Rattle.sheet.specs.Tables.{sheetIn}
-use Rattle.sheet.specs.declared.Reading.{Reading}
-use Rattle.sheet.specs.declared.Reading.the-variants as readings
+use Rattle.sheet_reader.specs.declared.Reading.{Reading}
+use Rattle.sheet_reader.specs.declared.Reading.the-variants as readings
 use Rattle.chains.specs.Chains.{Chained}
 use Rattle.chains.specs.declared.End.the-variants.{Source, Target}
 use Rattle.graph.specs.Graph.{readSheet}
-use Rattle.graph.specs.Opened.{OpenIs}
-use Rattle.graph.proofs.Opens.{open-refusal, open-value}
+use Rattle.levelling.specs.Opened.{OpenIs}
+use Rattle.levelling.proofs.Opens.{open-refusal, open-value}
 use Rattle.graph.proofs.Proper.{Proper, proper}
 use Rattle.bundle.specs.Writing.{bundleBytes}
-use Rattle.bundle.specs.declared.writer.Judged.{Judged}
-use Rattle.bundle.specs.declared.writer.Judged.the-variants.{Refused}
+use Rattle.bundle_writer.specs.declared.writer.Judged.{Judged}
+use Rattle.bundle_writer.specs.declared.writer.Judged.the-variants.{Refused}
 use Rattle.planner.specs.Schedule.{Schedule}
 use Rattle.planner.specs.Placing.{barred}
 use Rattle.planner.specs.Planner.{planned, bundleOf, plan}

@@ -8,8 +8,8 @@ use borrow.Author.Tests.{lt-ltb, le-ltb}
 use lib.ListN.{length, drop}
 use Rattle.folds.specs.Answers.{Answer, value, refused, fitting, written}
 use Rattle.numbers.specs.Number.{stored}
-use Rattle.bundle.specs.Writes.{writtenOf}
-use Rattle.bundle.specs.declared.writer.Judged.the-variants.{Long, Refused}
+use Rattle.bundle_writer.specs.Writes.{writtenOf}
+use Rattle.bundle_writer.specs.declared.writer.Judged.the-variants.{Long, Refused}
 use Rattle.programmes.specs.Written.{WriteIs}
 
 pub write-refused : (old : List ℕ) {a : Answer (List ℕ)} {n at : ℕ} → a ≡ refused n at → WriteIs a old old (Refused n at)

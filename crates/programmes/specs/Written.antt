@@ -7,8 +7,8 @@ use Rattle.folds.specs.Answers.{Answer, andThen, fitting, written}
 use Rattle.sheet.specs.Sheet.{Sheet}
 use Rattle.graph.specs.Graph.{readSheet}
 use Rattle.bundle.specs.Writing.{bundleBytes}
-use Rattle.bundle.specs.Writes.{writtenOf}
-use Rattle.bundle.specs.declared.writer.Judged.{Judged}
+use Rattle.bundle_writer.specs.Writes.{writtenOf}
+use Rattle.bundle_writer.specs.declared.writer.Judged.{Judged}
 use Rattle.planner.specs.Schedule.{Schedule}
 use Rattle.planner.specs.Planner.{planned, bundleOf}
 

@@ -15,7 +15,7 @@ mod measuring;
 pub mod whole;
 mod writing;
 
-use bundle::writer::Judged;
+use bundle_writer::writer::Judged;
 use chains::End;
 use sheet::tables;
 

@@ -3,9 +3,9 @@ ghost use Prim.Native.Nat.{_≤_};
 ghost use lib.ListN.{length};
 ghost use Rattle.workspace.specs.Area.{fixed};
 ghost use Rattle.programmes.specs.Written.{planFor, PlanIs};
-use bundle::writer::Judged;
-use graph::open;
-use sheet::Reading;
+use bundle_writer::writer::Judged;
+use levelling::open;
+use sheet_reader::Reading;
 use turns::Planned;
 
 // The bundle of a sheet's plan at the front of `out`, or 1 to 12, which change nothing in `out`.

@@ -5,7 +5,7 @@ ghost use Rattle.sheet.specs.Sheet.{taskCount};
 ghost use Rattle.sheet.specs.Tables.{sheetIn};
 ghost use Rattle.planner.specs.Schedule.{placed};
 ghost use Rattle.planner.specs.Placing.{ready, partlyReady, arrival, priority, ahead, firstReady, firstPartlyReady};
-ghost use Rattle.graph.specs.Found.{Levelled};
+ghost use Rattle.levelling.specs.Found.{Levelled};
 ghost use Rattle.schedule.specs.Layout.{scheduleIn};
 ghost use Rattle.arrivals.specs.Kept.{Kept};
 ghost use Rattle.readiness.specs.Found.{foundOf, Below, stepped};

@@ -11,7 +11,7 @@ use Rattle.sheet.specs.Tables.{sheetIn}
 use Rattle.sheet.proofs.Rows.{tasks-in}
 use Rattle.graph.specs.Graph.{level}
 use Rattle.planner.specs.Schedule.{Schedule, nowhere, placeOf, startOf, finishOf}
-use Rattle.graph.specs.Found.{Levelled}
+use Rattle.levelling.specs.Found.{Levelled}
 use Rattle.schedule.specs.Layout.{scheduleIn}
 
 module _ (w : List ℕ) where

@@ -6,7 +6,7 @@ ghost use Rattle.workspace.specs.Area.{fixed};
 ghost use Rattle.sheet.specs.Sheet.{taskCount};
 ghost use Rattle.sheet.specs.Tables.{sheetIn, Loaded};
 ghost use Rattle.graph.specs.Graph.{level};
-ghost use Rattle.graph.specs.Found.{Levelled};
+ghost use Rattle.levelling.specs.Found.{Levelled};
 ghost use Rattle.planner.specs.Schedule.{placeOf, startOf, finishOf};
 ghost use Rattle.schedule.specs.Layout.{scheduleIn, putWords};
 

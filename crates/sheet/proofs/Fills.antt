@@ -1,25 +1,22 @@
 -- The tables and pair bits with a task or a link more.
-use Prim.Native.Nat.{ℕ, zero, suc, _+_, _*_, _/_, _%_, _^_, _≤_, _<_}
-use mathlib.Core.Bool.{Bool, true, false}
+use Prim.Native.Nat.{ℕ, _+_, _*_, _/_, _%_, _^_, _≤_, _<_}
+use mathlib.Core.Bool.{true, false}
 use mathlib.Core.Path.{_≡_, refl, ap, ap₂, sym, _∙_, subst}
 use mathlib.Core.Logic.{_≢_, ⊎-elim}
 use mathlib.Core.List.{List, [], _∷_, _++_}
 use native.Mathlib.Omega.{arith}
-use borrow.Author.Tests.{eqb-true, eqb-false, eq-eqb, ne-eqb}
+use borrow.Author.Tests.{eqb-false, eq-eqb}
 use lib.ListN.{length, getD, set, length-set}
 use lib.Seq.{getD-set-same, getD-set-other}
 use lib.Dec.{eqb}
-use Rattle.folds.specs.Folds.{both, either, any, listed}
+use Rattle.folds.specs.Folds.{listed}
 use Rattle.folds.proofs.Tests.{equal-or}
-use Rattle.folds.proofs.Loops.{any-one, listed-one}
-use Rattle.folds.proofs.Laws.{any-cong}
+use Rattle.folds.proofs.Loops.{listed-one}
 use Rattle.folds.proofs.Lists.{listed-cong}
 use Rattle.workspace.specs.Area.{fixed}
-use Rattle.sheet.specs.Sheet.{Sheet, Task, Link, taskCount, linkCount, sourceOf, targetOf}
-use Rattle.sheet.specs.Format.{joins, joinsBy}
-use Rattle.sheet.specs.Tables.{taskIn, linkIn, sheetIn, Loaded, bitAt, pairIn, Filling, taskWords, linkWords, pairWords, boardWords, Blanked, FillingOf}
-use Rattle.sheet.proofs.Rows.{tasks-in, links-in, source-in, target-in, sheet-frame, loaded-frame}
-use Rattle.sheet.proofs.Bits.{bit-set, bit-other, bit-room, bit-none, bit-le}
+use Rattle.sheet.specs.Sheet.{Task, Link}
+use Rattle.sheet.specs.Tables.{taskIn, linkIn, sheetIn, bitAt, pairIn, taskWords, linkWords, pairWords, Blanked}
+use Rattle.sheet.proofs.Bits.{bit-set, bit-other, bit-room, bit-le}
 
 -- a bit that is not set leaves room for it
 pub pair-room : (w : List ℕ) (a b : ℕ) → pairIn w a b ≡ false → getD w (18432 + (8 * a + b / 32)) 0 < 4294967296

@@ -1,25 +1,24 @@
 -- Links that join two tasks, of a sheet with one link more; and the tables that are being filled, kept right by each command.
-use Prim.Native.Nat.{ℕ, zero, suc, _+_, _*_, _/_, _%_, _≤_, _<_}
+use Prim.Native.Nat.{ℕ, _+_, _*_, _/_, _%_, _≤_, _<_}
 use mathlib.Core.Bool.{Bool, true, false}
-use mathlib.Core.Path.{_≡_, refl, ap, ap₂, sym, _∙_, subst}
+use mathlib.Core.Path.{_≡_, refl, ap, ap₂, sym, _∙_}
 use mathlib.Core.Logic.{_≢_, ⊎-elim}
 use mathlib.Core.List.{List, [], _∷_, _++_}
 use native.Mathlib.Omega.{arith}
-use native.Mathlib.Numerals.{add-one}
 use native.Mathlib.Decide.{ℕ-discrete}
 use borrow.Author.Tests.{eq-eqb, ne-eqb}
 use lib.ListN.{length, getD, set, length-set, length-append, List·getD-append}
 use lib.Seq.{getD-at, getD-set-same, getD-set-other}
 use lib.Dec.{eqb}
 use Rattle.folds.specs.Folds.{both, either, any, listed}
-use Rattle.folds.proofs.Tests.{equal-or, both-false, either-true, below-suc}
+use Rattle.folds.proofs.Tests.{equal-or, both-false, either-true}
 use Rattle.folds.proofs.Loops.{any-one, any-zero, listed-zero}
 use Rattle.folds.proofs.Laws.{any-cong}
 use Rattle.workspace.specs.Area.{fixed}
-use Rattle.sheet.specs.Sheet.{Sheet, Task, Link, noLink, taskCount, linkCount, sourceOf, targetOf}
+use Rattle.sheet.specs.Sheet.{Sheet, Link, noLink, linkCount, sourceOf, targetOf}
 use Rattle.sheet.specs.Format.{joins, joinsBy}
 use Rattle.sheet.specs.Tables.{taskIn, linkIn, sheetIn, Loaded, bitAt, pairIn, Filling, taskWords, linkWords, pairWords, boardWords, Blanked, FillingOf}
-use Rattle.sheet.proofs.Rows.{sheet-frame, loaded-frame}
+use Rattle.sheet.proofs.Rows.{sheet-frame}
 use Rattle.sheet.proofs.Bits.{bit-none}
 use Rattle.sheet.proofs.Fills.{pair-away, pair-long, pair-same, pair-other, task-away, task-long, task-count, task-work, task-store, sheet-task, link-away, link-long, link-count, link-source, link-target, link-cost, link-bytes, sheet-link}
 

@@ -1,25 +1,24 @@
 -- What refuses each kind of command, by the bytes at its offset; and what holds of a command that nothing refuses.
-use Prim.Native.Nat.{ℕ, zero, suc, _+_, _*_, _-_, _<_, _≤_, zero-le}
-use mathlib.Core.Path.{_≡_, refl, sym, ap, ap₂, subst, _∙_}
+use Prim.Native.Nat.{ℕ, _+_, _-_, _<_, _≤_, zero-le}
+use mathlib.Core.Path.{_≡_, refl, sym, ap, ap₂, _∙_}
 use mathlib.Core.Bool.{Bool, true, false, not}
 use mathlib.Core.Option.{Option, none, some}
-use mathlib.Core.List.{List, [], _∷_, _++_}
+use mathlib.Core.List.{List, [], _∷_}
 use mathlib.Core.Logic.{_≢_}
 use native.Mathlib.Omega.{arith}
 use native.Mathlib.Nat.{add-zero, add-assoc}
-use native.Mathlib.Numerals.{add-one}
 use borrow.Author.Tests.{ne-eqb, eq-eqb, le-ltb, lt-ltb, le-leb, lt-leb, not-false, ltb-false}
 use lib.ListN.{length, getD, drop, length-drop}
 use lib.Seq.{getD-drop}
 use lib.Dec.{eqb, ltb, leb}
-use Rattle.folds.specs.Folds.{pick, both, either, firstOf}
+use Rattle.folds.specs.Folds.{pick, both, firstOf}
 use Rattle.folds.proofs.Tests.{not-some}
 use Rattle.numbers.specs.Number.{numberAt}
 use Rattle.numbers.proofs.Laws.{numberAt-drop}
-use Rattle.commands.specs.Commands.{Outcome, refuse, go, judge, judgeKind}
-use Rattle.commands.proofs.Going.{judge-at, judge-end, comes, Comes}
+use Rattle.commands.specs.Commands.{refuse, go, judge, judgeKind}
+use Rattle.commands.proofs.Going.{judge-at, comes}
 use Rattle.sheet.specs.Sheet.{Sheet, taskCount, linkCount}
-use Rattle.sheet.specs.Format.{Kind, board, task, link, end, kindOf, width, Progress, fresh, inTurn, full, outOfRange, loose, doubled, fault, joins, sheetFormat}
+use Rattle.sheet.specs.Format.{Kind, board, task, link, end, kindOf, width, Progress, fresh, inTurn, full, outOfRange, loose, doubled, fault, sheetFormat}
 use Rattle.sheet.specs.Faults.{begun, taskFault, linkFault, numbered}
 use Rattle.sheet.specs.Tables.{sheetIn, pairIn, Filling}
 use Rattle.sheet.proofs.Rows.{tasks-in, links-in}

@@ -3,8 +3,5 @@ pub mod Bits
 pub mod Fills
 pub mod Joins
 pub mod Judging
-pub mod Scans
-pub mod Given
-pub mod Stores
 pub mod Rounds
-pub mod Backs
+pub mod Numbers

@@ -225,19 +225,19 @@ pub record LinkFits (l : Link) : Type 0 where
   pub cost : l .cost < 65536
   pub bytes : l .bytes < 65536
 
-record Ends (n : ℕ) (l : Link) : Type 0 where
-  source : l .source < n
-  target : l .target < n
+pub record Ends (n : ℕ) (l : Link) : Type 0 where
+  pub source : l .source < n
+  pub target : l .target < n
 
 -- what the faults ask of the sheet so far, by its lists
 pub record Shaped (s : Sheet) : Type 0 where
-  few-tasks : length (s .tasks) ≤ 256
-  few-links : length (s .links) ≤ 1024
-  few-processors : s .processors ≤ 16
-  some-processor : 1 ≤ s .processors
-  works : (i : ℕ) → i < length (s .tasks) → 1 ≤ getD (s .tasks) i noTask .work
-  ends : (i : ℕ) → i < length (s .links) → Ends (length (s .tasks)) (getD (s .links) i noLink)
-  apart : (i j : ℕ) → i < j → j < length (s .links) → getD (s .links) i noLink .source ≡ getD (s .links) j noLink .source → getD (s .links) i noLink .target ≡ getD (s .links) j noLink .target → ⊥
+  pub few-tasks : length (s .tasks) ≤ 256
+  pub few-links : length (s .links) ≤ 1024
+  pub few-processors : s .processors ≤ 16
+  pub some-processor : 1 ≤ s .processors
+  pub works : (i : ℕ) → i < length (s .tasks) → 1 ≤ getD (s .tasks) i noTask .work
+  pub ends : (i : ℕ) → i < length (s .links) → Ends (length (s .tasks)) (getD (s .links) i noLink)
+  pub apart : (i j : ℕ) → i < j → j < length (s .links) → getD (s .links) i noLink .source ≡ getD (s .links) j noLink .source → getD (s .links) i noLink .target ≡ getD (s .links) j noLink .target → ⊥
 
 -- its numbers fit the bytes that they are read from
 record Sized (s : Sheet) (d : List ℕ) : Type 0 where
@@ -354,6 +354,16 @@ size-board b small =
       links = λ i l. absurd (omega arith);
     }
 
+-- no two links join the same tasks in the same direction
+pub shaped-single : (s : Sheet) → Shaped s → (i j : ℕ) → i < linkCount s → j < linkCount s → sourceOf s i ≡ sourceOf s j → targetOf s i ≡ targetOf s j → i ≡ j
+unfolding linkCount sourceOf targetOf
+shaped-single s h i j p q a b = one (decLt i j) (decLt j i)
+  where
+    one : Dec (i < j) → Dec (j < i) → i ≡ j
+    one (yes l) m = absurd (h .apart i j l q a b)
+    one (no l) (yes m) = absurd (h .apart j i m p (sym a) (sym b))
+    one (no l) (no m) = omega arith
+
 -- the shape and the sizes together
 pub proper : (s : Sheet) → Shaped s × (0 < taskCount s) → s .limit < 4294967296 → ((i : ℕ) → i < taskCount s → TaskFits (getD (s .tasks) i noTask))
     → ((i : ℕ) → i < linkCount s → LinkFits (getD (s .links) i noLink)) → Proper s
@@ -376,13 +386,8 @@ proper s (h, n) limit tasks links =
       some-processor = h .some-processor;
       limit = limit;
       some-work = h .works;
-      single = λ i j p q a b. one i j p q a b (decLt i j) (decLt j i);
+      single = shaped-single s h;
     }
-  where
-    one : (i j : ℕ) → i < linkCount s → j < linkCount s → sourceOf s i ≡ sourceOf s j → targetOf s i ≡ targetOf s j → Dec (i < j) → Dec (j < i) → i ≡ j
-    one i j p q a b (yes l) m = absurd (h .apart i j l q a b)
-    one i j p q a b (no l) (yes m) = absurd (h .apart j i m p (sym a) (sym b))
-    one i j p q a b (no l) (no m) = omega arith
 
 -- a sheet that is read is proper
 pub read-ranged : (b : List ℕ) (s : Sheet) → ((k : ℕ) → getD b k 0 < 256) → readForm b ≡ value s → Proper s

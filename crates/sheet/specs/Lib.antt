@@ -3,5 +3,3 @@ pub mod Format
 pub mod Writing
 pub mod Tables
 pub mod Faults
-pub mod Answers
-pub mod Scanning

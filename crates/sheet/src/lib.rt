@@ -1,13 +1,3 @@
-// A task sheet: read from any bytes or from its values into the tables of the work area, and written from its values.
-pub mod pairs;
-pub mod reader;
-pub mod tables;
-pub mod unload;
-pub mod values;
-pub mod writer;
-
-// A sheet was read, or refused with a number and a place.
-pub enum Reading {
-    Read,
-    Refused(u8, usize),
-}
+// A task sheet in the tables of the work area.
+pub mod pairs; // pairs.rt: a bit for each pair of tasks that a link joins
+pub mod tables; // tables.rt: the tables' numbers

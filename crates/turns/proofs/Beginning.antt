@@ -12,7 +12,7 @@ use Rattle.sheet.proofs.Rows.{ranged}
 use Rattle.planner.specs.Schedule.{Schedule, nowhere, empty, placeOf}
 use Rattle.planner.specs.Placing.{barred}
 use Rattle.planner.specs.Planner.{turns, plannedBy, planned}
-use Rattle.graph.specs.Found.{Levelled}
+use Rattle.levelling.specs.Found.{Levelled}
 use Rattle.schedule.specs.Layout.{scheduleIn}
 use Rattle.schedule.proofs.Rows.{schedule-frame, levelled-frame, order-long}
 use Rattle.chains.specs.Chains.{Chained}

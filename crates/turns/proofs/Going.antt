@@ -11,7 +11,7 @@ use Rattle.sheet.specs.Tables.{sheetIn, Loaded, Ranged}
 use Rattle.sheet.proofs.Rows.{ranged}
 use Rattle.planner.specs.Schedule.{Schedule, put}
 use Rattle.planner.specs.Placing.{ready, endOf, startOn}
-use Rattle.graph.specs.Found.{Levelled}
+use Rattle.levelling.specs.Found.{Levelled}
 use Rattle.schedule.specs.Layout.{scheduleIn, putWords}
 use Rattle.schedule.proofs.Rows.{schedule-frame, levelled-frame}
 use Rattle.schedule.proofs.Puts.{put-low, put-high, put-long, put-placed, schedule-put}

@@ -7,7 +7,7 @@ use Rattle.folds.specs.Answers.{Answer, value, refused}
 use Rattle.sheet.specs.Sheet.{Sheet, taskCount}
 use Rattle.sheet.specs.Tables.{sheetIn, Loaded}
 use Rattle.planner.specs.Schedule.{Schedule, empty, finishOf}
-use Rattle.graph.specs.Found.{Levelled}
+use Rattle.levelling.specs.Found.{Levelled}
 use Rattle.schedule.specs.Layout.{scheduleIn}
 use Rattle.chains.specs.Chains.{Chained}
 use Rattle.chains.specs.Frames.{Only}

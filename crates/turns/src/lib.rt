@@ -6,7 +6,7 @@ ghost use Rattle.sheet.specs.Sheet.{taskCount};
 ghost use Rattle.sheet.specs.Tables.{sheetIn, Loaded};
 ghost use Rattle.planner.specs.Placing.{ready, startOn, barred};
 ghost use Rattle.planner.specs.Planner.{choice, placedFrom, placeOn, turn, turns, planned};
-ghost use Rattle.graph.specs.Found.{Levelled};
+ghost use Rattle.levelling.specs.Found.{Levelled};
 ghost use Rattle.schedule.specs.Layout.{scheduleIn};
 ghost use Rattle.placing.specs.Choosing.{Single};
 ghost use Rattle.turns.specs.Turns.{answerOf, Going, Cleared, Emptied, Afterwards};

@@ -7,7 +7,6 @@ ghost use Rattle.zeldrupa.specs.Promises.{Gives, GivesSheet, GivesBundle
 ghost use Rattle.zeldrupa.specs.Stepping.{GivesStart, GivesRun, GivesStep, GivesLeft, GivesProcessor, GivesStamp};
 use answers::bundles;
 use answers::ending;
-use answers::plans;
 use answers::sheets;
 use answers::stepping;
 

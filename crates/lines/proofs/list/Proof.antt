@@ -1,7 +1,7 @@
 -- `lines::list` meets its contract.
 use denote.Ref.{now}
 use native.Mathlib.Omega.{arith}
-use Rattle.graph.proofs.Opens.{open-loaded, open-levelled}
+use Rattle.levelling.proofs.Opens.{open-loaded, open-levelled}
 use Rattle.lines.proofs.Opened.{list-refused, list-read, open-single}
 use borrow.Author.Needs.{needs}
 use Rattle.lines.proofs.list.Statement.{statement}

@@ -1,5 +1,5 @@
 use Rattle.answers.proofs.Bundling.{bundle-no, bundle-refused, bundle-yes}
-use Rattle.graph.proofs.Opens.{open-loaded}
+use Rattle.levelling.proofs.Opens.{open-loaded}
 use Rattle.answers.proofs.Opening.{open-counted, open-sized}
 use borrow.Author.Needs.{needs}
 use denote.Ref.{now}

@@ -2,7 +2,7 @@ use Rattle.bundle.specs.Format.{readBundle}
 use Rattle.folds.specs.Answers.{andThen, fitting}
 use Rattle.bundle.specs.Writing.{valueBytes}
 use Rattle.answers.proofs.Bundling.{writing-no, writing-yes}
-use Rattle.graph.proofs.Opens.{open-loaded}
+use Rattle.levelling.proofs.Opens.{open-loaded}
 use Rattle.answers.proofs.Opening.{open-counted, open-sized, part-refused}
 use borrow.Author.Needs.{needs}
 use denote.Ref.{now}

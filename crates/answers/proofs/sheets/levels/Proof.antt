@@ -1,5 +1,5 @@
 use Rattle.folds.specs.Answers.{fitting}
-use Rattle.graph.proofs.Opens.{open-levelled, open-loaded}
+use Rattle.levelling.proofs.Opens.{open-levelled, open-loaded}
 use Rattle.answers.proofs.Opening.{levels-length, part-done, part-refused, part-short}
 use Rattle.answers.specs.Values.{levelsOf}
 use borrow.Author.Needs.{needs}

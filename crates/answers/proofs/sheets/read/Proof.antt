@@ -1,5 +1,5 @@
 use Prim.Native.Nat.{_*_, ℕ}
-use Rattle.graph.proofs.Opens.{open-loaded}
+use Rattle.levelling.proofs.Opens.{open-loaded}
 use Rattle.answers.proofs.Opening.{links-short, sheet-done, sheet-refused, tasks-short}
 use borrow.Author.Needs.{needs}
 use denote.Ref.{now}

@@ -1,7 +1,7 @@
 use Prim.Native.Nat.{_<_, ℕ}
 use Rattle.folds.specs.Answers.{fitting}
 use Rattle.sheet.specs.Writing.{valueBytes}
-use Rattle.graph.proofs.Opens.{open-loaded, open-value}
+use Rattle.levelling.proofs.Opens.{open-loaded, open-value}
 use Rattle.answers.proofs.Opening.{few-values, narrow-values, need-length, part-done, part-refused, part-short, whole-values}
 use borrow.Author.Needs.{needs}
 use denote.Ref.{now}

@@ -1,5 +1,5 @@
 -- `bundle::kinds::is_message` meets its contract.
-use Rattle.bundle.specs.Answers.{isMessage}
+use Rattle.bundle.specs.Kinds.{isMessage}
 use borrow.Author.Tests.{eq-eqb, ne-eqb}
 use Rattle.bundle.proofs.kinds.is_message.Statement.{statement}
 use Rattle.bundle.proofs.kinds.is_message.Tie as tie

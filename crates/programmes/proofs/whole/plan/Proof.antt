@@ -3,7 +3,7 @@ use mathlib.Core.Path.{_∙_, ap, sym}
 use Rattle.turns.specs.Turns.{answerOf}
 use borrow.Author.Needs.{needs}
 use denote.Ref.{now}
-use Rattle.graph.proofs.Opens.{open-levelled, open-loaded}
+use Rattle.levelling.proofs.Opens.{open-levelled, open-loaded}
 use Rattle.programmes.proofs.Plans.{open-single, plan-done, plan-none, plan-refused, plan-scheduled}
 use Rattle.schedule.specs.Layout.{scheduleIn}
 use Rattle.programmes.proofs.whole.plan.Statement.{statement}

@@ -1,0 +1,23 @@
+-- The code's answers as the definitions have them.
+use Prim.Native.Nat.{ℕ, _+_}
+use mathlib.Core.Bool.{Bool}
+use mathlib.Core.Option.{Option, none, some}
+use mathlib.Core.List.{List}
+use lib.ListN.{length}
+use lib.Dec.{eqb, ltb}
+use Rattle.folds.specs.Folds.{pick, either}
+use Rattle.folds.specs.Answers.{Answer, value, refused}
+use Rattle.numbers.specs.Number.{numberAt}
+use Rattle.bundle.specs.Bundle.{Bundle, programmeCount}
+use Rattle.bundle.specs.Counts.{commandCount}
+use Rattle.bundle_reader.specs.declared.bytes.Reading.{Reading}
+use Rattle.bundle_reader.specs.declared.bytes.Reading.the-variants.{Read, Refused}
+
+-- what reading a bundle gives: its programmes, the commands in them and its claim, or the refusal
+unfoldable pub readingOf : Answer Bundle → Reading
+readingOf (value b) = Read (programmeCount b) (commandCount b) (b .claim)
+readingOf (refused r e) = Refused r e
+
+-- what the claim at an offset closes, behind n programmes with m commands
+unfoldable pub closedOf : List ℕ → ℕ → ℕ → ℕ → Reading
+closedOf b at n m = pick (ltb (at + 5) (length b)) (Refused 24 (at + 5)) (Read n m (numberAt 4 b (at + 1)))

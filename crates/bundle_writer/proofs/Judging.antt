@@ -1,0 +1,309 @@
+-- Values judged as the reader would judge their bytes: the state of that, and the ways on and out.
+use Prim.Native.Nat.{ℕ, suc, _+_, _*_, _<_, _≤_}
+use mathlib.Core.Path.{_≡_, refl, sym, ap, subst, _∙_}
+use mathlib.Core.Bool.{Bool, true, false, true≢false}
+use mathlib.Core.Option.{Option, none, some}
+use mathlib.Core.Logic.{⊎-elim}
+use mathlib.Core.List.{List, [], _∷_, _++_}
+use native.Mathlib.Omega.{arith}
+use native.Mathlib.Numerals.{add-one, add-two}
+use borrow.Author.Tests.{lt-ltb, le-ltb, eq-eqb, ne-eqb}
+use lib.ListN.{length, getD, drop, length-append, drop-of-length-le}
+use lib.Seq.{drop-cons}
+use lib.Dec.{eqb}
+use Rattle.folds.specs.Folds.{pick, both}
+use Rattle.folds.specs.Answers.{refused}
+use Rattle.numbers.specs.Number.{numberBytes}
+use Rattle.numbers.proofs.Laws.{number-of-bytes}
+use Rattle.commands.specs.Commands.{Outcome, refuse, go, verdict, judgeKind, judge}
+use Rattle.commands.specs.Reading.{Going}
+use Rattle.commands.proofs.Going.{comes, starts, goes, refuses, ends}
+use Rattle.sheet.specs.Sheet.{Sheet}
+use Rattle.bundle.specs.Bundle.{Command}
+use Rattle.bundle.specs.Format.{Kind, opening, running, sending, receiving, claiming, kindOf, width, inside, after, closes, ended, bundleFormat, readBundle}
+use Rattle.bundle.specs.Writing.{claimBytes, operandBytes, valueBytes}
+use Rattle.bundle.specs.Counts.{Sized, faultBelow, limitOf, countFormat}
+use Rattle.bundle.specs.Kinds.{numbered, isMessage}
+use Rattle.bundle_writer.specs.Writes.{judgedOf, RefusalIs, knownFault, openFault, cutKind, cutNumber}
+use Rattle.bundle_writer.specs.declared.writer.Judged.the-variants.{Long, Refused}
+use Rattle.bundle.proofs.Steps.{on-claim}
+use Rattle.bundle.proofs.Parts.{drop-operand, length-within}
+use Rattle.bundle.proofs.Faults.{judge-sized, message-kind, strange-kind, verdict-clear, verdict-refused}
+
+-- the faults of commands whose operands are there
+module _ (m n x : ℕ) (b : List ℕ) where
+  fault-running : faultBelow m n running (x ∷ b) ≡ knownFault m n x
+  unfolding faultBelow
+  fault-running = rw (le-ltb (suc (length b)) 1 (omega arith))
+
+  fault-opening : faultBelow m n opening (x ∷ b) ≡ openFault m n x
+  unfolding faultBelow
+  fault-opening = rw (le-ltb (suc (length b)) 1 (omega arith))
+
+  fault-sending : x < 65536 → faultBelow m n sending (numberBytes 2 x ++ b) ≡ knownFault m n x
+  unfolding faultBelow
+  fault-sending h = rw (le-ltb (suc (suc (length b))) 2 (omega arith), number-of-bytes 2 x b h)
+
+  fault-receiving : x < 65536 → faultBelow m n receiving (numberBytes 2 x ++ b) ≡ knownFault m n x
+  unfolding faultBelow
+  fault-receiving h = rw (le-ltb (suc (suc (length b))) 2 (omega arith), number-of-bytes 2 x b h)
+
+  fault-claiming : faultBelow m n claiming (numberBytes 4 x ++ b) ≡ pick (eqb n 0) (some 23) none
+  unfolding faultBelow
+  fault-claiming = rw (le-ltb (suc (suc (suc (suc (length b))))) 4 (omega arith))
+
+module _ (p t l n : ℕ) where
+  judge-head : (c : ℕ) (o : Option Kind) (b : List ℕ) → kindOf c ≡ o → judge (countFormat p t l) n (c ∷ b) ≡ judgeKind (countFormat p t l) n o b
+  unfolding judge
+  judge-head c o b e = ap (λ (o : Option Kind). judgeKind (countFormat p t l) n o b) e
+
+  -- a command byte that nothing follows
+  judge-cut : (c : ℕ) (o : Option Kind) → kindOf c ≡ o → judge (countFormat p t l) n (c ∷ []) ≡ refuse (cutKind n o)
+  unfolding faultBelow
+  judge-cut c none e = judge-head c none [] e
+  judge-cut c (some k) e = judge-head c (some k) [] e ∙ by k (both (inside k) (eqb n 0)) refl
+    where
+      by : (k : Kind) (q : Bool) → both (inside k) (eqb n 0) ≡ q → judgeKind (countFormat p t l) n (some k) [] ≡ refuse (pick q 23 21)
+      by k true e = rw e
+      by opening false e = refl
+      by running false e = rw e
+      by sending false e = rw e
+      by receiving false e = rw e
+      by claiming false e = rw e
+
+-- the number that refuses a cut command, by its byte
+pub cut-known : (n c v : ℕ) (k : Kind) → c ≡ v → kindOf v ≡ some k → cutNumber n c ≡ pick (both (inside k) (eqb n 0)) 23 21
+unfolding cutNumber
+cut-known n c v k e f = ap (cutKind n) (ap kindOf e ∙ f)
+
+pub cut-message : (n c : ℕ) → isMessage c ≡ true → cutNumber n c ≡ pick (eqb n 0) 23 21
+unfolding cutNumber
+cut-message n c e = ⊎-elim (λ q. ap (cutKind n) q) (λ q. ap (cutKind n) q) (message-kind c e)
+
+pub cut-strange : (n c : ℕ) → isMessage c ≡ false → (c ≡ 0x52 → ⊥) → (c ≡ 0x50 → ⊥) → (c ≡ 0x5A → ⊥) → 22 ≡ cutNumber n c
+unfolding cutNumber
+cut-strange n c e f g h = ap (cutKind n) (sym (strange-kind c e f g h))
+
+-- the values from index i on
+pub values-at : (vs : List ℕ) (claim i : ℕ) → i + 1 < length vs
+    → valueBytes (drop i vs) claim ≡ getD vs i 0 ∷ (operandBytes (kindOf (getD vs i 0)) (getD vs (i + 1) 0) ++ valueBytes (drop (i + 2) vs) claim)
+unfolding valueBytes
+values-at vs claim i h = rw (drop-cons vs i 0 (omega arith), add-one, drop-cons vs (suc i) 0 (omega arith), add-two)
+
+values-cut : (vs : List ℕ) (claim i : ℕ) → i + 1 ≡ length vs → valueBytes (drop i vs) claim ≡ getD vs i 0 ∷ []
+unfolding valueBytes
+values-cut vs claim i h = rw (drop-cons vs i 0 (omega arith), drop-of-length-le vs {i = suc i} (omega arith))
+
+pub values-end : (vs : List ℕ) (claim i : ℕ) → length vs ≤ i → valueBytes (drop i vs) claim ≡ claimBytes claim
+unfolding valueBytes
+values-end vs claim i h = rw (drop-of-length-le vs {i = i} h)
+
+pub some-bytes : (vs : List ℕ) (claim : ℕ) → 1 ≤ length (valueBytes vs claim)
+unfolding valueBytes
+some-bytes [] claim = omega arith
+some-bytes (x ∷ []) claim = omega arith
+some-bytes (x ∷ y ∷ vs) claim = omega arith
+
+length-operand : (k : Kind) (x : ℕ) → length (operandBytes (some k) x) ≡ width k
+length-operand opening x = refl
+length-operand running x = refl
+length-operand sending x = refl
+length-operand receiving x = refl
+length-operand claiming x = refl
+
+-- for one sheet and one claim: the programmes of the values so far, and that reading on gives the whole answer
+pub record Judging (s : Sheet) (vs : List ℕ) (claim n at i : ℕ) : Type 0 where
+  pub ps : List (List Command)
+  pub count : length ps ≡ n
+  pub going : Going (bundleFormat s) (readBundle s (valueBytes vs claim)) ps at (valueBytes (drop i vs) claim)
+  pub size : at + length (valueBytes (drop i vs) claim) ≡ length (valueBytes vs claim)
+
+-- how many programmes are open behind a command of kind k
+abbrev pub openedBehind : ℕ → Kind → ℕ
+openedBehind n opening = n + 1
+openedBehind n running = n
+openedBehind n sending = n
+openedBehind n receiving = n
+openedBehind n claiming = n
+
+length-after : (ps : List (List Command)) (n : ℕ) → length ps ≡ n → (k : Kind) (b : List ℕ) → length (after ps k b) ≡ openedBehind n k
+length-after ps n e opening b = length-append ps ([] ∷ []) ∙ ap (λ (i : ℕ). i + 1) e
+length-after ps n e running b = length-within ps _ ∙ e
+length-after ps n e sending b = length-within ps _ ∙ e
+length-after ps n e receiving b = length-within ps _ ∙ e
+length-after ps n e claiming b = e
+
+module _ {s : Sheet} {vs : List ℕ} {claim n at i : ℕ} {p t l : ℕ} (z : Sized s p t l) (g : Judging s vs claim n at i) where
+  judged : (o : Outcome Kind) → judge (countFormat p t l) n (valueBytes (drop i vs) claim) ≡ o → judge (bundleFormat s) (g .ps) (valueBytes (drop i vs) claim) ≡ o
+  judged o j = judge-sized z (g .ps) n (g .count) (valueBytes (drop i vs) claim) ∙ j
+
+  judging-on : (k : Kind) → closes k ≡ false → i + 1 < length vs → judge (countFormat p t l) n (valueBytes (drop i vs) claim) ≡ go k → Judging s vs claim (openedBehind n k) (at + (1 + width k)) (i + 2)
+  judging-on k c h j =
+      let y = getD vs i 0 in
+      let x = getD vs (i + 1) 0 in
+      let r = valueBytes (drop (i + 2) vs) claim in
+      let e = values-at vs claim i h in
+      let q : kindOf y ≡ some k = subst (λ (b : List ℕ). kindOf (getD b 0 0) ≡ some k) e (comes (bundleFormat s) (g .ps) (valueBytes (drop i vs) claim) k (judged (go k) j) .kind) in
+      let f : valueBytes (drop i vs) claim ≡ y ∷ (operandBytes (some k) x ++ r) = e ∙ ap {B = List ℕ} (λ (o : Option Kind). y ∷ (operandBytes o x ++ r)) q in
+      let d : drop (1 + width k) (valueBytes (drop i vs) claim) ≡ r = ap (drop (1 + width k)) f ∙ drop-operand k y x r in
+      let len : length (valueBytes (drop i vs) claim) ≡ (1 + width k) + length r = ap length f ∙ omega (arith, length-append (operandBytes (some k) x) r, length-operand k x) in
+      record {
+        ps = after (g .ps) k (drop 1 (valueBytes (drop i vs) claim));
+        count = length-after (g .ps) n (g .count) k (drop 1 (valueBytes (drop i vs) claim));
+        going =
+            subst (λ (b : List ℕ). Going (bundleFormat s) (readBundle s (valueBytes vs claim)) (after (g .ps) k (drop 1 (valueBytes (drop i vs) claim))) (at + (1 + width k)) b) d
+            (goes (bundleFormat s) (g .going) k c (judged (go k) j));
+        size = omega (arith, len, g .size);
+      }
+
+  judging-refused : (r : ℕ) → judge (countFormat p t l) n (valueBytes (drop i vs) claim) ≡ refuse r → Refused r at ≡ judgedOf (valueBytes vs claim) (readBundle s (valueBytes vs claim))
+  unfolding judgedOf
+  judging-refused r j = sym (ap (judgedOf (valueBytes vs claim)) (refuses (bundleFormat s) (g .going) r (judged (refuse r) j)))
+
+  -- a claim among the values has something behind it
+  judging-tail : i + 1 < length vs → judge (countFormat p t l) n (valueBytes (drop i vs) claim) ≡ go claiming → Refused 24 (at + 5) ≡ judgedOf (valueBytes vs claim) (readBundle s (valueBytes vs claim))
+  unfolding judgedOf ended
+  judging-tail h j =
+      let y = getD vs i 0 in
+      let x = getD vs (i + 1) 0 in
+      let r = valueBytes (drop (i + 2) vs) claim in
+      let e = values-at vs claim i h in
+      let q : kindOf y ≡ some claiming = subst (λ (b : List ℕ). kindOf (getD b 0 0) ≡ some claiming) e (comes (bundleFormat s) (g .ps) (valueBytes (drop i vs) claim) claiming (judged (go claiming) j) .kind) in
+      let f : valueBytes (drop i vs) claim ≡ y ∷ (operandBytes (some claiming) x ++ r) = e ∙ ap {B = List ℕ} (λ (o : Option Kind). y ∷ (operandBytes o x ++ r)) q in
+      let d : length (drop 1 (valueBytes (drop i vs) claim)) ≡ 4 + length r = ap (λ (b : List ℕ). length (drop 1 b)) f ∙ omega (arith, length-append (operandBytes (some claiming) x) r, length-operand claiming x) in
+      let a : readBundle s (valueBytes vs claim) ≡ refused 24 (at + 5) =
+      ends (bundleFormat s) (g .going) claiming refl (judged (go claiming) j) ∙ rw (lt-ltb 4 (length (drop 1 (valueBytes (drop i vs) claim))) (omega (arith, d, some-bytes (drop (i + 2) vs) claim)))
+      in
+      sym (ap (judgedOf (valueBytes vs claim)) a)
+
+  judging-end : length vs ≤ i → 0 < n → claim < 4294967296 → Long (at + 5) ≡ judgedOf (valueBytes vs claim) (readBundle s (valueBytes vs claim))
+  unfolding judgedOf
+  judging-end h m c =
+      let e = values-end vs claim i h in
+      let a = on-claim s claim (subst (λ (b : List ℕ). Going (bundleFormat s) (readBundle s (valueBytes vs claim)) (g .ps) at b) e (g .going)) (omega (arith, g .count)) c in
+      let len : at + 5 ≡ length (valueBytes vs claim) = omega (arith, g .size, ap length e) in
+      ap Long len ∙ sym (ap (judgedOf (valueBytes vs claim)) a)
+
+-- for every sheet with these counts, and every claim
+pub record Judges (vs : List ℕ) (p t l n at i : ℕ) : Type 0 where
+  pub place : i ≤ length vs
+  pub near : at ≤ 2 * i
+  pub few : n ≤ i
+  pub each : (s : Sheet) → Sized s p t l → (claim : ℕ) → claim < 4294967296 → Judging s vs claim n at i
+
+pub judges-start : (vs : List ℕ) (p t l : ℕ) → Judges vs p t l 0 0 0
+unfolding readBundle
+judges-start vs p t l =
+    record {
+      place = omega arith;
+      near = omega arith;
+      few = omega arith;
+      each = λ s z claim c. record { ps = []; count = refl; going = starts (bundleFormat s) [] (valueBytes vs claim); size = omega arith };
+    }
+
+width-most : (k : Kind) → closes k ≡ false → width k ≤ 2
+width-most opening e = omega arith
+width-most running e = omega arith
+width-most sending e = omega arith
+width-most receiving e = omega arith
+width-most claiming e = absurd (true≢false e)
+
+opened-most : (n : ℕ) (k : Kind) → openedBehind n k ≤ n + 1
+opened-most n opening = omega arith
+opened-most n running = omega arith
+opened-most n sending = omega arith
+opened-most n receiving = omega arith
+opened-most n claiming = omega arith
+
+-- the ways by what the code tests: the command of the values at i, with the number of its fault
+module _ {vs : List ℕ} {p t l n at i : ℕ} (g : Judges vs p t l n at i) (more : i + 1 < length vs) where
+  -- a command of kind k, by its fault
+  judged-kind : (k : Kind) → kindOf (getD vs i 0) ≡ some k → (o : Option ℕ)
+      → ((b : List ℕ) → o ≡ faultBelow (limitOf p t l k) n k (operandBytes (some k) (getD vs (i + 1) 0) ++ b)) → (claim : ℕ)
+      → judge (countFormat p t l) n (valueBytes (drop i vs) claim) ≡ verdict (countFormat p t l) k o
+  judged-kind k e o h claim =
+      let r = valueBytes (drop (i + 2) vs) claim in
+      let x = getD vs (i + 1) 0 in
+      ap (judge (countFormat p t l) n) (values-at vs claim i more)
+      ∙ judge-head p t l n (getD vs i 0) (some k) (operandBytes (kindOf (getD vs i 0)) x ++ r) e
+      ∙ ap (λ (q : Option Kind). judgeKind (countFormat p t l) n (some k) (operandBytes q x ++ r)) e
+      ∙ ap (verdict (countFormat p t l) k) (sym (h r))
+
+  on-kind : (k : Kind) → closes k ≡ false → kindOf (getD vs i 0) ≡ some k → (r : ℕ) → r ≡ 0
+      → ((b : List ℕ) → numbered r ≡ faultBelow (limitOf p t l k) n k (operandBytes (some k) (getD vs (i + 1) 0) ++ b))
+      → Judges vs p t l (openedBehind n k) (at + (1 + width k)) (i + 2)
+  on-kind k c e r z h =
+      record {
+        place = omega arith;
+        near = omega (arith, g .near, width-most k c);
+        few = omega (arith, g .few, opened-most n k);
+        each = λ s q claim m. judging-on q (g .each s q claim m) k c more (judged-kind k e (numbered r) h claim ∙ verdict-clear p t l k r (numbered r) refl z);
+      }
+
+  refused-kind : (k : Kind) → kindOf (getD vs i 0) ≡ some k → (r : ℕ) → (r ≡ 0 → ⊥)
+      → ((b : List ℕ) → numbered r ≡ faultBelow (limitOf p t l k) n k (operandBytes (some k) (getD vs (i + 1) 0) ++ b)) → RefusalIs vs p t l (Refused r at)
+  refused-kind k e r z h =
+      record { answer = λ s q claim m. judging-refused q (g .each s q claim m) r (judged-kind k e (numbered r) h claim ∙ verdict-refused p t l k r (numbered r) refl z) }
+
+  pub judges-message : getD vs (i + 1) 0 < 65536 → isMessage (getD vs i 0) ≡ true → (r : ℕ) → numbered r ≡ knownFault l n (getD vs (i + 1) 0) → r ≡ 0 → Judges vs p t l n (at + 3) (i + 2)
+  judges-message s e r h z =
+      ⊎-elim (λ q. on-kind sending refl q r z (λ b. h ∙ sym (fault-sending l n (getD vs (i + 1) 0) b s)))
+      (λ q. on-kind receiving refl q r z (λ b. h ∙ sym (fault-receiving l n (getD vs (i + 1) 0) b s))) (message-kind (getD vs i 0) e)
+
+  pub judges-message-no : getD vs (i + 1) 0 < 65536 → isMessage (getD vs i 0) ≡ true → (r : ℕ) → numbered r ≡ knownFault l n (getD vs (i + 1) 0) → (r ≡ 0 → ⊥) → RefusalIs vs p t l (Refused r at)
+  judges-message-no s e r h z =
+      ⊎-elim (λ q. refused-kind sending q r z (λ b. h ∙ sym (fault-sending l n (getD vs (i + 1) 0) b s)))
+      (λ q. refused-kind receiving q r z (λ b. h ∙ sym (fault-receiving l n (getD vs (i + 1) 0) b s))) (message-kind (getD vs i 0) e)
+
+  pub judges-run : getD vs i 0 ≡ 0x52 → (r : ℕ) → numbered r ≡ knownFault t n (getD vs (i + 1) 0) → r ≡ 0 → Judges vs p t l n (at + 2) (i + 2)
+  judges-run e r h z = on-kind running refl (ap kindOf e) r z (λ b. h ∙ sym (fault-running t n (getD vs (i + 1) 0) b))
+
+  pub judges-run-no : getD vs i 0 ≡ 0x52 → (r : ℕ) → numbered r ≡ knownFault t n (getD vs (i + 1) 0) → (r ≡ 0 → ⊥) → RefusalIs vs p t l (Refused r at)
+  judges-run-no e r h z = refused-kind running (ap kindOf e) r z (λ b. h ∙ sym (fault-running t n (getD vs (i + 1) 0) b))
+
+  pub judges-open : getD vs i 0 ≡ 0x50 → (r : ℕ) → numbered r ≡ openFault p n (getD vs (i + 1) 0) → r ≡ 0 → Judges vs p t l (n + 1) (at + 2) (i + 2)
+  judges-open e r h z = on-kind opening refl (ap kindOf e) r z (λ b. h ∙ sym (fault-opening p n (getD vs (i + 1) 0) b))
+
+  pub judges-open-no : getD vs i 0 ≡ 0x50 → (r : ℕ) → numbered r ≡ openFault p n (getD vs (i + 1) 0) → (r ≡ 0 → ⊥) → RefusalIs vs p t l (Refused r at)
+  judges-open-no e r h z = refused-kind opening (ap kindOf e) r z (λ b. h ∙ sym (fault-opening p n (getD vs (i + 1) 0) b))
+
+  -- a claim among the commands
+  pub judges-claim-no : getD vs i 0 ≡ 0x5A → n ≡ 0 → RefusalIs vs p t l (Refused 23 at)
+  judges-claim-no e z = refused-kind claiming (ap kindOf e) 23 (λ q. omega arith) (λ b. sym (fault-claiming 0 n (getD vs (i + 1) 0) b ∙ rw (eq-eqb n 0 z)))
+
+  pub judges-tail : getD vs i 0 ≡ 0x5A → (n ≡ 0 → ⊥) → RefusalIs vs p t l (Refused 24 (at + 5))
+  judges-tail e z =
+      record {
+        answer = λ s q claim m.
+            judging-tail q (g .each s q claim m) more
+            (judged-kind claiming (ap kindOf e) none (λ b. sym (fault-claiming 0 n (getD vs (i + 1) 0) b ∙ rw (ne-eqb n 0 z))) claim);
+      }
+
+  pub judges-strange : isMessage (getD vs i 0) ≡ false → (getD vs i 0 ≡ 0x52 → ⊥) → (getD vs i 0 ≡ 0x50 → ⊥) → (getD vs i 0 ≡ 0x5A → ⊥) → RefusalIs vs p t l (Refused 22 at)
+  judges-strange e f h k =
+      record {
+        answer = λ s q claim m.
+            judging-refused q (g .each s q claim m) 22
+            (ap (judge (countFormat p t l) n) (values-at vs claim i more) ∙ judge-head p t l n (getD vs i 0) none _ (strange-kind (getD vs i 0) e f h k));
+      }
+
+module _ {vs : List ℕ} {p t l n at i : ℕ} (g : Judges vs p t l n at i) where
+  pub judges-cut : (r : ℕ) → i + 1 ≡ length vs → r ≡ cutNumber n (getD vs i 0) → RefusalIs vs p t l (Refused r at)
+  unfolding cutNumber
+  judges-cut r h e =
+      record {
+        answer = λ s z claim m.
+            judging-refused z (g .each s z claim m) r
+            (ap (judge (countFormat p t l) n) (values-cut vs claim i h) ∙ judge-cut p t l n (getD vs i 0) (kindOf (getD vs i 0)) refl ∙ ap {B = Outcome Kind} refuse (sym e));
+      }
+
+  pub judges-bare : length vs ≤ i → n ≡ 0 → RefusalIs vs p t l (Refused 23 at)
+  unfolding judge faultBelow
+  judges-bare h e =
+      record {
+        answer = λ s z claim m.
+            judging-refused z (g .each s z claim m) 23 (ap (judge (countFormat p t l) n) (values-end vs claim i h) ∙ rw (eq-eqb n 0 e));
+      }
+
+  pub judges-long : length vs ≤ i → (n ≡ 0 → ⊥) → RefusalIs vs p t l (Long (at + 5))
+  judges-long h e = record { answer = λ s z claim m. judging-end z (g .each s z claim m) h (omega arith) m }

@@ -1,0 +1,6 @@
+pub mod Judging
+pub mod Puts
+pub mod Plain
+pub mod Copying
+pub mod Valued
+pub mod Written

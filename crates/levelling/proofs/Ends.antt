@@ -1,0 +1,115 @@
+-- The end of peeling: where all tasks are taken off there is no circle and the levels are there; where one is left there is a circle.
+use Prim.Native.Nat.{ℕ, zero, suc, _+_, _*_, _≤_, _<_}
+use mathlib.Core.Bool.{Bool, true, false}
+use mathlib.Core.Option.{Option, none, some}
+use mathlib.Core.Path.{_≡_, refl, ap, sym, _∙_, subst}
+use mathlib.Core.Logic.{_≢_}
+use mathlib.Core.List.{List}
+use native.Mathlib.Omega.{arith}
+use native.Mathlib.Decide.{decLt, ℕ-discrete}
+use borrow.Author.Tests.{lt-ltb}
+use lib.ListN.{length, getD}
+use lib.Dec.{ltb}
+use Rattle.folds.specs.Folds.{sum, greatest}
+use Rattle.folds.proofs.Laws.{sum-zeros, sum-mono}
+use Rattle.sheet.specs.Sheet.{Sheet, taskCount, linkCount, workOf, sourceOf, targetOf}
+use Rattle.sheet.specs.Tables.{sheetIn, Loaded}
+use Rattle.graph.specs.Graph.{circle, level}
+use Rattle.levelling.specs.Words.{Held, Kept, Beside, ChainedFrom, inQueue, doneBy}
+use Rattle.levelling.specs.Peeling.{dueBy, levelIn, Peeled}
+use Rattle.levelling.specs.Found.{foundOf, Levelled, LevelsAre}
+use Rattle.levelling.specs.declared.Found.{Found}
+use Rattle.levelling.specs.declared.Found.the-variants.{At, Nothing}
+use Rattle.graph.proofs.Reaches.{Declared}
+use Rattle.graph.proofs.Ranks.{Ranked, Solved, ranked-none, rankOf, none-ranked, level-is}
+use Rattle.levelling.proofs.Frames.{held, kept-held, kept-sheet, kept-trans, beside-held, beside-own, loaded-declared, beside-chained}
+use Rattle.levelling.proofs.Pushes.{in-queue, queued-all, queued-few}
+use Rattle.levelling.proofs.Lights.{due-lit, due-other}
+use Rattle.levelling.proofs.Turns.{chain-here}
+
+-- all are taken off
+module _ (s : Sheet) (k : ℕ) (w : List ℕ) (declared : Declared s) (p : Peeled s k k 0 0 w) (all : k ≡ taskCount s) where
+  placed : (t : ℕ) → t < taskCount s → getD w (6672 + t) 0 < 256
+  placed = queued-all (p .peel .queued) all
+
+  ranked : Ranked s (λ t. getD w (6672 + t) 0)
+  ranked =
+      record {
+        falls = λ l h. p .peel .falls l h (placed (sourceOf s l) (declared .source l h));
+        few = λ t h. let q = p .peel .queued .few t h (placed t h) in omega arith;
+      }
+
+  solved : Solved s (levelIn w)
+  unfolding levelIn
+  solved = record { is = λ t h. p .peel .solved t h (p .peel .queued .few t h (placed t h)) }
+
+  pub peeled-free : circle s ≡ none
+  peeled-free = ranked-none s (λ t. getD w (6672 + t) 0) ranked
+
+  pub peeled-levels : Levelled s w
+  unfolding levelIn
+  peeled-levels = record { levels = λ t h. sym (level-is s (λ u. getD w (6672 + u) 0) (levelIn w) (declared .target) ranked solved t h) }
+
+sum-ones : (n : ℕ) → n ≤ sum n (λ t. 1)
+unfolding sum
+sum-ones zero = omega arith
+sum-ones (suc n) = omega (arith, sum-ones n)
+
+-- one is left: were there no circle, the left one of lowest rank would have no link to another that is left
+module _ (s : Sheet) (k : ℕ) (w : List ℕ) (declared : Declared s) (p : Peeled s k k 0 0 w) (free : circle s ≡ none) where
+  no-link : (t l : ℕ) → l < linkCount s → (sourceOf s l ≡ t → getD w (6672 + targetOf s l) 0 < 256) → dueBy s (doneBy s k w) t l ≡ 0
+  unfolding doneBy
+  no-link t l h g = go (ℕ-discrete (sourceOf s l) t)
+    where
+      go : Dec (sourceOf s l ≡ t) → dueBy s (doneBy s k w) t l ≡ 0
+      go (yes e) = due-lit s (doneBy s k w) t l (lt-ltb (getD w (6672 + targetOf s l) 0) k (p .peel .queued .few (targetOf s l) (declared .target l h) (g e)))
+      go (no e) = due-other s (doneBy s k w) t l e
+
+  all-placed : (r t : ℕ) → t < taskCount s → rankOf s t < r → getD w (6672 + t) 0 < 256
+  all-placed zero t h g = absurd (omega arith)
+  all-placed (suc r) t h g =
+      let ranks = none-ranked s declared free in
+      p .peel .waits t h (λ a b. absurd (omega arith))
+      (p .peel .degree t h ∙ sum-zeros (linkCount s) (dueBy s (doneBy s k w) t) (λ l q. no-link t l q (λ e.
+      let x : rankOf s (sourceOf s l) ≡ rankOf s t = ap (rankOf s) e in
+      all-placed r (targetOf s l) (declared .target l q) (omega (arith, ranks .falls l q)))))
+
+  pub peeled-all : k ≡ taskCount s
+  peeled-all =
+      let ranks = none-ranked s declared free in
+      let low : sum (taskCount s) (λ t. 1) ≤ sum (taskCount s) (inQueue w) =
+      sum-mono (taskCount s) (λ t. 1) (inQueue w) (λ t h. omega (arith, in-queue w t (all-placed (taskCount s) t h (ranks .few t h)))) in
+      omega (arith, p .peel .queued .count, queued-few (p .peel .queued), sum-ones (taskCount s))
+
+-- the whole, from what its parts say
+pub peel-asks : {w w₁ : List ℕ} → Held w → Kept w w₁ × ChainedFrom (sheetIn w) 0 w₁ → Held w₁ × ChainedFrom (sheetIn w₁) 0 w₁
+peel-asks {w} {w₁} h d = (kept-held h (d .0), subst (λ (s : Sheet). ChainedFrom s 0 w₁) (sym (kept-sheet h (d .0))) (d .1))
+
+pub find-goes : {w w₁ w₂ : List ℕ} → Held w → Kept w w₁ × ChainedFrom (sheetIn w) 0 w₁ → Beside w₁ w₂ → Held w₂ × ChainedFrom (sheetIn w₂) 0 w₂
+find-goes {w} {w₁} {w₂} h d b =
+    let q = peel-asks h d in
+    (beside-held (q .0) b, beside-own (λ (s : Sheet). ChainedFrom s 0 w₂) (q .0) b (chain-here (q .0) (q .1) b))
+
+pub levels-free : {w w₁ w₂ : List ℕ} {k n : ℕ} → Held w → Kept w w₁ → Beside w₁ w₂ × Peeled (sheetIn w₁) k k 0 0 w₂ → n ≡ taskCount (sheetIn w₂) → k ≡ n → LevelsAre w w₂ Nothing
+levels-free {w} {w₁} {w₂} {k} {n} h b d e q =
+    let same : sheetIn w₁ ≡ sheetIn w = kept-sheet h b in
+    let kept : Kept w w₂ = kept-trans b (d .0 .kept) in
+    let p : Peeled (sheetIn w) k k 0 0 w₂ = subst (λ (s : Sheet). Peeled s k k 0 0 w₂) same (d .1) in
+    let all : k ≡ taskCount (sheetIn w) = q ∙ e ∙ ap taskCount (kept-sheet h kept) in
+    record {
+      answer = sym (peeled-free (sheetIn w) k w₂ (loaded-declared (h .loaded)) p all);
+      levels = λ f. peeled-levels (sheetIn w) k w₂ (loaded-declared (h .loaded)) p all;
+      kept = kept;
+    }
+
+pub levels-found : {w w₁ w₂ w₃ : List ℕ} {k n : ℕ} {r : Found} → Held w → Kept w w₁ → Beside w₁ w₂ × Peeled (sheetIn w₁) k k 0 0 w₂ → n ≡ taskCount (sheetIn w₂) → (k ≡ n → ⊥) → Beside w₂ w₃ × (foundOf r ≡ circle (sheetIn w₂)) → LevelsAre w w₃ r
+levels-found {w} {w₁} {w₂} {w₃} {k} {n} {r} h b d e q t =
+    let same : sheetIn w₁ ≡ sheetIn w = kept-sheet h b in
+    let kept : Kept w w₂ = kept-trans b (d .0 .kept) in
+    let same₂ : sheetIn w₂ ≡ sheetIn w = kept-sheet h kept in
+    let p : Peeled (sheetIn w) k k 0 0 w₂ = subst (λ (s : Sheet). Peeled s k k 0 0 w₂) same (d .1) in
+    record {
+      answer = t .1 ∙ ap circle same₂;
+      levels = λ f. absurd (q (peeled-all (sheetIn w) k w₂ (loaded-declared (h .loaded)) p f ∙ sym (ap taskCount same₂) ∙ sym e));
+      kept = kept-trans kept (t .0 .kept);
+    }

@@ -1,0 +1,36 @@
+-- What the search for circles and levels gives.
+use Prim.Native.Nat.{ℕ, _+_, _<_}
+use mathlib.Core.Bool.{true}
+use mathlib.Core.Option.{Option, none, some}
+use mathlib.Core.Path.{_≡_}
+use mathlib.Core.List.{List}
+use lib.ListN.{length, getD}
+use Rattle.sheet.specs.Sheet.{Sheet, taskCount}
+use Rattle.sheet.specs.Tables.{sheetIn}
+use Rattle.graph.specs.Graph.{onCircle, circle, level}
+use Rattle.levelling.specs.Words.{Kept}
+use Rattle.levelling.specs.Peeling.{Searched}
+use Rattle.levelling.specs.declared.search.Spread.{Spread}
+use Rattle.levelling.specs.declared.search.Spread.the-variants.{Back, On}
+use Rattle.levelling.specs.declared.Found.{Found}
+use Rattle.levelling.specs.declared.Found.the-variants.{At, Nothing}
+
+-- the lowest task on a circle
+abbrev pub foundOf : Found → Option ℕ
+foundOf (At t) = some t
+foundOf Nothing = none
+
+-- the level words hold the levels
+pub record Levelled (s : Sheet) (w : List ℕ) : Type 0 where
+  pub levels : (t : ℕ) → t < taskCount s → getD w (4624 + t) 0 ≡ level s t
+
+-- the answer for the sheet that stands in w, the levels where there is no circle, and all else as it was
+pub record LevelsAre (w w′ : List ℕ) (r : Found) : Type 0 where
+  pub answer : foundOf r ≡ circle (sheetIn w)
+  pub levels : circle (sheetIn w) ≡ none → Levelled (sheetIn w) w′
+  pub kept : Kept w w′
+
+-- after the links into one more task of the search, of which i are looked at
+pub record SpreadIs (s : Sheet) (goal i : ℕ) (w : List ℕ) (r : Spread) : Type 0 where
+  pub back : r ≡ Back → onCircle s goal ≡ true
+  pub on : (k : ℕ) → r ≡ On k → Searched s goal i k w

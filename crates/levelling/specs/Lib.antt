@@ -1,0 +1,4 @@
+pub mod Words
+pub mod Peeling
+pub mod Found
+pub mod Opened

@@ -1,0 +1,24 @@
+use Rattle.plans.proofs.Planning.{list-no, list-yes}
+use borrow.Author.Needs.{needs}
+use Rattle.plans.proofs.list.Statement.{statement}
+use Rattle.plans.proofs.list.Tie as tie
+
+returns : tie.Need-returns
+returns c = list-no _ (c .before .before .before .before .before .before .before .list .ensures) _ (c .before .n .given .1)
+
+returns-2 : tie.Need-returns-2
+returns-2 c = list-yes _ (c .before .before .before .before .before .before .before .list .ensures) _ (c .before .n2 .given .1)
+
+pub list-spec : {M : Type 1} → statement M
+list-spec =
+    tie.close
+    (tie.spec
+    (λ c κs. search needs)
+    (λ c. search needs)
+    (λ c. search needs)
+    (λ c. search needs)
+    (λ c. search needs)
+    returns
+    (λ c. search needs)
+    (λ c. search needs)
+    returns-2)

@@ -1,0 +1,381 @@
+-- A sheet that is written and read: the length of its bytes, that what is read from them is that sheet, and that a proper sheet is read back.
+use Prim.Native.Nat.{ℕ, zero, suc, _+_, _*_, _/_, _%_, _<_, _≤_}
+use mathlib.Core.Path.{_≡_, refl, sym, ap, ap₂, subst, _∙_}
+use mathlib.Core.Bool.{Bool, true, false, not}
+use mathlib.Core.Option.{Option, none, some}
+use mathlib.Core.List.{List, [], _∷_, _++_, append-assoc, append-nil}
+use native.Mathlib.Omega.{arith}
+use native.Mathlib.Numerals.{add-one, add-two}
+use native.Mathlib.Decide.{ℕ-discrete}
+use borrow.Author.Tests.{eq-eqb, ne-eqb, eqb-true, le-leb, lt-leb}
+use lib.ListN.{length, getD, take, length-append, List·getD-append}
+use lib.Seq.{ext-getD, getD-at, take-suc, take-all, append-snoc}
+use lib.Dec.{eqb, leb}
+use Rattle.folds.specs.Folds.{pick, both, any, listed}
+use Rattle.folds.specs.Answers.{Answer, value}
+use Rattle.folds.proofs.Tests.{not-value, both-parts}
+use Rattle.folds.proofs.Laws.{none-any}
+use Rattle.folds.proofs.Lists.{length-listed, getD-listed}
+use Rattle.numbers.specs.Number.{numberAt, numberBytes}
+use Rattle.numbers.proofs.Laws.{numberAt-cons, number-of-bytes}
+use Rattle.commands.specs.Commands.{go, judge, verdict}
+use Rattle.commands.specs.Reading.{Going}
+use Rattle.commands.proofs.Going.{starts, goes, refuses, ends}
+use Rattle.sheet.specs.Sheet.{Sheet, Task, Link, noTask, noLink, taskCount, linkCount, workOf, storeOf, sourceOf, targetOf, costOf, bytesOf}
+use Rattle.sheet.specs.Format.{Kind, board, task, link, end, Progress, fresh, taskFrom, linkFrom, ended, joins, joinsBy, sheetFormat, readForm}
+use Rattle.sheet.specs.Writing.{boardBytes, taskBytes, linkBytes, sheetBytes, taskValue, linkValue, sheetOfValues, linkValueBytes, taskValueBytes, valueBytes, taskValues, linkValues}
+use Rattle.sheet.specs.Faults.{begun, taskFault, linkFault}
+use Rattle.sheet_reader.proofs.Given.{judge-task, judge-link, cut-task, cut-link, at-end, opening, taskTail, linkTail}
+use Rattle.sheet.proofs.Rounds.{ended-value, Proper, TaskFits, LinkFits, read-shaped, proper}
+
+-- lengths
+pub task-bytes-length : (ts : List Task) → length (taskBytes ts) ≡ 5 * length ts
+task-bytes-length [] = refl
+task-bytes-length (t ∷ ts) = omega (arith, task-bytes-length ts)
+
+pub link-bytes-length : (ls : List Link) → length (linkBytes ls) ≡ 7 * length ls
+link-bytes-length [] = refl
+link-bytes-length (l ∷ ls) = omega (arith, link-bytes-length ls)
+
+pub sheet-length : (s : Sheet) → length (sheetBytes s) ≡ 7 + 5 * taskCount s + 7 * linkCount s
+unfolding sheetBytes taskCount linkCount
+sheet-length s =
+    omega (
+      arith,
+      length-append (taskBytes (s .tasks)) (linkBytes (s .links) ++ 0x51 ∷ []),
+      length-append (linkBytes (s .links)) (0x51 ∷ []),
+      task-bytes-length (s .tasks),
+      link-bytes-length (s .links),
+    )
+
+module _ (p l : ℕ) (tv lv : List ℕ) where
+  pub values-tasks : taskCount (sheetOfValues p l tv lv) ≡ length tv / 2
+  unfolding taskCount sheetOfValues
+  values-tasks = length-listed _ _
+
+  pub values-links : linkCount (sheetOfValues p l tv lv) ≡ length lv / 4
+  unfolding linkCount sheetOfValues
+  values-links = length-listed _ _
+
+  module _ (even : length tv % 2 ≡ 0) (whole : length lv % 4 ≡ 0) where
+    -- whole values have the bytes of their sheet
+    pub values-bytes : valueBytes p l tv lv ≡ sheetBytes (sheetOfValues p l tv lv)
+    unfolding valueBytes taskValueBytes linkValueBytes sheetBytes sheetOfValues
+    values-bytes = rw (eq-eqb (length tv % 2) 0 even, eq-eqb (length lv % 4) 0 whole)
+
+    pub written-length : length (valueBytes p l tv lv) ≡ 7 + 5 * (length tv / 2) + 7 * (length lv / 4)
+    written-length = ap length values-bytes ∙ sheet-length (sheetOfValues p l tv lv) ∙ ap₂ (λ (n m : ℕ). 7 + 5 * n + 7 * m) values-tasks values-links
+
+-- the values of the sheet that they are the values of
+task-values-append : (ts us : List Task) → taskValues (ts ++ us) ≡ taskValues ts ++ taskValues us
+task-values-append [] us = refl
+task-values-append (t ∷ ts) us = ap (λ (v : List ℕ). t .work ∷ t .store ∷ v) (task-values-append ts us)
+
+link-values-append : (ls us : List Link) → linkValues (ls ++ us) ≡ linkValues ls ++ linkValues us
+link-values-append [] us = refl
+link-values-append (l ∷ ls) us = ap (λ (v : List ℕ). l .source ∷ l .target ∷ l .cost ∷ l .bytes ∷ v) (link-values-append ls us)
+
+take-two : (v : List ℕ) (n : ℕ) → n + 2 ≤ length v → take (n + 2) v ≡ take n v ++ getD v n 0 ∷ getD v (n + 1) 0 ∷ []
+take-two v n h =
+    rw (add-two, add-one)
+    (take-suc v (suc n) 0 (omega arith) ∙ ap (λ (x : List ℕ). x ++ getD v (suc n) 0 ∷ []) (take-suc v n 0 (omega arith)) ∙ append-snoc (take n v) (getD v n 0) (getD v (suc n) 0 ∷ []))
+
+take-four : (v : List ℕ) (n : ℕ) → n + 4 ≤ length v → take (n + 4) v ≡ take n v ++ getD v n 0 ∷ getD v (n + 1) 0 ∷ getD v (n + 2) 0 ∷ getD v (n + 3) 0 ∷ []
+take-four v n h =
+    let e : n + 4 ≡ n + 2 + 2 = omega arith in
+    let f : n + 2 + 1 ≡ n + 3 = omega arith in
+    ap (λ (k : ℕ). take k v) e
+    ∙ take-two v (n + 2) (omega arith)
+    ∙ ap₂ (λ (x : List ℕ) (k : ℕ). x ++ getD v (n + 2) 0 ∷ getD v k 0 ∷ []) (take-two v n (omega arith)) f
+    ∙ append-assoc (take n v) (getD v n 0 ∷ getD v (n + 1) 0 ∷ []) (getD v (n + 2) 0 ∷ getD v (n + 3) 0 ∷ [])
+
+task-values-take : (v : List ℕ) (n : ℕ) → 2 * n ≤ length v → taskValues (listed n (taskValue v)) ≡ take (2 * n) v
+unfolding listed
+task-values-take v zero h = refl
+task-values-take v (suc n) h =
+    let e : 2 * suc n ≡ 2 * n + 2 = omega arith in
+    task-values-append (listed n (taskValue v)) (taskValue v n ∷ [])
+    ∙ ap (λ (x : List ℕ). x ++ getD v (2 * n) 0 ∷ getD v (2 * n + 1) 0 ∷ []) (task-values-take v n (omega arith))
+    ∙ sym (ap (λ (k : ℕ). take k v) e ∙ take-two v (2 * n) (omega arith))
+
+link-values-take : (v : List ℕ) (n : ℕ) → 4 * n ≤ length v → linkValues (listed n (linkValue v)) ≡ take (4 * n) v
+unfolding listed
+link-values-take v zero h = refl
+link-values-take v (suc n) h =
+    let e : 4 * suc n ≡ 4 * n + 4 = omega arith in
+    link-values-append (listed n (linkValue v)) (linkValue v n ∷ [])
+    ∙ ap (λ (x : List ℕ). x ++ getD v (4 * n) 0 ∷ getD v (4 * n + 1) 0 ∷ getD v (4 * n + 2) 0 ∷ getD v (4 * n + 3) 0 ∷ []) (link-values-take v n (omega arith))
+    ∙ sym (ap (λ (k : ℕ). take k v) e ∙ take-four v (4 * n) (omega arith))
+
+module _ (p l : ℕ) (tv lv : List ℕ) where
+  pub values-of-tasks : length tv % 2 ≡ 0 → taskValues (sheetOfValues p l tv lv .tasks) ≡ tv
+  unfolding sheetOfValues
+  values-of-tasks h = task-values-take tv (length tv / 2) (omega arith) ∙ take-all (2 * (length tv / 2)) tv (omega arith)
+
+  pub values-of-links : length lv % 4 ≡ 0 → linkValues (sheetOfValues p l tv lv .links) ≡ lv
+  unfolding sheetOfValues
+  values-of-links h = link-values-take lv (length lv / 4) (omega arith) ∙ take-all (4 * (length lv / 4)) lv (omega arith)
+
+  pub values-of : length tv % 2 ≡ 0 → length lv % 4 ≡ 0 → (taskValues (sheetOfValues p l tv lv .tasks) ≡ tv) × (linkValues (sheetOfValues p l tv lv .links) ≡ lv)
+  values-of h k = (values-of-tasks h, values-of-links k)
+
+-- a sheet is the sheet of its values, and its bytes are those of its values
+pub task-values-length : (ts : List Task) → length (taskValues ts) ≡ 2 * length ts
+task-values-length [] = refl
+task-values-length (t ∷ ts) = omega (arith, task-values-length ts)
+
+pub link-values-length : (ls : List Link) → length (linkValues ls) ≡ 4 * length ls
+link-values-length [] = refl
+link-values-length (l ∷ ls) = omega (arith, link-values-length ls)
+
+task-value-at : (ts : List Task) (i : ℕ) → i < length ts → taskValue (taskValues ts) i ≡ getD ts i noTask
+task-value-at [] i h = absurd (omega arith)
+task-value-at (t ∷ ts) zero h = refl
+task-value-at (t ∷ ts) (suc i) h =
+    let v : List ℕ = taskValues (t ∷ ts) in
+    let a : 2 * suc i ≡ suc (suc (2 * i)) = omega arith in
+    let b : 2 * suc i + 1 ≡ suc (suc (2 * i + 1)) = omega arith in
+    ap₂ (λ (x y : ℕ). record { work = getD v x 0; store = getD v y 0 }) a b ∙ task-value-at ts i (omega arith)
+
+link-value-at : (ls : List Link) (i : ℕ) → i < length ls → linkValue (linkValues ls) i ≡ getD ls i noLink
+link-value-at [] i h = absurd (omega arith)
+link-value-at (l ∷ ls) zero h = refl
+link-value-at (l ∷ ls) (suc i) h =
+    let v : List ℕ = linkValues (l ∷ ls) in
+    let a : 4 * suc i ≡ suc (suc (suc (suc (4 * i)))) = omega arith in
+    let b : 4 * suc i + 1 ≡ suc (suc (suc (suc (4 * i + 1)))) = omega arith in
+    let c : 4 * suc i + 2 ≡ suc (suc (suc (suc (4 * i + 2)))) = omega arith in
+    let d : 4 * suc i + 3 ≡ suc (suc (suc (suc (4 * i + 3)))) = omega arith in
+    (λ x. record { source = getD v (a x) 0; target = getD v (b x) 0; cost = getD v (c x) 0; bytes = getD v (d x) 0 }) ∙ link-value-at ls i (omega arith)
+
+-- a list by its elements
+listed-is : {X : Type 0} (xs : List X) (f : ℕ → X) (n : ℕ) (d : X) → n ≡ length xs → ((i : ℕ) → i < length xs → f i ≡ getD xs i d) → listed n f ≡ xs
+listed-is xs f n d e h =
+    ext-getD d (listed n f) xs (length-listed n f ∙ e) (λ i k. let l : i < n = rw (length-listed n f) at k in getD-listed n f i d l ∙ h i (omega arith))
+
+module _ (s : Sheet) where
+  pub sheet-of-values : sheetOfValues (s .processors) (s .limit) (taskValues (s .tasks)) (linkValues (s .links)) ≡ s
+  unfolding sheetOfValues
+  sheet-of-values =
+      let ts = listed-is (s .tasks) (taskValue (taskValues (s .tasks))) (length (taskValues (s .tasks)) / 2) noTask (omega (arith, task-values-length (s .tasks))) (task-value-at (s .tasks)) in
+      let ls = listed-is (s .links) (linkValue (linkValues (s .links))) (length (linkValues (s .links)) / 4) noLink (omega (arith, link-values-length (s .links))) (link-value-at (s .links)) in
+      λ x. record { processors = s .processors; limit = s .limit; tasks = ts x; links = ls x }
+
+  pub bytes-of-values : valueBytes (s .processors) (s .limit) (taskValues (s .tasks)) (linkValues (s .links)) ≡ sheetBytes s
+  bytes-of-values =
+      values-bytes (s .processors) (s .limit) (taskValues (s .tasks)) (linkValues (s .links)) (omega (arith, task-values-length (s .tasks))) (omega (arith, link-values-length (s .links)))
+      ∙ ap sheetBytes sheet-of-values
+
+-- a task and a link, read from their bytes
+task-back : (t : Task) (X : List ℕ) → TaskFits t → taskFrom (numberBytes 2 (t .work) ++ (numberBytes 2 (t .store) ++ X)) ≡ t
+task-back t X h =
+    let r : List ℕ = numberBytes 2 (t .store) ++ X in
+    let a : numberAt 2 (numberBytes 2 (t .work) ++ r) 0 ≡ t .work = number-of-bytes 2 (t .work) r (h .work) in
+    let b : numberAt 2 (numberBytes 2 (t .work) ++ r) 2 ≡ t .store =
+    numberAt-cons 2 (t .work % 256) (t .work / 256 % 256 ∷ r) 1 ∙ numberAt-cons 2 (t .work / 256 % 256) r 0 ∙ number-of-bytes 2 (t .store) X (h .store) in
+    λ i. record { work = a i; store = b i }
+
+link-back : (l : Link) (X : List ℕ) → LinkFits l → linkFrom (l .source ∷ l .target ∷ (numberBytes 2 (l .cost) ++ (numberBytes 2 (l .bytes) ++ X))) ≡ l
+link-back l X h =
+    let r : List ℕ = numberBytes 2 (l .bytes) ++ X in
+    let u : List ℕ = numberBytes 2 (l .cost) ++ r in
+    let a : numberAt 2 (l .source ∷ l .target ∷ u) 2 ≡ l .cost =
+    numberAt-cons 2 (l .source) (l .target ∷ u) 1 ∙ numberAt-cons 2 (l .target) u 0 ∙ number-of-bytes 2 (l .cost) r (h .cost) in
+    let b : numberAt 2 (l .source ∷ l .target ∷ u) 4 ≡ l .bytes =
+    numberAt-cons 2 (l .source) (l .target ∷ u) 3
+    ∙ numberAt-cons 2 (l .target) u 2
+    ∙ numberAt-cons 2 (l .cost % 256) (l .cost / 256 % 256 ∷ r) 1
+    ∙ numberAt-cons 2 (l .cost / 256 % 256) r 0 ∙ number-of-bytes 2 (l .bytes) X (h .bytes) in
+    λ i. record { source = l .source; target = l .target; cost = a i; bytes = b i }
+
+abbrev made : ℕ → ℕ → List Task → List Link → Sheet
+made p l ts ls = record { processors = p; limit = l; tasks = ts; links = ls }
+
+-- the element behind a front
+behind : {X : Type 0} (pre : List X) (x : X) (post all : List X) (d : X) → pre ++ x ∷ post ≡ all → (length pre < length all) × (getD all (length pre) d ≡ x)
+behind pre x post all d e =
+    (omega (arith, length-append pre (x ∷ post), ap length e), ap (λ (l : List _). getD l (length pre) d) (sym e) ∙ getD-at pre x post d (length pre) refl)
+
+-- reading the bytes of a sheet with the answer a, where nothing refuses a command of it
+module _ (a : Answer Sheet) (p l : ℕ) where
+  board-on : (X : List ℕ) → Going sheetFormat a fresh 0 (boardBytes p l ++ X) → judge sheetFormat fresh (boardBytes p l ++ X) ≡ go board → l < 4294967296
+      → Going sheetFormat a (begun (made p l [] [])) 6 X
+  board-on X g j h =
+      let limit : numberAt 4 (p ∷ (numberBytes 4 l ++ X)) 1 ≡ l = numberAt-cons 4 p (numberBytes 4 l ++ X) 0 ∙ number-of-bytes 4 l X h in
+      subst (λ (x : ℕ). Going sheetFormat a (begun (made p x [] [])) 6 X) limit (goes sheetFormat g board refl j)
+
+  -- a task, and a link, that nothing refuses
+  abbrev TaskClear : List Task → List ℕ → Type 0
+  TaskClear all X =
+      (pre : List Task) (t : Task) (post : List Task) (e : ℕ) → pre ++ t ∷ post ≡ all → Going sheetFormat a (begun (made p l pre [])) e (taskBytes (t ∷ post) ++ X)
+      → judge sheetFormat (begun (made p l pre [])) (taskBytes (t ∷ post) ++ X) ≡ verdict sheetFormat task (taskFault (length pre) (t .work)) → taskFault (length pre) (t .work) ≡ none
+
+  abbrev LinkClear : List Task → List Link → List ℕ → Type 0
+  LinkClear ts all X =
+      (pre : List Link) (x : Link) (post : List Link) (e : ℕ) → pre ++ x ∷ post ≡ all → Going sheetFormat a (begun (made p l ts pre)) e (linkBytes (x ∷ post) ++ X)
+      → judge sheetFormat (begun (made p l ts pre)) (linkBytes (x ∷ post) ++ X) ≡ verdict sheetFormat link (linkFault (made p l ts pre) (x .source) (x .target))
+      → linkFault (made p l ts pre) (x .source) (x .target) ≡ none
+
+  tasks-on : (X : List ℕ) (all : List Task) → ((i : ℕ) → i < length all → TaskFits (getD all i noTask)) → TaskClear all X
+      → (ts pre : List Task) (e : ℕ) → pre ++ ts ≡ all → Going sheetFormat a (begun (made p l pre [])) e (taskBytes ts ++ X) → (e′ : ℕ) × Going sheetFormat a (begun (made p l all [])) e′ X
+  unfolding taskCount linkCount
+  tasks-on X all fits clear [] pre e q g = (e, subst (λ (ts : List Task). Going sheetFormat a (begun (made p l ts [])) e X) (sym (append-nil pre) ∙ q) g)
+  tasks-on X all fits clear (t ∷ ts) pre e q g =
+      let at = behind pre t ts all noTask q in
+      let fit : TaskFits t = subst TaskFits (at .1) (fits (length pre) (at .0)) in
+      let v = judge-task t ts X (made p l pre []) refl (fit .work) in
+      let j = v ∙ ap (verdict sheetFormat task) (clear pre t ts e q g v) in
+      tasks-on X all fits clear ts (pre ++ t ∷ []) (e + 5) (append-snoc pre t ts ∙ q)
+      (subst (λ (x : Task). Going sheetFormat a (begun (made p l (pre ++ x ∷ []) [])) (e + 5) (taskBytes ts ++ X)) (task-back t (taskBytes ts ++ X) fit) (goes sheetFormat g task refl j))
+
+  links-on : (X : List ℕ) (ts : List Task) (all : List Link) → ((i : ℕ) → i < length all → LinkFits (getD all i noLink)) → LinkClear ts all X
+      → (ls pre : List Link) (e : ℕ) → pre ++ ls ≡ all → Going sheetFormat a (begun (made p l ts pre)) e (linkBytes ls ++ X) → (e′ : ℕ) × Going sheetFormat a (begun (made p l ts all)) e′ X
+  links-on X ts all fits clear [] pre e q g = (e, subst (λ (ls : List Link). Going sheetFormat a (begun (made p l ts ls)) e X) (sym (append-nil pre) ∙ q) g)
+  links-on X ts all fits clear (x ∷ ls) pre e q g =
+      let at = behind pre x ls all noLink q in
+      let fit : LinkFits x = subst LinkFits (at .1) (fits (length pre) (at .0)) in
+      let v = judge-link x ls X (made p l ts pre) in
+      let j = v ∙ ap (verdict sheetFormat link) (clear pre x ls e q g v) in
+      links-on X ts all fits clear ls (pre ++ x ∷ []) (e + 7) (append-snoc pre x ls ∙ q)
+      (subst (λ (y : Link). Going sheetFormat a (begun (made p l ts (pre ++ y ∷ []))) (e + 7) (linkBytes ls ++ X)) (link-back x (linkBytes ls ++ X) fit) (goes sheetFormat g link refl j))
+
+-- on the way to a sheet nothing is refused
+unrefused : {s : Sheet} {p : Progress} {e : ℕ} {d : List ℕ} (k : Kind) (o : Option ℕ) → Going sheetFormat (value s) p e d → judge sheetFormat p d ≡ verdict sheetFormat k o → o ≡ none
+unrefused k none g j = refl
+unrefused k (some r) g j = not-value (sym (refuses sheetFormat g r j))
+
+module _ (p l : ℕ) (tv lv : List ℕ) (s : Sheet) (small-tasks : (k : ℕ) → getD tv k 0 < 65536) (small-links : (k : ℕ) → getD lv k 0 < 65536) (small : l < 4294967296)
+    (h : readForm (valueBytes p l tv lv) ≡ value s) where
+  abbrev tasks : List Task
+  tasks = listed (length tv / 2) (taskValue tv)
+
+  abbrev links : List Link
+  links = listed (length lv / 4) (linkValue lv)
+
+  behind-board : Going sheetFormat (value s) (begun (made p l [] [])) 6 (taskBytes tasks ++ taskTail tv lv)
+  unfolding readForm valueBytes taskValueBytes
+  behind-board =
+      let X : List ℕ = taskValueBytes tv lv in
+      let g = subst (λ (a : Answer Sheet). Going sheetFormat a fresh 0 (boardBytes p l ++ X)) h (starts sheetFormat fresh (boardBytes p l ++ X)) in
+      let o : Option ℕ = pick (not (both (leb 1 p) (leb p 16))) (some 6) none in
+      let none-here : o ≡ none = unrefused board o g (opening p l X) in
+      board-on (value s) p l X g (opening p l X ∙ ap (verdict sheetFormat board) none-here) small
+
+  tasks-fit : (i : ℕ) → i < length tasks → TaskFits (getD tasks i noTask)
+  tasks-fit i k = rw (getD-listed (length tv / 2) (taskValue tv) i noTask (rw (length-listed (length tv / 2) (taskValue tv)) at k)) record { work = small-tasks _; store = small-tasks _ }
+
+  links-fit : (i : ℕ) → i < length links → LinkFits (getD links i noLink)
+  links-fit i k = rw (getD-listed (length lv / 4) (linkValue lv) i noLink (rw (length-listed (length lv / 4) (linkValue lv)) at k)) record { cost = small-links _; bytes = small-links _ }
+
+  behind-tasks : (e : ℕ) × Going sheetFormat (value s) (begun (made p l tasks [])) e (taskTail tv lv)
+  behind-tasks =
+      tasks-on (value s) p l (taskTail tv lv) tasks tasks-fit (λ pre t post e q g v. unrefused task (taskFault (length pre) (t .work)) g v) tasks [] 6 refl behind-board
+
+  even : length tv % 2 ≡ 0
+  unfolding linkCount
+  even = by-test (ℕ-discrete (length tv % 2) 0)
+    where
+      by-test : Dec (length tv % 2 ≡ 0) → length tv % 2 ≡ 0
+      by-test (yes z) = z
+      by-test (no z) =
+          let g = subst (λ (t : Bool). Going sheetFormat (value s) (begun (made p l tasks [])) (behind-tasks .0) (pick t (linkValueBytes lv) (0x54 ∷ []))) (ne-eqb (length tv % 2) 0 z) (behind-tasks .1) in
+          not-value (sym (refuses sheetFormat g 1 (cut-task (made p l tasks []) refl)))
+
+  behind-links : (e : ℕ) × Going sheetFormat (value s) (begun (made p l tasks links)) e (linkTail lv)
+  unfolding linkValueBytes
+  behind-links =
+      links-on (value s) p l (linkTail lv) tasks links links-fit
+      (λ pre x post e q g v. unrefused link (linkFault (made p l tasks pre) (x .source) (x .target)) g v) links [] (behind-tasks .0) refl
+      (subst (λ (t : Bool). Going sheetFormat (value s) (begun (made p l tasks [])) (behind-tasks .0) (pick t (linkValueBytes lv) (0x54 ∷ []))) (eq-eqb (length tv % 2) 0 even) (behind-tasks .1))
+
+  by-four : length lv % 4 ≡ 0
+  by-four = by-test (ℕ-discrete (length lv % 4) 0)
+    where
+      by-test : Dec (length lv % 4 ≡ 0) → length lv % 4 ≡ 0
+      by-test (yes z) = z
+      by-test (no z) =
+          let g = subst (λ (t : Bool). Going sheetFormat (value s) (begun (made p l tasks links)) (behind-links .0) (pick t (0x51 ∷ []) (0x45 ∷ []))) (ne-eqb (length lv % 4) 0 z) (behind-links .1) in
+          not-value (sym (refuses sheetFormat g 1 (cut-link (made p l tasks links))))
+
+  same-sheet : s ≡ sheetOfValues p l tv lv
+  unfolding sheetOfValues
+  same-sheet =
+      let g = subst (λ (t : Bool). Going sheetFormat (value s) (begun (made p l tasks links)) (behind-links .0) (pick t (0x51 ∷ []) (0x45 ∷ []))) (eq-eqb (length lv % 4) 0 by-four) (behind-links .1) in
+      sym (ended-value (made p l tasks links) s (behind-links .0) [] (sym (ends sheetFormat g end refl (at-end (made p l tasks links)))) .2)
+
+  -- what is read from the bytes of given values is their sheet
+  pub values-again : (s ≡ sheetOfValues p l tv lv) × (sheetBytes s ≡ valueBytes p l tv lv) × (length tv % 2 ≡ 0) × (length lv % 4 ≡ 0)
+  values-again = (same-sheet, ap sheetBytes same-sheet ∙ sym (values-bytes p l tv lv even by-four), even, by-four)
+
+  -- it is proper, and so the links of the values name their ends by a byte
+  pub values-proper : Proper (sheetOfValues p l tv lv)
+  unfolding sheetOfValues taskCount linkCount
+  values-proper = proper (sheetOfValues p l tv lv) (read-shaped (valueBytes p l tv lv) (sheetOfValues p l tv lv) (h ∙ ap value same-sheet)) small tasks-fit links-fit
+
+  pub values-narrow : (j : ℕ) → j < length lv / 4 → (linkValue lv j .source < 256) × (linkValue lv j .target < 256)
+  unfolding sheetOfValues linkCount sourceOf targetOf
+  values-narrow j k =
+      let r = values-proper .ranged in
+      let at : getD links j noLink ≡ linkValue lv j = getD-listed (length lv / 4) (linkValue lv) j noLink k in
+      let below : j < length links = rw (length-listed (length lv / 4) (linkValue lv)) k in (
+        omega (arith, ap (λ (x : Link). x .source) at, r .source j below, r .few-tasks),
+        omega (arith, ap (λ (x : Link). x .target) at, r .target j below, r .few-tasks),
+      )
+
+-- a proper sheet is read back from its bytes
+module _ (s : Sheet) (h : Proper s) where
+  abbrev whole : Answer Sheet
+  whole = readForm (sheetBytes s)
+
+  abbrev linksOn : List ℕ
+  linksOn = linkBytes (s .links) ++ 0x51 ∷ []
+
+  from-board : Going sheetFormat whole (begun (made (s .processors) (s .limit) [] [])) 6 (taskBytes (s .tasks) ++ linksOn)
+  unfolding readForm sheetBytes
+  from-board =
+      let X : List ℕ = taskBytes (s .tasks) ++ linksOn in
+      let j : judge sheetFormat fresh (boardBytes (s .processors) (s .limit) ++ X) ≡ go board =
+      opening (s .processors) (s .limit) X ∙ rw (le-leb 1 (s .processors) (h .some-processor), le-leb (s .processors) 16 (h .ranged .few-processors)) in
+      board-on whole (s .processors) (s .limit) X (starts sheetFormat fresh (boardBytes (s .processors) (s .limit) ++ X)) j (h .limit)
+
+  task-clear : TaskClear whole (s .processors) (s .limit) (s .tasks) linksOn
+  unfolding taskFault taskCount workOf
+  task-clear pre t post e q g v =
+      let at = behind pre t post (s .tasks) noTask q in
+      let some-work : 1 ≤ t .work = subst (λ (x : Task). 1 ≤ x .work) (at .1) (h .some-work (length pre) (at .0)) in
+      rw (lt-leb 256 (length pre) (omega (arith, at .0, h .ranged .few-tasks)), ne-eqb (t .work) 0 (λ z. omega arith))
+
+  link-clear : LinkClear whole (s .processors) (s .limit) (s .tasks) (s .links) (0x51 ∷ [])
+  unfolding linkFault taskCount linkCount joins joinsBy sourceOf targetOf
+  link-clear pre x post e q g v =
+      let at = behind pre x post (s .links) noLink q in
+      let source : x .source < length (s .tasks) = subst (λ (y : Link). y .source < length (s .tasks)) (at .1) (h .ranged .source (length pre) (at .0)) in
+      let target : x .target < length (s .tasks) = subst (λ (y : Link). y .target < length (s .tasks)) (at .1) (h .ranged .target (length pre) (at .0)) in
+      let fresh-pair : any (length pre) (λ i. both (eqb (getD pre i noLink .source) (x .source)) (eqb (getD pre i noLink .target) (x .target))) ≡ false =
+      none-any (length pre) (λ i. both (eqb (getD pre i noLink .source) (x .source)) (eqb (getD pre i noLink .target) (x .target))) (λ i k. other i k _ refl) in
+      rw (
+        lt-leb 1024 (length pre) (omega (arith, at .0, h .ranged .few-links)),
+        lt-leb (length (s .tasks)) (x .source) source,
+        lt-leb (length (s .tasks)) (x .target) target,
+        fresh-pair,
+      )
+    where
+      other : (i : ℕ) → i < length pre → (b : Bool) → both (eqb (getD pre i noLink .source) (x .source)) (eqb (getD pre i noLink .target) (x .target)) ≡ b
+          → both (eqb (getD pre i noLink .source) (x .source)) (eqb (getD pre i noLink .target) (x .target)) ≡ false
+      other i k false r = r
+      other i k true r =
+          let at = behind pre x post (s .links) noLink q in
+          let parts = both-parts _ _ r in
+          let here : getD (s .links) i noLink ≡ getD pre i noLink = ap (λ (ls : List Link). getD ls i noLink) (sym q) ∙ List·getD-append pre (x ∷ post) noLink i k in
+          let same : i ≡ length pre =
+          h .single i (length pre) (omega (arith, at .0)) (at .0)
+          (ap (λ (y : Link). y .source) here ∙ eqb-true _ _ (parts .0) ∙ ap (λ (y : Link). y .source) (sym (at .1)))
+          (ap (λ (y : Link). y .target) here ∙ eqb-true _ _ (parts .1) ∙ ap (λ (y : Link). y .target) (sym (at .1))) in
+          absurd (omega arith)
+
+  pub back-again : readForm (sheetBytes s) ≡ value s
+  unfolding ended taskCount linkCount workOf storeOf costOf bytesOf
+  back-again =
+      let t = tasks-on whole (s .processors) (s .limit) linksOn (s .tasks) (λ i k. record { work = h .ranged .works i k; store = h .ranged .stores i k }) task-clear (s .tasks) [] 6 refl from-board in
+      let l = links-on whole (s .processors) (s .limit) (0x51 ∷ []) (s .tasks) (s .links) (λ i k. record { cost = h .ranged .costs i k; bytes = h .ranged .sizes i k }) link-clear (s .links) [] (t .0) refl (t .1) in
+      ends sheetFormat (l .1) end refl (at-end s) ∙ rw (ne-eqb (length (s .tasks)) 0 (λ z. omega (arith, h .some-task)))

@@ -1,0 +1,259 @@
+-- A sheet given by its values: what the reader says of the bytes of a task and of a link, and the ways on and out of taking them in.
+use Prim.Native.Nat.{ℕ, zero, suc, _+_, _*_, _/_, _%_, _-_, _<_, _≤_}
+use mathlib.Core.Path.{_≡_, refl, sym, ap, ap₂, subst, _∙_}
+use mathlib.Core.Bool.{Bool, true, false, not}
+use mathlib.Core.Option.{Option, none, some}
+use mathlib.Core.Logic.{_≢_, _⊎_, inl, inr}
+use mathlib.Core.List.{List, [], _∷_, _++_}
+use native.Mathlib.Omega.{arith}
+use native.Mathlib.Decide.{ℕ-discrete}
+use borrow.Author.Tests.{eq-eqb, ne-eqb, lt-ltb, le-ltb, lt-leb, le-leb}
+use lib.ListN.{length, getD, drop}
+use lib.Dec.{eqb, ltb, leb}
+use Rattle.folds.specs.Folds.{pick, both, either, any, listed}
+use Rattle.folds.specs.Answers.{Answer, value, refused}
+use Rattle.folds.proofs.Tests.{both-false}
+use Rattle.folds.proofs.Lists.{rest, rest-all, rest-more, rest-none}
+use Rattle.numbers.specs.Number.{numberAt, numberBytes}
+use Rattle.numbers.proofs.Laws.{numberAt-cons, number-of-bytes}
+use Rattle.commands.specs.Commands.{Outcome, refuse, go, judge, verdict, readAll}
+use Rattle.commands.specs.Reading.{Going}
+use Rattle.commands.proofs.Going.{starts, goes, refuses, going-is, going-on}
+use Rattle.sheet.specs.Sheet.{Sheet, Task, Link, taskCount, linkCount}
+use Rattle.sheet.specs.Format.{board, task, link, end, Progress, fresh, fault, sheetFormat, readForm}
+use Rattle.sheet.specs.Writing.{boardBytes, taskBytes, linkBytes, taskValue, linkValue, linkValueBytes, taskValueBytes, valueBytes}
+use Rattle.sheet.specs.Tables.{sheetIn, pairIn, Filling, FillingOf, taskWords, linkWords, pairWords}
+use Rattle.sheet.specs.Faults.{begun, taskFault, linkFault}
+use Rattle.sheet_reader.specs.Answers.{ReadIs, valuesClosed}
+use Rattle.sheet_reader.specs.Scanning.{Scanning, readOn}
+use Rattle.sheet_reader.specs.declared.Reading.{Reading}
+use Rattle.sheet_reader.specs.declared.Reading.the-variants.{Read, Refused}
+use Rattle.sheet.proofs.Rows.{tasks-in, links-in}
+use Rattle.sheet.proofs.Judging.{fault-task, fault-link, fault-end}
+use Rattle.sheet_reader.proofs.Scans.{read-refused, task-few, link-few, source-small, target-small, link-single, scan-task, scan-link, scan-refuse, scan-bare, scan-whole, scan-board, read-through}
+
+pub scan-at : {a : Answer Sheet} {d w₀ w : List ℕ} {n m e : ℕ} (e′ : ℕ) → Scanning a d w₀ w n m e → e ≡ e′ → Scanning a d w₀ w n m e′
+scan-at {a} {d} {w₀} {w} {n} {m} e′ s h = subst (λ (k : ℕ). Scanning a d w₀ w n m k) h s
+
+-- the numbers in a task's and a link's bytes
+module _ (t : Task) (ts : List Task) (X : List ℕ) where
+  work-byte : t .work < 65536 → numberAt 2 (taskBytes (t ∷ ts) ++ X) 1 ≡ t .work
+  work-byte h =
+      numberAt-cons 2 0x54 (numberBytes 2 (t .work) ++ (numberBytes 2 (t .store) ++ (taskBytes ts ++ X))) 0
+      ∙ number-of-bytes 2 (t .work) (numberBytes 2 (t .store) ++ (taskBytes ts ++ X)) h
+
+  store-byte : t .store < 65536 → numberAt 2 (taskBytes (t ∷ ts) ++ X) 3 ≡ t .store
+  store-byte h =
+      let r : List ℕ = numberBytes 2 (t .store) ++ (taskBytes ts ++ X) in
+      numberAt-cons 2 0x54 (numberBytes 2 (t .work) ++ r) 2
+      ∙ numberAt-cons 2 (t .work % 256) (t .work / 256 % 256 ∷ r) 1
+      ∙ numberAt-cons 2 (t .work / 256 % 256) r 0 ∙ number-of-bytes 2 (t .store) (taskBytes ts ++ X) h
+
+  pub judge-task : (s : Sheet) → linkCount s ≡ 0 → t .work < 65536 → judge sheetFormat (begun s) (taskBytes (t ∷ ts) ++ X) ≡ verdict sheetFormat task (taskFault (taskCount s) (t .work))
+  unfolding judge
+  judge-task s e h =
+      let ops : List ℕ = numberBytes 2 (t .work) ++ (numberBytes 2 (t .store) ++ (taskBytes ts ++ X)) in
+      let f : fault (begun s) task ops ≡ taskFault (taskCount s) (t .work) =
+      fault-task s ops
+      ∙ rw (eq-eqb (linkCount s) 0 e, le-ltb (length ops) 4 (omega arith))
+      (ap (taskFault (taskCount s)) (number-of-bytes 2 (t .work) (numberBytes 2 (t .store) ++ (taskBytes ts ++ X)) h)) in
+      ap (verdict sheetFormat task) f
+
+module _ (l : Link) (ls : List Link) (X : List ℕ) where
+  cost-byte : l .cost < 65536 → numberAt 2 (linkBytes (l ∷ ls) ++ X) 3 ≡ l .cost
+  cost-byte h =
+      let r : List ℕ = numberBytes 2 (l .cost) ++ (numberBytes 2 (l .bytes) ++ (linkBytes ls ++ X)) in
+      numberAt-cons 2 0x45 (l .source ∷ l .target ∷ r) 2
+      ∙ numberAt-cons 2 (l .source) (l .target ∷ r) 1
+      ∙ numberAt-cons 2 (l .target) r 0 ∙ number-of-bytes 2 (l .cost) (numberBytes 2 (l .bytes) ++ (linkBytes ls ++ X)) h
+
+  size-byte : l .bytes < 65536 → numberAt 2 (linkBytes (l ∷ ls) ++ X) 5 ≡ l .bytes
+  size-byte h =
+      let r : List ℕ = numberBytes 2 (l .bytes) ++ (linkBytes ls ++ X) in
+      numberAt-cons 2 0x45 (l .source ∷ l .target ∷ (numberBytes 2 (l .cost) ++ r)) 4
+      ∙ numberAt-cons 2 (l .source) (l .target ∷ (numberBytes 2 (l .cost) ++ r)) 3
+      ∙ numberAt-cons 2 (l .target) (numberBytes 2 (l .cost) ++ r) 2
+      ∙ numberAt-cons 2 (l .cost % 256) (l .cost / 256 % 256 ∷ r) 1
+      ∙ numberAt-cons 2 (l .cost / 256 % 256) r 0 ∙ number-of-bytes 2 (l .bytes) (linkBytes ls ++ X) h
+
+  pub judge-link : (s : Sheet) → judge sheetFormat (begun s) (linkBytes (l ∷ ls) ++ X) ≡ verdict sheetFormat link (linkFault s (l .source) (l .target))
+  unfolding judge
+  judge-link s =
+      let ops : List ℕ = l .source ∷ l .target ∷ (numberBytes 2 (l .cost) ++ (numberBytes 2 (l .bytes) ++ (linkBytes ls ++ X))) in
+      let f : fault (begun s) link ops ≡ linkFault s (l .source) (l .target) = fault-link s ops ∙ rw (le-ltb (length ops) 6 (omega arith)) in
+      ap (verdict sheetFormat link) f
+
+-- taking in the tasks that f gives, before the bytes X
+module _ (f : ℕ → Task) (n : ℕ) (X : List ℕ) {a : Answer Sheet} {w₀ w : List ℕ} {i e : ℕ} (s : Scanning a (taskBytes (rest i (n - i) f) ++ X) w₀ w i 0 e) (h : i < n) (small : f i .work < 65536) where
+  here : Scanning a (taskBytes (f i ∷ rest (i + 1) (n - (i + 1)) f) ++ X) w₀ w i 0 e
+  here = subst (λ (ts : List Task). Scanning a (taskBytes ts ++ X) w₀ w i 0 e) (rest-more i n f h) s
+
+  verdict-here : judge sheetFormat (begun (sheetIn w)) (taskBytes (f i ∷ rest (i + 1) (n - (i + 1)) f) ++ X) ≡ verdict sheetFormat task (taskFault i (f i .work))
+  verdict-here =
+      judge-task (f i) (rest (i + 1) (n - (i + 1)) f) X (sheetIn w) (links-in w ∙ s .links) small
+      ∙ ap (λ (k : ℕ). verdict sheetFormat task (taskFault k (f i .work))) (tasks-in w ∙ s .tasks)
+
+  pub take-task : taskFault i (f i .work) ≡ none → f i .store < 65536
+      → Scanning a (taskBytes (rest (i + 1) (n - (i + 1)) f) ++ X) w₀ (taskWords w i (f i .work) (f i .store)) (i + 1) 0 (e + 5)
+  take-task clear h₂ =
+      let ts : List Task = rest (i + 1) (n - (i + 1)) f in
+      scan-task here (f i .work) (f i .store) (verdict-here ∙ ap (verdict sheetFormat task) clear)
+      (sym (work-byte (f i) ts X small)) (sym (store-byte (f i) ts X h₂)) small h₂
+
+  pub task-fits : taskFault i (f i .work) ≡ none → i < 256
+  task-fits clear = task-few here (verdict-here ∙ ap (verdict sheetFormat task) clear)
+
+  pub refuse-task : (r : ℕ) → taskFault i (f i .work) ≡ some r → ReadIs a w₀ w (Refused r e)
+  refuse-task r bad = scan-refuse here r (verdict-here ∙ ap (verdict sheetFormat task) bad)
+
+-- the same for the links that g gives
+module _ (g : ℕ → Link) (m : ℕ) (X : List ℕ) {a : Answer Sheet} {w₀ w : List ℕ} {n j e : ℕ} (s : Scanning a (linkBytes (rest j (m - j) g) ++ X) w₀ w n j e) (h : j < m) where
+  link-here : Scanning a (linkBytes (g j ∷ rest (j + 1) (m - (j + 1)) g) ++ X) w₀ w n j e
+  link-here = subst (λ (ls : List Link). Scanning a (linkBytes ls ++ X) w₀ w n j e) (rest-more j m g h) s
+
+  link-verdict : judge sheetFormat (begun (sheetIn w)) (linkBytes (g j ∷ rest (j + 1) (m - (j + 1)) g) ++ X) ≡ verdict sheetFormat link (linkFault (sheetIn w) (g j .source) (g j .target))
+  link-verdict = judge-link (g j) (rest (j + 1) (m - (j + 1)) g) X (sheetIn w)
+
+  pub take-link : linkFault (sheetIn w) (g j .source) (g j .target) ≡ none → g j .cost < 65536 → g j .bytes < 65536
+      → Scanning a (linkBytes (rest (j + 1) (m - (j + 1)) g) ++ X) w₀ (linkWords (pairWords w (g j .source) (g j .target)) j (g j .source) (g j .target) (g j .cost) (g j .bytes)) n (j + 1) (e + 7)
+  take-link clear h₁ h₂ =
+      let ls : List Link = rest (j + 1) (m - (j + 1)) g in
+      scan-link link-here (g j .source) (g j .target) (link-verdict ∙ ap (verdict sheetFormat link) clear) refl refl (g j .cost) (g j .bytes)
+      (sym (cost-byte (g j) ls X h₁)) (sym (size-byte (g j) ls X h₂)) h₁ h₂
+
+  -- what adding it requires
+  pub link-fits : linkFault (sheetIn w) (g j .source) (g j .target) ≡ none → (j < 1024) × (g j .source < 256) × (g j .target < 256) × (pairIn w (g j .source) (g j .target) ≡ false)
+  link-fits clear =
+      let go-on = link-verdict ∙ ap (verdict sheetFormat link) clear in
+      let few = s .filling .loaded .tasks in (
+        link-few link-here go-on,
+        omega (arith, source-small link-here (g j .source) (g j .target) go-on refl refl),
+        omega (arith, target-small link-here (g j .source) (g j .target) go-on refl refl),
+        link-single link-here (g j .source) (g j .target) go-on refl refl,
+      )
+
+  pub refuse-link : (r : ℕ) → linkFault (sheetIn w) (g j .source) (g j .target) ≡ some r → ReadIs a w₀ w (Refused r e)
+  refuse-link r bad = scan-refuse link-here r (link-verdict ∙ ap (verdict sheetFormat link) bad)
+
+-- behind the last link: one that is cut, or the end
+pub cut-link : (s : Sheet) → judge sheetFormat (begun s) (0x45 ∷ []) ≡ refuse 1
+unfolding judge
+cut-link s = ap (verdict sheetFormat link) (fault-link s [])
+
+pub cut-task : (s : Sheet) → linkCount s ≡ 0 → judge sheetFormat (begun s) (0x54 ∷ []) ≡ refuse 1
+unfolding judge
+cut-task s e =
+    let f : fault (begun s) task [] ≡ some 1 = fault-task s [] ∙ rw (eq-eqb (linkCount s) 0 e) in
+    ap (verdict sheetFormat task) f
+
+pub at-end : (s : Sheet) → judge sheetFormat (begun s) (0x51 ∷ []) ≡ go end
+unfolding judge
+at-end s = ap (verdict sheetFormat end) (fault-end s [])
+
+-- the state before the first link, and behind the last
+abbrev pub linkTail : List ℕ → List ℕ
+linkTail v = pick (eqb (length v % 4) 0) (0x51 ∷ []) (0x45 ∷ [])
+
+pub links-start : (v w : List ℕ) (n e : ℕ) → Filling w → n ≡ getD w 0 0 → getD w 1 0 ≡ 0
+    → Scanning (readOn w (linkValueBytes v) e) (linkBytes (rest 0 (length v / 4 - 0) (linkValue v)) ++ linkTail v) w w n 0 e
+unfolding readOn linkValueBytes
+links-start v w n e f p q =
+    record {
+      long = refl;
+      filling = f;
+      tasks = sym p;
+      links = q;
+      going =
+          subst (λ (ls : List Link). Going sheetFormat (readOn w (linkValueBytes v) e) (begun (sheetIn w)) e (linkBytes ls ++ linkTail v))
+          (sym (rest-all (length v / 4) (linkValue v))) (going-on sheetFormat (begun (sheetIn w)) e (linkValueBytes v));
+    }
+
+module _ (v : List ℕ) {a : Answer Sheet} {w₀ w : List ℕ} {n j e : ℕ} (s : Scanning a (linkBytes (rest j (length v / 4 - j) (linkValue v)) ++ linkTail v) w₀ w n j e) (h : j ≡ length v / 4) where
+  links-over : Scanning a (linkTail v) w₀ w n j e
+  links-over = subst (λ (ls : List Link). Scanning a (linkBytes ls ++ linkTail v) w₀ w n j e) (rest-none j (length v / 4) (linkValue v) h) s
+
+  pub links-closed : (r : Reading) → e ≡ 6 + 5 * n + 7 * j → r ≡ valuesClosed (length v) n → ReadIs a w₀ w r
+  unfolding valuesClosed
+  links-closed r p q = subst (ReadIs a w₀ w) (sym q) (tail (ℕ-discrete (length v % 4) 0))
+    where
+      place : e ≡ 6 + 5 * n + 7 * (length v / 4)
+      place = omega arith
+
+      whole : Scanning a (0x51 ∷ []) w₀ w n j e → Dec (n ≡ 0) → ReadIs a w₀ w (pick (eqb n 0) (Refused 9 (6 + 5 * n + 7 * (length v / 4))) Read)
+      whole t (yes z) = rw (eq-eqb n 0 z, ← place) (scan-bare t (at-end (sheetIn w)) refl z)
+      whole t (no z) = rw (ne-eqb n 0 z) (scan-whole t (at-end (sheetIn w)) refl z)
+
+      tail : Dec (length v % 4 ≡ 0)
+          → ReadIs a w₀ w (pick (eqb (length v % 4) 0) (pick (eqb n 0) (Refused 9 (6 + 5 * n + 7 * (length v / 4))) Read) (Refused 1 (6 + 5 * n + 7 * (length v / 4))))
+      tail (yes z) =
+          let b : eqb (length v % 4) 0 ≡ true = eq-eqb (length v % 4) 0 z in
+          rw b (whole (subst (λ (t : Bool). Scanning a (pick t (0x51 ∷ []) (0x45 ∷ [])) w₀ w n j e) b links-over) (ℕ-discrete n 0))
+      tail (no z) =
+          let b : eqb (length v % 4) 0 ≡ false = ne-eqb (length v % 4) 0 z in
+          rw (b, ← place) (scan-refuse (subst (λ (t : Bool). Scanning a (pick t (0x51 ∷ []) (0x45 ∷ [])) w₀ w n j e) b links-over) 1 (cut-link (sheetIn w)))
+
+-- the same for tasks
+abbrev pub taskTail : List ℕ → List ℕ → List ℕ
+taskTail v u = pick (eqb (length v % 2) 0) (linkValueBytes u) (0x54 ∷ [])
+
+pub tasks-start : (v u w : List ℕ) → Filling w → getD w 0 0 ≡ 0 → getD w 1 0 ≡ 0
+    → Scanning (readOn w (taskValueBytes v u) 6) (taskBytes (rest 0 (length v / 2 - 0) (taskValue v)) ++ taskTail v u) w w 0 0 6
+unfolding readOn taskValueBytes
+tasks-start v u w f p q =
+    record {
+      long = refl;
+      filling = f;
+      tasks = p;
+      links = q;
+      going =
+          subst (λ (ts : List Task). Going sheetFormat (readOn w (taskValueBytes v u) 6) (begun (sheetIn w)) 6 (taskBytes ts ++ taskTail v u))
+          (sym (rest-all (length v / 2) (taskValue v))) (going-on sheetFormat (begun (sheetIn w)) 6 (taskValueBytes v u));
+    }
+
+module _ (v u : List ℕ) {a : Answer Sheet} {w₀ w : List ℕ} {i e : ℕ} (s : Scanning a (taskBytes (rest i (length v / 2 - i) (taskValue v)) ++ taskTail v u) w₀ w i 0 e) (h : i ≡ length v / 2) where
+  tasks-over : Scanning a (taskTail v u) w₀ w i 0 e
+  tasks-over = subst (λ (ts : List Task). Scanning a (taskBytes ts ++ taskTail v u) w₀ w i 0 e) (rest-none i (length v / 2) (taskValue v) h) s
+
+  pub tasks-cut : length v % 2 ≢ 0 → ReadIs a w₀ w (Refused 1 e)
+  tasks-cut z =
+      scan-refuse (subst (λ (t : Bool). Scanning a (pick t (linkValueBytes u) (0x54 ∷ [])) w₀ w i 0 e) (ne-eqb (length v % 2) 0 z) tasks-over) 1
+      (cut-task (sheetIn w) (links-in w ∙ s .links))
+
+  -- the links are read on with the words as they are
+  pub tasks-done : length v % 2 ≡ 0 → a ≡ readOn w (linkValueBytes u) e
+  unfolding readOn
+  tasks-done z = going-is sheetFormat (subst (λ (t : Bool). Scanning a (pick t (linkValueBytes u) (0x54 ∷ [])) w₀ w i 0 e) (eq-eqb (length v % 2) 0 z) tasks-over .going)
+
+-- the board command of the values
+pub opening : (p l : ℕ) (X : List ℕ) → judge sheetFormat fresh (boardBytes p l ++ X) ≡ verdict sheetFormat board (pick (not (both (leb 1 p) (leb p 16))) (some 6) none)
+unfolding judge fault
+opening p l X =
+    let ops : List ℕ = p ∷ (numberBytes 4 l ++ X) in
+    rw (le-ltb (length ops) 5 (omega arith))
+
+pub board-refused : (p l : ℕ) (v u w : List ℕ) → (p < 1) ⊎ (16 < p) → ReadIs (readForm (valueBytes p l v u)) w w (Refused 6 0)
+unfolding readForm valueBytes
+board-refused p l v u w h =
+    read-refused _ w w 6 0 refl
+    (refuses sheetFormat (starts sheetFormat fresh (boardBytes p l ++ taskValueBytes v u)) 6 (opening p l (taskValueBytes v u) ∙ ap (λ (t : Bool). verdict sheetFormat board (pick (not t) (some 6) none)) (outside h)))
+  where
+    outside : (p < 1) ⊎ (16 < p) → both (leb 1 p) (leb p 16) ≡ false
+    outside (inl q) = rw (lt-leb 1 p q)
+    outside (inr q) = rw (lt-leb p 16 q) (both-false (leb 1 p))
+
+pub board-read : (p l : ℕ) (v u w w′ : List ℕ) → 1 ≤ p → p ≤ 16 → l < 4294967296 → FillingOf (record { processors = p; limit = l; tasks = []; links = [] }) w w′
+    → readForm (valueBytes p l v u) ≡ readOn w′ (taskValueBytes v u) 6
+unfolding readForm valueBytes readOn
+board-read p l v u w w′ h k small f =
+    let X : List ℕ = taskValueBytes v u in
+    let j : judge sheetFormat fresh (boardBytes p l ++ X) ≡ go board = opening p l X ∙ rw (le-leb 1 p h, le-leb p 16 k) in
+    let limit : numberAt 4 (p ∷ (numberBytes 4 l ++ X)) 1 ≡ l = numberAt-cons 4 p (numberBytes 4 l ++ X) 0 ∙ number-of-bytes 4 l X small in
+    let here : begun (record { processors = p; limit = numberAt 4 (p ∷ (numberBytes 4 l ++ X)) 1; tasks = []; links = [] }) ≡ begun (sheetIn w′) =
+    ap (λ (y : ℕ). begun (record { processors = p; limit = y; tasks = []; links = [] })) limit ∙ sym (ap begun (f .sheet)) in
+    going-is sheetFormat
+    (subst (λ (q : Progress). Going sheetFormat (readAll sheetFormat fresh (boardBytes p l ++ X)) q 6 X) here
+    (goes sheetFormat (starts sheetFormat fresh (boardBytes p l ++ X)) board refl j))
+
+-- an answer known by another name
+pub read-as : {a b : Answer Sheet} {w last : List ℕ} {r : Reading} → a ≡ b → ReadIs b w last r → ReadIs a w last r
+read-as {a} {b} {w} {last} {r} e h = subst (λ (x : Answer Sheet). ReadIs x w last r) (sym e) h

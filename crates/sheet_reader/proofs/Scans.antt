@@ -1,0 +1,277 @@
+-- The state of a scan of bytes, and the ways on and out.
+use Prim.Native.Nat.{ℕ, _+_, _-_, _<_, _≤_}
+use mathlib.Core.Path.{_≡_, refl, sym, ap, ap₂, subst, _∙_}
+use mathlib.Core.Bool.{Bool, true, false}
+use mathlib.Core.Logic.{_≢_}
+use mathlib.Core.List.{List, [], _∷_, _++_}
+use native.Mathlib.Omega.{arith}
+use native.Mathlib.Nat.{add-zero}
+use native.Mathlib.Decide.{decLt, ℕ-discrete}
+use borrow.Author.Tests.{leb-false, leb-true, not-false, eq-eqb, ne-eqb, lt-ltb, le-ltb}
+use lib.ListN.{length, getD, drop, length-drop, length-set}
+use lib.Seq.{getD-drop, drop-drop, getD-set-same, getD-set-other}
+use lib.Dec.{eqb, ltb, leb}
+use Rattle.folds.specs.Folds.{pick, both, either, listed}
+use Rattle.folds.specs.Answers.{Answer, value, refused}
+use Rattle.folds.proofs.Tests.{not-value, either-none, both-parts}
+use Rattle.folds.proofs.Loops.{listed-zero}
+use Rattle.numbers.specs.Number.{numberAt}
+use Rattle.numbers.proofs.Laws.{numberAt-drop, number-lt}
+use Rattle.commands.specs.Commands.{Outcome, refuse, go, judge, judgeKind, readAll}
+use Rattle.commands.specs.Reading.{Going}
+use Rattle.commands.proofs.Going.{starts, goes, refuses, ends, comes}
+use Rattle.workspace.specs.Area.{fixed}
+use Rattle.sheet.specs.Sheet.{Sheet, Task, Link, taskCount, linkCount}
+use Rattle.sheet.specs.Format.{Kind, board, task, link, end, width, Progress, fresh, closes, withCommand, taskFrom, linkFrom, ended, joins, sheetFormat, readForm}
+use Rattle.sheet.specs.Tables.{sheetIn, pairIn, Loaded, Filling, FillingOf, taskWords, linkWords, pairWords}
+use Rattle.sheet.specs.Faults.{begun}
+use Rattle.sheet_reader.specs.Answers.{readingOf, openingOf, closedOf, ReadIs}
+use Rattle.sheet_reader.specs.Scanning.{Scanning, Walking, addedWords}
+use Rattle.sheet_reader.specs.declared.Reading.{Reading}
+use Rattle.sheet_reader.specs.declared.Reading.the-variants.{Read, Refused}
+use Rattle.sheet.proofs.Rows.{tasks-in, links-in}
+use Rattle.sheet.proofs.Fills.{task-long, task-count, task-away, sheet-task, link-long, link-count, link-away, pair-long, pair-away}
+use Rattle.sheet.proofs.Joins.{filling-task, filling-link, link-sheet}
+use Rattle.sheet.proofs.Judging.{sound-of}
+
+-- how an answer ends up as a reading
+pub read-refused : (a : Answer Sheet) (w last : List ℕ) (r e : ℕ) → length last ≡ length w → a ≡ refused r e → ReadIs a w last (Refused r e)
+read-refused a w last r e long h =
+    record { long = long; answer = sym (ap readingOf h); loaded = λ s q. not-value (sym h ∙ q); held = λ s q. not-value (sym h ∙ q) }
+
+pub read-value : (a : Answer Sheet) (w last : List ℕ) → length last ≡ length w → Loaded last → a ≡ value (sheetIn last) → ReadIs a w last Read
+read-value a w last long l h =
+    record {
+      long = long;
+      answer = sym (ap readingOf h);
+      loaded = λ s q. l;
+      held = λ s q. same (sym h ∙ q);
+    }
+  where
+    same : {s t : Sheet} → _≡_ {A = Answer Sheet} (value s) (value t) → s ≡ t
+    same e = cc
+
+no-tasks : (p l : ℕ) → taskCount (record { processors = p; limit = l; tasks = []; links = [] }) ≡ 0
+unfolding taskCount
+no-tasks p l = refl
+
+no-links : (p l : ℕ) → linkCount (record { processors = p; limit = l; tasks = []; links = [] }) ≡ 0
+unfolding linkCount
+no-links p l = refl
+
+-- behind the end command: bytes, no task, or the sheet
+ended-tail : (s : Sheet) (d : List ℕ) (e : ℕ) → 0 < length d → ended (begun s) e d ≡ refused 4 (e + 1)
+unfolding ended
+ended-tail s d e h = rw (lt-ltb 0 (length d) h)
+
+ended-bare : (s : Sheet) (d : List ℕ) (e : ℕ) → length d ≡ 0 → taskCount s ≡ 0 → ended (begun s) e d ≡ refused 9 e
+unfolding ended
+ended-bare s d e h z = rw (le-ltb 0 (length d) (omega arith), eq-eqb (taskCount s) 0 z)
+
+ended-whole : (s : Sheet) (d : List ℕ) (e : ℕ) → length d ≡ 0 → taskCount s ≢ 0 → ended (begun s) e d ≡ value s
+unfolding ended
+ended-whole s d e h z = rw (le-ltb 0 (length d) (omega arith), ne-eqb (taskCount s) 0 z)
+
+module _ {a : Answer Sheet} {d w₀ w : List ℕ} {n m e : ℕ} (s : Scanning a d w₀ w n m e) where
+  -- the scan goes on behind a command of kind k
+  goes-on : (k : Kind) (w′ : List ℕ) (n′ m′ : ℕ) → closes k ≡ false → judge sheetFormat (begun (sheetIn w)) d ≡ go k
+      → Filling w′ → length w′ ≡ length w → getD w′ 0 0 ≡ n′ → getD w′ 1 0 ≡ m′ → sheetIn w′ ≡ withCommand (sheetIn w) k (drop 1 d)
+      → Scanning a (drop (1 + width k) d) w₀ w′ n′ m′ (e + (1 + width k))
+  goes-on k w′ n′ m′ c j f l e₁ e₂ h =
+      record {
+        long = l ∙ s .long;
+        filling = f;
+        tasks = e₁;
+        links = e₂;
+        going = subst (λ (p : Progress). Going sheetFormat a p (e + (1 + width k)) (drop (1 + width k) d)) (sym (ap begun h)) (goes sheetFormat (s .going) k c j);
+      }
+
+  pub task-few : judge sheetFormat (begun (sheetIn w)) d ≡ go task → n < 256
+  task-few j = omega (arith, leb-false 256 (taskCount (sheetIn w)) (sound-of _ d task j .space), tasks-in w, s .tasks)
+
+  pub link-few : judge sheetFormat (begun (sheetIn w)) d ≡ go link → m < 1024
+  link-few j = omega (arith, leb-false 1024 (linkCount (sheetIn w)) (sound-of _ d link j .space), links-in w, s .links)
+
+  -- a task
+  pub scan-task : (work store : ℕ) → judge sheetFormat (begun (sheetIn w)) d ≡ go task → work ≡ numberAt 2 d 1 → store ≡ numberAt 2 d 3 → work < 65536 → store < 65536
+      → Scanning a (drop 5 d) w₀ (taskWords w n work store) (n + 1) m (e + 5)
+  scan-task work store j e₁ e₂ h₁ h₂ =
+      let long : fixed ≤ length w = s .filling .loaded .long in
+      let few = task-few j in
+      let from : taskFrom (drop 1 d) ≡ record { work = work; store = store } =
+      let p : numberAt 2 (drop 1 d) 0 ≡ work = numberAt-drop 2 1 d 0 ∙ sym e₁ in
+      let q : numberAt 2 (drop 1 d) 2 ≡ store = numberAt-drop 2 1 d 2 ∙ sym e₂ in
+      λ x. record { work = p x; store = q x } in
+      goes-on task (taskWords w n work store) (n + 1) m refl j
+      (filling-task w n work store (s .filling) (s .tasks) few h₁ h₂)
+      (task-long w n work store long few)
+      (task-count w n work store long few)
+      (task-away w n work store long few 1 (λ q. omega arith) (λ q. omega arith) (λ q. omega arith) ∙ s .links)
+      (sheet-task w n work store long few (s .tasks) (s .filling .loaded .links)
+      ∙ ap (λ (t : Task). record { processors = sheetIn w .processors; limit = sheetIn w .limit; tasks = sheetIn w .tasks ++ t ∷ []; links = sheetIn w .links }) (sym from))
+
+  -- the ends of a link
+  module _ (x y : ℕ) (j : judge sheetFormat (begun (sheetIn w)) d ≡ go link) (p : x ≡ getD d 1 0) (q : y ≡ getD d 2 0) where
+    first-end : getD (drop 1 d) 0 0 ≡ x
+    first-end = getD-drop 1 d 0 0 ∙ sym p
+
+    second-end : getD (drop 1 d) 1 0 ≡ y
+    second-end = getD-drop 1 d 1 0 ∙ sym q
+
+    tight : (leb (taskCount (sheetIn w)) (getD (drop 1 d) 0 0) ≡ false) × (leb (taskCount (sheetIn w)) (getD (drop 1 d) 1 0) ≡ false)
+    tight = either-none _ _ (sound-of _ d link j .tight)
+
+    pub source-small : x < getD w 0 0
+    source-small = omega (arith, leb-false (taskCount (sheetIn w)) (getD (drop 1 d) 0 0) (tight .0), first-end, tasks-in w)
+
+    pub target-small : y < getD w 0 0
+    target-small = omega (arith, leb-false (taskCount (sheetIn w)) (getD (drop 1 d) 1 0) (tight .1), second-end, tasks-in w)
+
+    single : joins (sheetIn w) x y ≡ false
+    single = ap₂ (joins (sheetIn w)) (sym first-end) (sym second-end) ∙ sound-of _ d link j .single
+
+    pub link-single : pairIn w x y ≡ false
+    link-single = s .filling .pairs x y (omega (arith, source-small, s .filling .loaded .tasks)) (omega (arith, target-small, s .filling .loaded .tasks)) ∙ single
+
+    -- a link
+    pub scan-link : (c b : ℕ) → c ≡ numberAt 2 d 3 → b ≡ numberAt 2 d 5 → c < 65536 → b < 65536
+        → Scanning a (drop 7 d) w₀ (linkWords (pairWords w x y) m x y c b) n (m + 1) (e + 7)
+    scan-link c b e₃ e₄ h₁ h₂ =
+        let few = link-few j in
+        let long : fixed ≤ length w = s .filling .loaded .long in
+        let small : (x < 256) × (y < 256) = (omega (arith, source-small, s .filling .loaded .tasks), omega (arith, target-small, s .filling .loaded .tasks)) in
+        let v-long = pair-long w x y long (small .0) (small .1) in
+        let v-fixed : fixed ≤ length (pairWords w x y) = omega arith in
+        let from : linkFrom (drop 1 d) ≡ record { source = x; target = y; cost = c; bytes = b } =
+        let q₃ : numberAt 2 (drop 1 d) 2 ≡ c = numberAt-drop 2 1 d 2 ∙ sym e₃ in
+        let q₄ : numberAt 2 (drop 1 d) 4 ≡ b = numberAt-drop 2 1 d 4 ∙ sym e₄ in
+        λ i. record { source = first-end i; target = second-end i; cost = q₃ i; bytes = q₄ i } in
+        goes-on link (linkWords (pairWords w x y) m x y c b) n (m + 1) refl j
+        (filling-link w m x y c b (s .filling) (s .links) few source-small target-small h₁ h₂ single)
+        (link-long (pairWords w x y) m x y c b v-fixed few ∙ v-long)
+        (link-away (pairWords w x y) m x y c b v-fixed few 0 (λ q. omega arith) (λ q. omega arith) (λ q. omega arith) (λ q. omega arith) (λ q. omega arith)
+        ∙ pair-away w x y long (small .0) (small .1) 0 (omega arith) ∙ s .tasks)
+        (link-count (pairWords w x y) m x y c b v-fixed few)
+        (link-sheet w m x y c b (s .filling) (s .links) few source-small target-small h₁ h₂
+        ∙ ap (λ (l : Link). record { processors = sheetIn w .processors; limit = sheetIn w .limit; tasks = sheetIn w .tasks; links = sheetIn w .links ++ l ∷ [] }) (sym from))
+
+  pub scan-refuse : (r : ℕ) → judge sheetFormat (begun (sheetIn w)) d ≡ refuse r → ReadIs a w₀ w (Refused r e)
+  scan-refuse r j = read-refused a w₀ w r e (s .long) (refuses sheetFormat (s .going) r j)
+
+  -- the end: bytes behind it, no task, or the sheet
+  scan-end : judge sheetFormat (begun (sheetIn w)) d ≡ go end → a ≡ ended (begun (sheetIn w)) e (drop 1 d)
+  scan-end j = ends sheetFormat (s .going) end refl j
+
+  pub scan-tail : judge sheetFormat (begun (sheetIn w)) d ≡ go end → 0 < length (drop 1 d) → ReadIs a w₀ w (Refused 4 (e + 1))
+  scan-tail j h = read-refused a w₀ w 4 (e + 1) (s .long) (scan-end j ∙ ended-tail (sheetIn w) (drop 1 d) e h)
+
+  pub scan-bare : judge sheetFormat (begun (sheetIn w)) d ≡ go end → length (drop 1 d) ≡ 0 → n ≡ 0 → ReadIs a w₀ w (Refused 9 e)
+  scan-bare j h z = read-refused a w₀ w 9 e (s .long) (scan-end j ∙ ended-bare (sheetIn w) (drop 1 d) e h (tasks-in w ∙ s .tasks ∙ z))
+
+  pub scan-whole : judge sheetFormat (begun (sheetIn w)) d ≡ go end → length (drop 1 d) ≡ 0 → n ≢ 0 → ReadIs a w₀ w Read
+  scan-whole j h z =
+      read-value a w₀ w (s .long) (s .filling .loaded) (scan-end j ∙ ended-whole (sheetIn w) (drop 1 d) e h (λ q. z (sym (s .tasks) ∙ sym (tasks-in w) ∙ q)))
+
+-- bytes of which the first `at` are read
+module _ {a : Answer Sheet} {b w₀ w : List ℕ} {n m at : ℕ} (s : Walking a b w₀ w n m at) where
+  operand : (i x : ℕ) → at + i ≡ x → getD (drop at b) i 0 ≡ getD b x 0
+  operand i x e = getD-drop at b i 0 ∙ ap (λ (k : ℕ). getD b k 0) e
+
+  operand16 : (i x : ℕ) → at + i ≡ x → numberAt 2 (drop at b) i ≡ numberAt 2 b x
+  operand16 i x e = numberAt-drop 2 at b i ∙ ap (numberAt 2 b) e
+
+  -- a command stands there whole
+  pub walk-room : (k : Kind) → judge sheetFormat (begun (sheetIn w)) (drop at b) ≡ go k → at + (1 + width k) ≤ length b
+  walk-room k j =
+      omega (arith, simp length-drop at (sound-of _ (drop at b) k j .room), simp length-drop at (comes sheetFormat _ (drop at b) k j .more))
+
+  pub walk-task : judge sheetFormat (begun (sheetIn w)) (drop at b) ≡ go task → ((k : ℕ) → getD b k 0 < 256)
+      → Walking a b w₀ (taskWords w n (numberAt 2 b (at + 1)) (numberAt 2 b (at + 3))) (n + 1) m (at + 5)
+  walk-task j small =
+      let work : ℕ = numberAt 2 b (at + 1) in
+      let store : ℕ = numberAt 2 b (at + 3) in
+      record {
+        room = walk-room task j;
+        scanning =
+            subst (λ (d : List ℕ). Scanning a d w₀ (taskWords w n work store) (n + 1) m (at + 5)) (drop-drop 5 at b)
+            (scan-task (s .scanning) work store j (sym (operand16 1 (at + 1) refl)) (sym (operand16 3 (at + 3) refl)) (number-lt 2 b (at + 1) small) (number-lt 2 b (at + 3) small));
+      }
+
+  pub walk-single : judge sheetFormat (begun (sheetIn w)) (drop at b) ≡ go link → pairIn w (getD b (at + 1) 0) (getD b (at + 2) 0) ≡ false
+  walk-single j = link-single (s .scanning) _ _ j (sym (operand 1 (at + 1) refl)) (sym (operand 2 (at + 2) refl))
+
+  pub walk-link : judge sheetFormat (begun (sheetIn w)) (drop at b) ≡ go link → ((k : ℕ) → getD b k 0 < 256) → Walking a b w₀ (addedWords b at w m) n (m + 1) (at + 7)
+  unfolding addedWords
+  walk-link j small =
+      let x : ℕ = getD b (at + 1) 0 in
+      let y : ℕ = getD b (at + 2) 0 in
+      let c : ℕ = numberAt 2 b (at + 3) in
+      let z : ℕ = numberAt 2 b (at + 5) in
+      record {
+        room = walk-room link j;
+        scanning =
+            subst (λ (d : List ℕ). Scanning a d w₀ (linkWords (pairWords w x y) m x y c z) n (m + 1) (at + 7)) (drop-drop 7 at b)
+            (scan-link (s .scanning) x y j (sym (operand 1 (at + 1) refl)) (sym (operand 2 (at + 2) refl)) c z (sym (operand16 3 (at + 3) refl)) (sym (operand16 5 (at + 5) refl)) (number-lt 2 b (at + 3) small) (number-lt 2 b (at + 5) small));
+      }
+
+  behind : length (drop 1 (drop at b)) ≡ length b - (at + 1)
+  behind = ap length (drop-drop 1 at b) ∙ length-drop (at + 1) b
+
+  pub walk-closes : (r : Reading) → judge sheetFormat (begun (sheetIn w)) (drop at b) ≡ go end → r ≡ closedOf (length b) at n → ReadIs a w₀ w r
+  unfolding closedOf
+  walk-closes r j e = subst (ReadIs a w₀ w) (sym e) (tail (decLt (at + 1) (length b)))
+    where
+      none-behind : length b ≤ at + 1 → Dec (n ≡ 0) → ReadIs a w₀ w (pick (eqb n 0) (Refused 9 at) Read)
+      none-behind h (yes z) = rw (eq-eqb n 0 z) (scan-bare (s .scanning) j (omega (arith, behind)) z)
+      none-behind h (no z) = rw (ne-eqb n 0 z) (scan-whole (s .scanning) j (omega (arith, behind)) z)
+
+      tail : Dec (at + 1 < length b) → ReadIs a w₀ w (pick (ltb (at + 1) (length b)) (Refused 4 (at + 1)) (pick (eqb n 0) (Refused 9 at) Read))
+      tail (yes h) = rw (lt-ltb (at + 1) (length b) h) (scan-tail (s .scanning) j (omega (arith, behind)))
+      tail (no h) = rw (le-ltb (at + 1) (length b) (omega arith)) (none-behind (omega arith) (ℕ-discrete n 0))
+
+-- behind the board command
+pub bare-counts : {p l : ℕ} {u w : List ℕ} → FillingOf (record { processors = p; limit = l; tasks = []; links = [] }) u w → (getD w 0 0 ≡ 0) × (getD w 1 0 ≡ 0)
+bare-counts {p} {l} {u} {w} f = (sym (tasks-in w) ∙ ap taskCount (f .sheet) ∙ no-tasks p l, sym (links-in w) ∙ ap linkCount (f .sheet) ∙ no-links p l)
+
+pub scan-board : {a : Answer Sheet} {d u : List ℕ} {e : ℕ} (v w : List ℕ) (p l : ℕ) → length w ≡ length v → FillingOf (record { processors = p; limit = l; tasks = []; links = [] }) u w
+    → Going sheetFormat a (begun (sheetIn w)) e d → Scanning a d v w 0 0 e
+scan-board v w p l long f g =
+    record {
+      long = long;
+      filling = f .filling;
+      tasks = bare-counts f .0;
+      links = bare-counts f .1;
+      going = g;
+    }
+
+-- the board command: refused, or read
+pub open-refuse : (b w : List ℕ) (r : ℕ) → openingOf r ≡ judge sheetFormat fresh b → r ≢ 0 → ReadIs (readForm b) w w (Refused r 0)
+unfolding readForm
+open-refuse b w r e h = read-refused _ w w r 0 refl (refuses sheetFormat (starts sheetFormat fresh b) r (sym e ∙ simp (ne-eqb r 0 h)))
+
+pub open-go : (b : List ℕ) (r : ℕ) → openingOf r ≡ judge sheetFormat fresh b → r ≡ 0 → judge sheetFormat fresh b ≡ go board
+open-go b r e h = sym e ∙ simp (eq-eqb r 0 h)
+
+pub open-room : (b : List ℕ) → judge sheetFormat fresh b ≡ go board → (6 ≤ length b) × (getD b 1 0 ≤ 16)
+open-room b j =
+    let k = sound-of fresh b board j in
+    let inside = both-parts (leb 1 (getD (drop 1 b) 0 0)) (leb (getD (drop 1 b) 0 0) 16) (not-false _ (k .range)) in
+    (omega (arith, simp length-drop at (k .room), comes sheetFormat _ _ board j .more), omega (arith, leb-true (getD (drop 1 b) 0 0) 16 (inside .1), getD-drop 1 b 0 0))
+
+pub walk-starts : (b w : List ℕ) (p l : ℕ) → judge sheetFormat fresh b ≡ go board → p ≡ getD b 1 0 → l ≡ numberAt 4 b 2 → (v : List ℕ)
+    → FillingOf (record { processors = p; limit = l; tasks = []; links = [] }) v w → Walking (readForm b) b w w 0 0 6
+unfolding readForm
+walk-starts b w p l j e₁ e₂ v f =
+    let room = open-room b j in
+    let p′ : getD (drop 1 b) 0 0 ≡ p = getD-drop 1 b 0 0 ∙ sym e₁ in
+    let l′ : numberAt 4 (drop 1 b) 1 ≡ l = numberAt-drop 4 1 b 1 ∙ sym e₂ in
+    let here : begun (record { processors = getD (drop 1 b) 0 0; limit = numberAt 4 (drop 1 b) 1; tasks = []; links = [] }) ≡ begun (sheetIn w) =
+    ap₂ (λ (x y : ℕ). begun (record { processors = x; limit = y; tasks = []; links = [] })) p′ l′ ∙ sym (ap begun (f .sheet)) in
+    record {
+      room = room .0;
+      scanning = scan-board w w p l refl f (subst (λ (q : Progress). Going sheetFormat (readAll sheetFormat fresh b) q 6 (drop 6 b)) here (goes sheetFormat (starts sheetFormat fresh b) board refl j));
+    }
+
+-- reading from words that are as long as those lent
+pub read-through : {a : Answer Sheet} {w mid last : List ℕ} {r : Reading} → ReadIs a mid last r → length mid ≡ length w → ReadIs a w last r
+read-through h e = record { long = h .long ∙ e; answer = h .answer; loaded = h .loaded; held = h .held }

@@ -1,0 +1,53 @@
+use Rattle.commands.proofs.Going.{judge-end}
+use Rattle.commands.specs.Commands.{verdict}
+use Rattle.sheet.proofs.Judging.{fault-board, fault-end, judge-known, judge-strange}
+use Rattle.sheet.specs.Faults.{begun}
+use Rattle.sheet.specs.Format.{board, end, sheetFormat}
+use Rattle.sheet.specs.Tables.{sheetIn}
+use borrow.Author.Needs.{needs}
+use denote.Ref.{now}
+use mathlib.Core.Path.{_∙_, ap, sym}
+use native.Mathlib.Omega.{arith}
+use Rattle.sheet_reader.proofs.bytes.next_at.Statement.{statement}
+use Rattle.sheet_reader.proofs.bytes.next_at.Tie as tie
+
+returns : tie.Need-returns
+returns c = let s = c .before .before .before in sym (judge-end sheetFormat (begun (sheetIn (now (s .args .w)))) (now (s .args .bytes)) (s .args .at) (omega arith))
+
+shared-slice-read-c : tie.Need-shared-slice-read-c
+shared-slice-read-c c = search needs
+
+task-at-requires : tie.Need-task-at-requires
+task-at-requires c κs = search needs
+
+returns-2 : tie.Need-returns-2
+returns-2 c = let s = c .before .before .before .before .before .before in c .task-at .ensures ∙ sym (judge-known (begun (sheetIn (now (s .args .w)))) (now (s .args .bytes)) (s .args .at) 0x54 (c .before .before .before .if1 .left) (c .before .if2 .taken))
+
+link-at-requires : tie.Need-link-at-requires
+link-at-requires c κs = search needs
+
+returns-3 : tie.Need-returns-3
+returns-3 c = let s = c .before .before .before .before .before .before .before in c .link-at .ensures ∙ sym (judge-known (begun (sheetIn (now (s .args .w)))) (now (s .args .bytes)) (s .args .at) 0x45 (c .before .before .before .before .if1 .left) (c .before .if3 .taken))
+
+returns-4 : tie.Need-returns-4
+returns-4 c = let s = c .before .before .before .before .before .before .before in sym (judge-known (begun (sheetIn (now (s .args .w)))) (now (s .args .bytes)) (s .args .at) 0x51 (c .before .before .before .before .if1 .left) (c .if4 .taken) ∙ ap (verdict sheetFormat end) (fault-end (sheetIn (now (s .args .w))) _))
+
+returns-5 : tie.Need-returns-5
+returns-5 c = let s = c .before .before .before .before .before .before .before .before in sym (judge-known (begun (sheetIn (now (s .args .w)))) (now (s .args .bytes)) (s .args .at) 0x4D (c .before .before .before .before .before .if1 .left) (c .if5 .taken) ∙ ap (verdict sheetFormat board) (fault-board (sheetIn (now (s .args .w))) _))
+
+returns-6 : tie.Need-returns-6
+returns-6 c = let s = c .before .before .before .before .before .before .before .before in sym (judge-strange (begun (sheetIn (now (s .args .w)))) (now (s .args .bytes)) (s .args .at) (c .before .before .before .before .before .if1 .left) (c .if5 .left) (c .before .before .before .if2 .left) (c .before .before .if3 .left) (c .before .if4 .left))
+
+pub next-at-spec : {M : Type 1} → statement M
+next-at-spec =
+    tie.close
+    (tie.spec
+    returns
+    shared-slice-read-c
+    task-at-requires
+    returns-2
+    link-at-requires
+    returns-3
+    returns-4
+    returns-5
+    returns-6)

@@ -1,0 +1,44 @@
+use Rattle.sheet_reader.proofs.Scans.{open-go, open-refuse, open-room, read-through, walk-starts}
+use borrow.Author.Needs.{needs}
+use denote.Ref.{now}
+use mathlib.Core.Path.{refl}
+use native.Mathlib.Omega.{arith}
+use Rattle.sheet_reader.proofs.bytes.read.Statement.{statement}
+use Rattle.sheet_reader.proofs.bytes.read.Tie as tie
+
+opening-requires : tie.Need-opening-requires
+opening-requires c κs = search needs
+
+returns : tie.Need-returns
+returns c = open-refuse (now (c .before .before .before .before .args .bytes)) _ _ (c .before .opening .ensures) (c .if1 .taken)
+
+shared-slice-read-begin : tie.Need-shared-slice-read-begin
+shared-slice-read-begin c = let r = open-room (now (c .before .before .before .before .before .before .args .bytes)) (open-go (now (c .before .before .before .before .before .before .args .bytes)) _ (c .before .before .before .opening .ensures) (c .before .before .if1 .left)) in omega (arith, r .0)
+
+get32-requires : tie.Need-get32-requires
+get32-requires c κs = let r = open-room (now (c .before .before .before .before .before .before .args .bytes)) (open-go (now (c .before .before .before .before .before .before .args .bytes)) _ (c .before .before .before .opening .ensures) (c .before .before .if1 .left)) in omega (arith, r .0)
+
+begin-requires : tie.Need-begin-requires
+begin-requires c κs = let r = open-room (now (c .before .before .before .before .before .before .before .args .bytes)) (open-go (now (c .before .before .before .before .before .before .before .args .bytes)) _ (c .before .before .before .before .opening .ensures) (c .before .before .before .if1 .left)) in (c .before .before .before .before .before .before .before .pre, r .1)
+
+walk-requires : tie.Need-walk-requires
+walk-requires c κs = walk-starts (now (c .before .before .before .before .before .before .before .before .before .before .before .args .bytes)) _ _ _ (open-go (now (c .before .before .before .before .before .before .before .before .before .before .before .args .bytes)) _ (c .before .before .before .before .before .before .before .before .opening .ensures) (c .before .before .before .before .before .before .before .if1 .left)) refl (c .before .before .before .before .get32 .ensures) _ (c .before .before .before .begin .ensures)
+
+same-length : tie.Need-same-length
+same-length c = search needs
+
+returns-2 : tie.Need-returns-2
+returns-2 c = read-through (c .before .before .walk .ensures) (c .before .before .before .before .before .before .begin .ensures .long)
+
+pub read-spec : {M : Type 1} → statement M
+read-spec =
+    tie.close
+    (tie.spec
+    opening-requires
+    returns
+    shared-slice-read-begin
+    get32-requires
+    begin-requires
+    walk-requires
+    same-length
+    returns-2)

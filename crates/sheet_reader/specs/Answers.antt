@@ -1,0 +1,46 @@
+-- The code's answers as the definitions have them.
+use Prim.Native.Nat.{ℕ, _+_, _*_, _/_, _%_}
+use mathlib.Core.Path.{_≡_}
+use mathlib.Core.List.{List}
+use lib.ListN.{length}
+use lib.Dec.{eqb, ltb}
+use Rattle.folds.specs.Folds.{pick}
+use Rattle.folds.specs.Answers.{Answer, value, refused}
+use Rattle.commands.specs.Commands.{Outcome, refuse, go}
+use Rattle.sheet.specs.Sheet.{Sheet}
+use Rattle.sheet.specs.Format.{Kind, board, task, link, end}
+use Rattle.sheet.specs.Tables.{sheetIn, Loaded}
+use Rattle.sheet_reader.specs.declared.bytes.Next.{Next}
+use Rattle.sheet_reader.specs.declared.bytes.Next.the-variants.{Task, Link, End, No}
+use Rattle.sheet_reader.specs.declared.Reading.{Reading}
+use Rattle.sheet_reader.specs.declared.Reading.the-variants.{Read, Refused}
+
+abbrev pub outcomeOf : Next → Outcome Kind
+outcomeOf Task = go task
+outcomeOf Link = go link
+outcomeOf End = go end
+outcomeOf (No r) = refuse r
+
+-- the board command's fault, or 0
+abbrev pub openingOf : ℕ → Outcome Kind
+openingOf r = pick (eqb r 0) (go board) (refuse r)
+
+abbrev pub readingOf : Answer Sheet → Reading
+readingOf (value s) = Read
+readingOf (refused r e) = Refused r e
+
+-- reading gave the answer a as r, and left a sheet that was read in the tables
+pub record ReadIs (a : Answer Sheet) (w last : List ℕ) (r : Reading) : Type 0 where
+  pub long : length last ≡ length w
+  pub answer : r ≡ readingOf a
+  pub loaded : (s : Sheet) → a ≡ value s → Loaded last
+  pub held : (s : Sheet) → a ≡ value s → sheetIn last ≡ s
+
+-- what the end command at offset e of so many bytes closes, behind n tasks
+unfoldable pub closedOf : ℕ → ℕ → ℕ → Reading
+closedOf long e n = pick (ltb (e + 1) long) (Refused 4 (e + 1)) (pick (eqb n 0) (Refused 9 e) Read)
+
+-- what stands behind m values of links and n tasks: a link that is cut, no task, or a sheet
+unfoldable pub valuesClosed : ℕ → ℕ → Reading
+valuesClosed m n =
+    pick (eqb (m % 4) 0) (pick (eqb n 0) (Refused 9 (6 + 5 * n + 7 * (m / 4))) Read) (Refused 1 (6 + 5 * n + 7 * (m / 4)))

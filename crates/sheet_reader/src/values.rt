@@ -1,0 +1,103 @@
+// Takes a sheet from its values into the tables, judged as the reader would judge their bytes: two values a task (work, store), four a
+// link (source, target, cost, bytes).
+ghost use mathlib.Core.Path.{_≡_};
+ghost use mathlib.Core.Bool.{false};
+ghost use Prim.Native.Nat.{_+_, _*_, _/_, _≤_, _<_};
+ghost use lib.ListN.{length, getD};
+ghost use Rattle.workspace.specs.Area.{fixed};
+ghost use Rattle.sheet.specs.Format.{readForm};
+ghost use Rattle.sheet.specs.Writing.{valueBytes, taskValueBytes, linkValueBytes};
+ghost use Rattle.sheet.specs.Tables.{sheetIn, pairIn, Filling, FillingOf, linkWords, pairWords};
+ghost use Rattle.sheet_reader.specs.Answers.{ReadIs, valuesClosed};
+ghost use Rattle.sheet_reader.specs.Scanning.{readOn};
+use crate::Reading;
+use crate::bytes;
+use sheet::pairs;
+use sheet::tables;
+
+// Puts link j of the values into the tables.
+fn add_link(links: &[u16], j: usize, w: &mut [u32])
+    requires { ⌜ (4 * j + 4 ≤ length (now links)) × (fixed ≤ length (now w)) × (j < 1024) ⌝ }
+    requires { ⌜ (getD (now links) (4 * j) 0 < 256) × (getD (now links) (4 * j + 1) 0 < 256) ⌝ }
+    requires { ⌜ pairIn (now w) (getD (now links) (4 * j) 0) (getD (now links) (4 * j + 1) 0) ≡ false ⌝ }
+    ensures { λ _. ⌜ now (w .exit) ≡ linkWords (pairWords (now (w .entry)) (getD (now (links .entry)) (4 * j) 0) (getD (now (links .entry)) (4 * j + 1) 0)) j (getD (now (links .entry)) (4 * j) 0) (getD (now (links .entry)) (4 * j + 1) 0) (getD (now (links .entry)) (4 * j + 2) 0) (getD (now (links .entry)) (4 * j + 3) 0) ⌝ }
+{
+    let k = 4 * j;
+    let source = links[k];
+    let target = links[k + 1];
+    pairs::join(w, source as usize, target as usize);
+    tables::put_link(w, j, source, target, links[k + 2], links[k + 3]);
+}
+
+// What stands behind the links of so many tasks: a link that is cut, or the end.
+fn closing(links: &[u16], tasks: usize) -> Reading
+    requires { ⌜ (tasks ≤ 256) × (length (now links) / 4 ≤ 1024) ⌝ }
+    ensures { λ r. ⌜ r ≡ valuesClosed (length (now (links .entry))) tasks ⌝ }
+{
+    let end = 6 + 5 * tasks + 7 * (links.len() / 4);
+    if links.len() % 4 != 0 {
+        return Reading::Refused(1, end);
+    }
+    if tasks == 0 {
+        return Reading::Refused(9, end);
+    }
+    Reading::Read
+}
+
+// The links' values, behind so many tasks.
+fn load_links(links: &[u16], tasks: usize, w: &mut [u32]) -> Reading
+    requires { ⌜ Filling (now w) ⌝ }
+    requires { ⌜ (tasks ≡ getD (now w) 0 0) × (getD (now w) 1 0 ≡ 0) ⌝ }
+    ensures { λ r. ⌜ ReadIs (readOn (now (w .entry)) (linkValueBytes (now (links .entry))) (6 + 5 * tasks)) (now (w .entry)) (now (w .exit)) r ⌝ }
+{
+    let m = links.len() / 4;
+    let mut j = 0;
+    while j < m {
+        let k = 4 * j;
+        let fault = bytes::link_fault(w, tasks, j, links[k] as usize, links[k + 1] as usize);
+        if fault != 0 {
+            return Reading::Refused(fault, 6 + 5 * tasks + 7 * j);
+        }
+        add_link(links, j, w);
+        j += 1;
+    }
+    closing(links, tasks)
+}
+
+// The tasks' values, and then the links'.
+fn load_tasks(tasks: &[u16], links: &[u16], w: &mut [u32]) -> Reading
+    requires { ⌜ Filling (now w) ⌝ }
+    requires { ⌜ (getD (now w) 0 0 ≡ 0) × (getD (now w) 1 0 ≡ 0) ⌝ }
+    ensures { λ r. ⌜ ReadIs (readOn (now (w .entry)) (taskValueBytes (now (tasks .entry)) (now (links .entry))) 6) (now (w .entry)) (now (w .exit)) r ⌝ }
+{
+    let n = tasks.len() / 2;
+    let mut i = 0;
+    while i < n {
+        let k = 2 * i;
+        let fault = bytes::task_fault(i, tasks[k]);
+        if fault != 0 {
+            return Reading::Refused(fault, 6 + 5 * i);
+        }
+        tables::put_task(w, i, tasks[k], tasks[k + 1]);
+        i += 1;
+    }
+    if tasks.len() % 2 != 0 {
+        return Reading::Refused(1, 6 + 5 * n);
+    }
+    load_links(links, n, w)
+}
+
+// A sheet's values in the tables, or the first of refusals 1 to 9 that the reader would give their bytes.
+pub fn load(processors: u8, limit: u32, tasks: &[u16], links: &[u16], w: &mut [u32]) -> Reading
+    requires { ⌜ fixed ≤ length (now w) ⌝ }
+    ensures { λ r. ⌜ ReadIs (readForm (valueBytes processors limit (now (tasks .entry)) (now (links .entry)))) (now (w .entry)) (now (w .exit)) r ⌝ }
+{
+    if processors < 1 {
+        return Reading::Refused(6, 0);
+    }
+    if 16 < processors {
+        return Reading::Refused(6, 0);
+    }
+    bytes::begin(w, processors, limit);
+    load_tasks(tasks, links, w)
+}
