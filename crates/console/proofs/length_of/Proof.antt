@@ -1,8 +1,8 @@
--- `plan::length_of` meets its contract.
-use Rattle.plan.proofs.Pieces.{whole-long, whole-short}
+-- `console::length_of` meets its contract.
+use Rattle.console.proofs.Pieces.{whole-long, whole-short}
 use borrow.Author.Needs.{needs}
-use Rattle.plan.proofs.length_of.Statement.{statement}
-use Rattle.plan.proofs.length_of.Tie as tie
+use Rattle.console.proofs.length_of.Statement.{statement}
+use Rattle.console.proofs.length_of.Tie as tie
 
 returns : tie.Need-returns
 returns c = whole-long _ (c .before .before .before .pre) (c .before .r .given .1)

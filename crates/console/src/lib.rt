@@ -1,0 +1,95 @@
+// What the programs share: they read standard input into a lent buffer and print listings on standard output. A read or a write that fails
+// is named on standard error, since a program has no exit status to say so.
+ghost use mathlib.Core.Path.{_≡_};
+ghost use Prim.Native.Nat.{ℕ, _≤_, _-_};
+ghost use lib.ListN.{length};
+ghost use Rattle.console.specs.Pieces.{GotIs, InputIs, Whole, PutIs};
+use libc::STDIN_FILENO;
+use libc::STDOUT_FILENO;
+use lines::Listed;
+
+// What a read brought.
+enum Got {
+    More(usize),
+    End,
+    Failed,
+}
+
+// How much input there was, up to what the buffer holds.
+pub enum Input {
+    Bytes(usize),
+    Failed,
+}
+
+// One read, behind the first `at` bytes.
+fn read_some(buf: &mut [u8], at: usize) -> Got
+    requires { ⌜ at ≤ length (now buf) ⌝ }
+    ensures { λ r. ⌜ GotIs (length (now (buf .entry)) - at) r ⌝ }
+{
+    let rest = &mut buf[at..];
+    let got = libc::read(STDIN_FILENO, rest);
+    if got < 0 {
+        return Got::Failed;
+    }
+    let n = io::count(got, rest);
+    if n == 0 {
+        return Got::End;
+    }
+    Got::More(n)
+}
+
+// Reads until the input ends or the buffer is full, however many pieces it comes in.
+pub fn read_all(buf: &mut [u8]) -> Input
+    ensures { λ r. ⌜ InputIs (length (now (buf .entry))) r ⌝ }
+{
+    let mut at: usize = 0;
+    while at < buf.len() {
+        match read_some(buf, at) {
+            Got::Failed => {
+                return Input::Failed;
+            }
+            Got::End => {
+                return Input::Bytes(at);
+            }
+            Got::More(n) => {
+                at += n;
+            }
+        }
+    }
+    Input::Bytes(at)
+}
+
+// The length of a listing that was written.
+fn length_of(r: Listed) -> usize
+    requires { ⌜ Whole r ⌝ }
+    ensures { λ n. ⌜ (r ≡ Listed.Long n) × (n ≤ 21551) ⌝ }
+{
+    match r {
+        Listed::Long(n) => n,
+        Listed::Short(n) => n,
+    }
+}
+
+// Puts the listing of these bytes at the front of `out`, and answers its length.
+fn put_listing(sheet: &[u8], out: &mut [u8]) -> usize
+    requires { ⌜ 21551 ≤ length (now out) ⌝ }
+    ensures { λ n. ⌜ PutIs (now (sheet .entry)) (now (out .exit)) n ⌝ }
+{
+    let mut work = [0u32; 22528];
+    length_of(lines::list(sheet, &mut work, out))
+}
+
+// Writes these bytes.
+pub fn write(bytes: &[u8]) {
+    let is_written = io::write_all(STDOUT_FILENO, bytes);
+    if !is_written {
+        os::fail(b"standard output");
+    }
+}
+
+// Writes the listing of these bytes. No listing is longer than `out`.
+pub fn print(sheet: &[u8]) {
+    let mut out = [0u8; 21551];
+    let n = put_listing(sheet, &mut out);
+    write(&out[..n]);
+}
