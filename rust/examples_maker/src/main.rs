@@ -1,17 +1,26 @@
-//! Writes the trial sheets, the figures and what is printed of them to the examples folder of the repository, or to the folder given.
+//! Writes the examples, and what the program `trials` reads and prints, into the repository, or into the folder given.
 
-use std::path::PathBuf;
+use std::path::{Path, PathBuf};
 use std::{env, fs, io};
 
 fn main() -> io::Result<()> {
-    let folder = match env::args_os().nth(1) {
+    let root = match env::args_os().nth(1) {
         Some(folder) => PathBuf::from(folder),
-        None => PathBuf::from(env!("CARGO_MANIFEST_DIR")).join("../../examples"),
+        None => PathBuf::from(env!("CARGO_MANIFEST_DIR")).join("../.."),
     };
-    fs::create_dir_all(folder.join("figures"))?;
     for (name, bytes) in reference::trials::files() {
-        fs::write(folder.join(&name), &bytes)?;
-        println!("{name}: {} bytes", bytes.len());
+        write(&root, &format!("examples/{name}"), &bytes)?;
     }
+    for (name, bytes) in reference::trials::program_files() {
+        write(&root, &format!("crates/trials/{name}"), &bytes)?;
+    }
+    Ok(())
+}
+
+fn write(root: &Path, name: &str, bytes: &[u8]) -> io::Result<()> {
+    let path = root.join(name);
+    fs::create_dir_all(path.parent().expect("a file is in a folder"))?;
+    fs::write(path, bytes)?;
+    println!("{name}: {} bytes", bytes.len());
     Ok(())
 }

@@ -1,4 +1,5 @@
-//! The trial sheets with their bundles, as bytes and as files, and what the program `trials` prints.
+//! The trial sheets with their bundles, as bytes and as files, and what the program `trials` reads and
+//! prints.
 
 use crate::bundle::{write_claim, Command};
 use crate::sheet::Sheet;
@@ -92,14 +93,37 @@ pub fn k9_and_k10() -> Vec<(String, Vec<u8>)> {
     sheets
 }
 
-/// What the program `trials` prints: the name and the listing of K9, K10 and each figure.
-pub fn listings() -> Vec<u8> {
+/// The sheets of the program `trials` by name: K9, K10 and each figure.
+pub fn named() -> Vec<(String, Vec<u8>)> {
     let figures = figures::all().into_iter();
     let figures = figures.map(|figure| (figure.name.to_string(), figure.sheet().to_bytes()));
-    let named = k9_and_k10().into_iter().chain(figures);
-    named
+    k9_and_k10().into_iter().chain(figures).collect()
+}
+
+/// What the program `trials` reads: for each sheet the name's length (u8), the name, the sheet's
+/// length (u16, lowest byte first), the sheet.
+pub fn records() -> Vec<u8> {
+    let mut records = Vec::new();
+    for (name, sheet) in named() {
+        records.push(u8::try_from(name.len()).expect("a short name"));
+        records.extend(name.as_bytes());
+        records.extend(u16::try_from(sheet.len()).expect("a short sheet").to_le_bytes());
+        records.extend(sheet);
+    }
+    records
+}
+
+/// What the program `trials` prints: the name and the listing of each sheet.
+pub fn listings() -> Vec<u8> {
+    named()
+        .into_iter()
         .flat_map(|(name, sheet)| [name.as_bytes(), b"\n", &listing::print(&sheet)].concat())
         .collect()
+}
+
+/// The files of the program `trials`: their names and bytes.
+pub fn program_files() -> [(&'static str, Vec<u8>); 2] {
+    [("stdin", records()), ("stdout", listings())]
 }
 
 /// The files of the examples: their names and bytes.
@@ -122,7 +146,6 @@ pub fn files() -> Vec<(String, Vec<u8>)> {
         ("k7.bundle", k7_bundle()),
         ("k8-self.sheet", k8_self_sheet()),
         ("k8-circle.sheet", k8_circle_sheet()),
-        ("trials.txt", listings()),
         ("figures/001-F6.1.bundle", figures::gauss_jordan_bundle()),
     ]
     .into_iter()

@@ -1,12 +1,24 @@
-//! The files in the examples folder are what the maker writes, and its page names each.
+//! The files in the examples folder and those of the program `trials` are what the maker writes, and
+//! the examples' page names each.
 
 use reference::trials;
 use std::collections::BTreeSet;
 use std::fs;
 use std::path::PathBuf;
 
+fn root() -> PathBuf {
+    PathBuf::from(env!("CARGO_MANIFEST_DIR")).join("../..")
+}
+
 fn folder() -> PathBuf {
-    PathBuf::from(env!("CARGO_MANIFEST_DIR")).join("../../examples")
+    root().join("examples")
+}
+
+/// The file is stored with these bytes.
+fn stored(path: PathBuf, bytes: &[u8]) {
+    let name = path.display();
+    let file = fs::read(&path).unwrap_or_else(|error| panic!("{name}: {error}"));
+    assert!(file == bytes, "{name} differs: run make-examples");
 }
 
 /// The names of the files in a folder of the examples, which stands before each.
@@ -20,9 +32,17 @@ fn names(inner: &str) -> Vec<String> {
 #[test]
 fn files_are_what_the_maker_writes() {
     for (name, bytes) in trials::files() {
-        let file = fs::read(folder().join(&name)).expect(&name);
-        assert_eq!(file, bytes, "{name} differs: run make-examples");
+        stored(folder().join(name), &bytes);
     }
+    for (name, bytes) in trials::program_files() {
+        stored(root().join("crates/trials").join(name), &bytes);
+    }
+}
+
+/// The program reads no more than its buffer holds.
+#[test]
+fn trials_fit_the_program() {
+    assert!(trials::records().len() <= 16_384);
 }
 
 #[test]
