@@ -61,7 +61,7 @@ fn print_records(input: &[u8]) {
     }
 }
 
-// The trials take about 4 KB; of a longer input than 16 KB the records that are whole in it are printed.
+// The trials take about 4 KB. Of an input longer than 16 KB, the records that are whole in its first 16,384 bytes are printed.
 fn main() {
     let mut input = [0u8; 16384];
     match console::read_all(&mut input) {
