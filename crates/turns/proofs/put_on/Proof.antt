@@ -39,7 +39,7 @@ put-requires c κs =
       long₂ u (c .before .before .before .before .before .before .before .settle .ensures .0) (c .before .before .before .before .before .before .before .settle .ensures .1) (c .before .before .before .release .ensures),
       (
         t-small u (c .before .before .before .before .before .before .before .settle .ensures .0) (c .before .before .before .before .before .before .before .settle .ensures .1),
-        s .pre .1 .0 .2,
+        omega (arith, s .pre .1 .0 .2),
         c .before .before .before .before .before .before .before .before .before .before .before .before .before .before .before .before .start-on .ensures .1,
         omega (arith, u .early, u .turn),
         omega (arith, u .placed-is, u .going .placed, u .turn),
