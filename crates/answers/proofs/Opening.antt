@@ -1,16 +1,16 @@
 -- From an opened sheet to the ends of each part: refused, too long for the output, or done.
 use Prim.Native.Nat.{ℕ, _+_, _*_, _/_, _%_, _<_, _≤_}
 use mathlib.Core.Path.{_≡_, refl, sym, ap, _∙_}
-use mathlib.Core.List.{List, [], _∷_, _++_}
+use mathlib.Core.List.{List, [], _∷_}
 use native.Mathlib.Omega.{arith}
-use native.Mathlib.Nat.{zero-add}
 use borrow.Author.Tests.{lt-ltb, le-ltb}
-use lib.ListN.{length, getD, set, drop}
+use lib.ListN.{length, getD, set}
 use Rattle.folds.specs.Folds.{listed}
 use Rattle.folds.specs.Answers.{Answer, value, refused, andThen, fitting, written}
 use Rattle.folds.proofs.Lists.{length-listed}
 use Rattle.numbers.specs.Number.{stored}
 use Rattle.numbers.proofs.Laws.{stored-one}
+use Rattle.numbers.proofs.Puts.{kept, front, fits-not, fits-well}
 use Rattle.sheet.specs.Sheet.{Sheet, taskCount, linkCount}
 use Rattle.sheet.specs.Tables.{sheetIn, Loaded}
 use Rattle.sheet.specs.Writing.{taskValues, linkValues, sheetOfValues, valueBytes, Narrow}
@@ -36,21 +36,6 @@ open-counted a b c = record { processors = omega arith; tasks = b; links = omega
 
 pub open-sized : (w : List ℕ) {p t l : ℕ} → p ≡ sheetIn w .processors → t ≡ taskCount (sheetIn w) → l ≡ linkCount (sheetIn w) → Sized (sheetIn w) p t l
 open-sized w a b c = record { processors = sym a; tasks = sym b; links = sym c }
-
-kept : (old : List ℕ) (n at : ℕ) → old ≡ written old (refused n at)
-unfolding written
-kept old n at = refl
-
--- a store at the front
-pub front : (b v : List ℕ) → stored b 0 v ≡ written b (value v)
-unfolding stored written
-front b v = ap (λ (k : ℕ). v ++ drop k b) (zero-add (length v))
-
-pub fits-not : {A : Type 0} (n : ℕ) (r : List A) → n < length r → fitting n r ≡ refused 12 (length r)
-fits-not n r h = rw (lt-ltb n (length r) h)
-
-pub fits-well : {A : Type 0} (n : ℕ) (r : List A) → length r ≤ n → fitting n r ≡ value r
-fits-well n r h = rw (le-ltb n (length r) h)
 
 module _ (f : Sheet → Answer (List ℕ)) {a : Answer Sheet} {work mid out : List ℕ} {o : Reading} (h : OpenIs a work mid o) where
   -- the sheet was refused

@@ -8,7 +8,7 @@ use Rattle.sheet.specs.Sheet.{Sheet}
 use Rattle.bundle.specs.Bundle.{Bundle}
 use Rattle.machine.specs.Machine.{State}
 use Rattle.machine.specs.Keeps.{Keeps}
-use Rattle.machine.specs.Starts.{starting}
+use Rattle.starting.specs.Starts.{starting}
 use Rattle.answers.specs.Values.{taskTable, linkTable, boardAfter, no-place, valueCount, commandTable, claimAfter}
 use Rattle.answers.specs.Values.{numbersOf}
 use Rattle.answers.specs.declared.ending.Outcome.{Outcome}

@@ -16,7 +16,7 @@ pub fn start(sheet: &[u8], bundle: &[u8], work: &mut [u32], state: &mut [u32]) -
     requires { ⌜ fixed ≤ length (now work) ⌝ }
     ensures { λ o. ⌜ StateIs (λ x. 0) freshState (now (sheet .entry)) (now (bundle .entry)) (now (work .entry)) (now (work .exit)) (now (state .entry)) (now (state .exit)) o ⌝ }
 {
-    match machine::bytes::start(sheet, bundle, work, state) {
+    match starting::bytes::start(sheet, bundle, work, state) {
         Judged::Refused(r, at) => Outcome::Refused(r, at),
         Judged::Fit(_, _, _) => Outcome::Done(0),
     }
@@ -34,7 +34,7 @@ pub fn run(
     requires { ⌜ fixed ≤ length (now state) ⌝ }
     ensures { λ o. ⌜ StateIs (steppedIn (now (choices .entry))) (λ s b. runOf s b (now (choices .entry)) .state) (now (sheet .entry)) (now (bundle .entry)) (now (work .entry)) (now (work .exit)) (now (state .entry)) (now (state .exit)) o ⌝ }
 {
-    match machine::bytes::start(sheet, bundle, work, state) {
+    match starting::bytes::start(sheet, bundle, work, state) {
         Judged::Refused(r, at) => Outcome::Refused(r, at),
         Judged::Fit(_, _, _) => Outcome::Done(machine::run(sheet, bundle, choices, state)),
     }

@@ -21,7 +21,7 @@ use Rattle.bundle.specs.Writing.{bundleBytes}
 use Rattle.messages.specs.Messages.{at26, at27, at28}
 use Rattle.messages.specs.Admitted.{fitting as fittingStore, messaging, admitted, admittedBytes}
 use Rattle.machine.specs.Runs.{settled}
-use Rattle.machine.specs.Starts.{starting}
+use Rattle.starting.specs.Starts.{starting}
 use Rattle.checker.specs.Checker.{at29, at30, closing, checked, check}
 use Rattle.planner.specs.Schedule.{Schedule}
 use Rattle.planner.specs.Placing.{barred, firstReady}

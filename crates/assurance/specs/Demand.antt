@@ -19,7 +19,7 @@ use Rattle.messages.specs.Messages.{Published}
 use Rattle.machine.specs.Machine.{processorOf, stampOf, canStep}
 use Rattle.machine.specs.Runs.{Run, freshRun, runOf, answers, doneOf, done, left, latest}
 use Rattle.machine.specs.Keeps.{Keeps}
-use Rattle.machine.specs.Starts.{starting}
+use Rattle.starting.specs.Starts.{starting}
 use Rattle.zeldrupa.specs.Promises.{GivesCheck, GivesPlan}
 use Rattle.answers.specs.Values.{numbersOf}
 use Rattle.zeldrupa.specs.Stepping.{GivesStart, GivesRun, GivesStep, GivesLeft, GivesProcessor, stampNumber, GivesStamp}

@@ -1,8 +1,8 @@
 // The links into each task, chained in rising number, so that a task's own links are walked without the others.
 ghost use mathlib.Core.Path.{_≡_};
-ghost use Prim.Native.Nat.{ℕ, _+_, _<_, _≤_};
-ghost use lib.ListN.{getD, length};
-ghost use Rattle.sheet.specs.Sheet.{taskCount, linkCount, targetOf};
+ghost use Prim.Native.Nat.{_+_, _<_, _≤_};
+ghost use lib.ListN.{getD};
+ghost use Rattle.sheet.specs.Sheet.{taskCount, linkCount};
 ghost use Rattle.sheet.specs.Tables.{sheetIn};
 ghost use Rattle.levelling.specs.Words.{Held, Kept, ChainedFrom};
 use sheet::tables;

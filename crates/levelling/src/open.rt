@@ -1,5 +1,4 @@
 // Opens a sheet in the work area: its tables and its levels, from bytes or from values, with refusal 10 behind those of the form.
-ghost use mathlib.Core.Path.{_≡_};
 ghost use Prim.Native.Nat.{_≤_};
 ghost use lib.ListN.{length};
 ghost use Rattle.folds.specs.Answers.{value, unless};

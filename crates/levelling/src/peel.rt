@@ -1,7 +1,7 @@
 // Tasks are taken off from the ends: first those without successors, then each task whose successors are all taken off.
 // A task has its level when it is taken off; who is left over leads to a circle.
 ghost use mathlib.Core.Path.{_≡_};
-ghost use Prim.Native.Nat.{ℕ, _+_, _<_, _≤_, max};
+ghost use Prim.Native.Nat.{_+_, _<_};
 ghost use lib.ListN.{getD, length};
 ghost use Rattle.sheet.specs.Sheet.{taskCount, linkCount, targetOf};
 ghost use Rattle.sheet.specs.Tables.{sheetIn};
@@ -10,12 +10,6 @@ ghost use Rattle.levelling.specs.Peeling.{Peeled, Walking, Counted, Fill
 use crate::chaining;
 use crate::queue;
 use sheet::tables;
-
-fn later(a: usize, b: usize) -> usize
-    ensures { λ r. ⌜ r ≡ max a b ⌝ }
-{
-    if a < b { b } else { a }
-}
 
 // Link l into v, which is taken off, is counted off at its source and gives it its level; a source without other links goes into
 // the queue of k tasks. The answer is the length of the queue.
@@ -30,7 +24,7 @@ fn visit(w: &mut [u32], k: usize, v: usize, l: usize) -> usize
     let x = workspace::word(w, 4624 + v);
     let y = workspace::word(w, 4624 + u);
     let d = workspace::word(w, 6160 + u);
-    let z = later(y, c + x);
+    let z = words::later(y, c + x);
     w[4624 + u] = workspace::narrow(z);
     w[6160 + u] = workspace::narrow(d - 1);
     if d == 1 {

@@ -1,8 +1,8 @@
 // The lowest task on a circle: for one task after the other, the tasks that lead to it, until a link out of it leads to one of them.
 ghost use mathlib.Core.Path.{_≡_};
-ghost use Prim.Native.Nat.{ℕ, _+_, _<_, _≤_};
+ghost use Prim.Native.Nat.{_+_, _<_};
 ghost use lib.ListN.{getD, length};
-ghost use Rattle.sheet.specs.Sheet.{taskCount, linkCount};
+ghost use Rattle.sheet.specs.Sheet.{taskCount};
 ghost use Rattle.sheet.specs.Tables.{sheetIn};
 ghost use Rattle.graph.specs.Graph.{onCircle, circle};
 ghost use Rattle.levelling.specs.Words.{Held, Beside, ChainedFrom, Queued};

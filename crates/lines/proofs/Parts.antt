@@ -1,19 +1,20 @@
 -- Lines: how long each is, and that its parts put one behind the other are the line.
-use Prim.Native.Nat.{ℕ, zero, suc, _+_, _≤_, _<_, max}
+use Prim.Native.Nat.{ℕ, zero, suc, _+_, _≤_, _<_}
 use mathlib.Core.Path.{_≡_, sym, ap, ap₂}
 use mathlib.Core.Logic.{⊎-elim}
 use mathlib.Core.List.{List, _++_, append-assoc}
 use native.Mathlib.Omega.{arith}
 use lib.ListN.{length, length-append}
-use Rattle.folds.specs.Folds.{gather, greatest}
+use Rattle.folds.specs.Folds.{gather}
 use Rattle.folds.proofs.Tests.{below-suc}
-use Rattle.folds.proofs.Loops.{gather-zero, gather-one, greatest-zero, greatest-more, greatest-at}
+use Rattle.folds.proofs.Loops.{gather-zero, gather-one}
 use Rattle.sheet.specs.Sheet.{Sheet, taskCount}
 use Rattle.planner.specs.Schedule.{Schedule, placeOf, startOf, finishOf}
 use Rattle.planner.specs.Planner.{claimOf}
 use Rattle.listing.specs.Listing.{decimal, field, lineEnd, planWord, refusedWord, planLine, taskLine, refusalLine, scheduleLines}
-use Rattle.lines.specs.Lines.{PutIs, twoFields}
-use Rattle.lines.proofs.Puts.{put-then, put-as, put-nothing}
+use Rattle.lines.specs.Lines.{twoFields}
+use Rattle.numbers.specs.Number.{Put}
+use Rattle.numbers.proofs.Puts.{put-then, put-as, put-none}
 
 -- lengths
 pub fields-length : (a b : ℕ) → length (twoFields a b) ≡ 3 + length (decimal a) + length (decimal b)
@@ -60,80 +61,69 @@ pub digits-of : {x y : ℕ} → x ≡ y → length (decimal x) ≡ length (decim
 digits-of e = ap (λ (k : ℕ). length (decimal k)) e
 
 -- the parts of each line
-put-three : {b m₁ m₂ r : List ℕ} {at i j k : ℕ} {u v w : List ℕ} → at ≤ length b → PutIs b m₁ at u i → PutIs m₁ m₂ i v j → PutIs m₂ r j w k → PutIs b r at (u ++ (v ++ w)) k
+put-three : {b m₁ m₂ r : List ℕ} {at i j k : ℕ} {u v w : List ℕ} → at ≤ length b → Put b at u m₁ i → Put m₁ i v m₂ j → Put m₂ j w r k → Put b at (u ++ (v ++ w)) r k
 put-three {u = u} {v = v} {w = w} h p q s = put-as (append-assoc u v w) (put-then h (put-then h p q) s)
 
-pub fields-put : {b m₁ m₂ r : List ℕ} {at i j k : ℕ} (x y : ℕ) → at ≤ length b → PutIs b m₁ at (field x) i → PutIs m₁ m₂ i (field y) j → PutIs m₂ r j lineEnd k → PutIs b r at (twoFields x y) k
+pub fields-put : {b m₁ m₂ r : List ℕ} {at i j k : ℕ} (x y : ℕ) → at ≤ length b → Put b at (field x) m₁ i → Put m₁ i (field y) m₂ j → Put m₂ j lineEnd r k → Put b at (twoFields x y) r k
 unfolding twoFields
 fields-put x y h p q s = put-three h p q s
 
-pub plan-put : {b m r : List ℕ} {i j x y : ℕ} (s : Sheet) (σ : Schedule) → x ≡ σ .opened → y ≡ claimOf s σ → PutIs b m 0 planWord i → PutIs m r i (twoFields x y) j → PutIs b r 0 (planLine s σ) j
+pub plan-put : {b m r : List ℕ} {i j x y : ℕ} (s : Sheet) (σ : Schedule) → x ≡ σ .opened → y ≡ claimOf s σ → Put b 0 planWord m i → Put m i (twoFields x y) r j → Put b 0 (planLine s σ) r j
 unfolding planLine twoFields
 plan-put s σ d e p q = put-then (omega arith) p (put-as (ap₂ twoFields d e) q)
 
-pub refusal-put : {b m r : List ℕ} {i j : ℕ} (number place : ℕ) → PutIs b m 0 refusedWord i → PutIs m r i (twoFields number place) j → PutIs b r 0 (refusalLine number place) j
+pub refusal-put : {b m r : List ℕ} {i j : ℕ} (number place : ℕ) → Put b 0 refusedWord m i → Put m i (twoFields number place) r j → Put b 0 (refusalLine number place) r j
 unfolding refusalLine twoFields
 refusal-put number place p q = put-then (omega arith) p q
 
 pub task-put : {b m₁ m₂ r : List ℕ} {at i j k x y z : ℕ} (σ : Schedule) (t : ℕ) → at ≤ length b → x ≡ placeOf σ t → y ≡ startOf σ t → z ≡ finishOf σ t
-    → PutIs b m₁ at (decimal t) i → PutIs m₁ m₂ i (field x) j → PutIs m₂ r j (twoFields y z) k → PutIs b r at (taskLine σ t) k
+    → Put b at (decimal t) m₁ i → Put m₁ i (field x) m₂ j → Put m₂ j (twoFields y z) r k → Put b at (taskLine σ t) r k
 unfolding taskLine twoFields
 task-put σ t h d e f p q s = put-three h p (put-as (ap field d) q) (put-as (ap₂ twoFields e f) s)
 
 -- room for the parts of a line that has room
-pub fields-room : (b m₁ : List ℕ) {at i : ℕ} (x y : ℕ) → at + length (twoFields x y) ≤ length b → PutIs b m₁ at (field x) i → length m₁ ≡ length b
+pub fields-room : (b m₁ : List ℕ) {at i : ℕ} (x y : ℕ) → at + length (twoFields x y) ≤ length b → Put b at (field x) m₁ i → length m₁ ≡ length b
     → i + length (field y) ≤ length m₁
-fields-room b m₁ x y h p e = omega (arith, fields-length x y, p .behind)
+fields-room b m₁ x y h p e = omega (arith, fields-length x y, p .next)
 
-pub end-room : (b m₁ m₂ : List ℕ) {at i j : ℕ} (x y : ℕ) → at + length (twoFields x y) ≤ length b → PutIs b m₁ at (field x) i → length m₁ ≡ length b
-    → PutIs m₁ m₂ i (field y) j → length m₂ ≡ length m₁ → j < length m₂
-end-room b m₁ m₂ x y h p e q f = omega (arith, fields-length x y, p .behind, q .behind)
+pub end-room : (b m₁ m₂ : List ℕ) {at i j : ℕ} (x y : ℕ) → at + length (twoFields x y) ≤ length b → Put b at (field x) m₁ i → length m₁ ≡ length b
+    → Put m₁ i (field y) m₂ j → length m₂ ≡ length m₁ → j < length m₂
+end-room b m₁ m₂ x y h p e q f = omega (arith, fields-length x y, p .next, q .next)
 
 pub plan-room : (b m : List ℕ) {i : ℕ} (s : Sheet) (σ : Schedule) (x y : ℕ) → x ≡ σ .opened → y ≡ claimOf s σ → length (planLine s σ) ≤ length b
-    → PutIs b m 0 planWord i → length m ≡ length b → i + length (twoFields x y) ≤ length m
-plan-room b m s σ x y d e h p k = omega (arith, fields-length x y, plan-length s σ, digits-of d, digits-of e, p .behind)
+    → Put b 0 planWord m i → length m ≡ length b → i + length (twoFields x y) ≤ length m
+plan-room b m s σ x y d e h p k = omega (arith, fields-length x y, plan-length s σ, digits-of d, digits-of e, p .next)
 
 pub refusal-room : (b m : List ℕ) {i : ℕ} (number place : ℕ) → length (refusalLine number place) ≤ length b
-    → PutIs b m 0 refusedWord i → length m ≡ length b → i + length (twoFields number place) ≤ length m
-refusal-room b m number place h p k = omega (arith, fields-length number place, refusal-length number place, p .behind)
+    → Put b 0 refusedWord m i → length m ≡ length b → i + length (twoFields number place) ≤ length m
+refusal-room b m number place h p k = omega (arith, fields-length number place, refusal-length number place, p .next)
 
 module _ (b : List ℕ) {at : ℕ} (σ : Schedule) (t x y z : ℕ) (d : x ≡ placeOf σ t) (e : y ≡ startOf σ t) (f : z ≡ finishOf σ t) (h : at + length (taskLine σ t) ≤ length b) where
-  pub task-room : (m₁ : List ℕ) {i : ℕ} → PutIs b m₁ at (decimal t) i → length m₁ ≡ length b → i + length (field x) ≤ length m₁
-  task-room m₁ p k = omega (arith, task-length σ t, digits-of d, p .behind)
+  pub task-room : (m₁ : List ℕ) {i : ℕ} → Put b at (decimal t) m₁ i → length m₁ ≡ length b → i + length (field x) ≤ length m₁
+  task-room m₁ p k = omega (arith, task-length σ t, digits-of d, p .next)
 
-  pub times-room : (m₁ m₂ : List ℕ) {i j : ℕ} → PutIs b m₁ at (decimal t) i → length m₁ ≡ length b → PutIs m₁ m₂ i (field x) j → length m₂ ≡ length m₁ → j + length (twoFields y z) ≤ length m₂
-  times-room m₁ m₂ p k q l = omega (arith, task-length σ t, fields-length y z, digits-of d, digits-of e, digits-of f, p .behind, q .behind)
+  pub times-room : (m₁ m₂ : List ℕ) {i j : ℕ} → Put b at (decimal t) m₁ i → length m₁ ≡ length b → Put m₁ i (field x) m₂ j → length m₂ ≡ length m₁ → j + length (twoFields y z) ≤ length m₂
+  times-room m₁ m₂ p k q l = omega (arith, task-length σ t, fields-length y z, digits-of d, digits-of e, digits-of f, p .next, q .next)
 
-pub tasks-room : (b m : List ℕ) {at i : ℕ} (f : ℕ → List ℕ) (n t : ℕ) → at + length (gather n f) ≤ length b → t < n → PutIs b m at (gather t f) i → length m ≡ length b → i + length (f t) ≤ length m
-tasks-room b m f n t h l p k = omega (arith, gather-room f n t l, p .behind)
+pub tasks-room : (b m : List ℕ) {at i : ℕ} (f : ℕ → List ℕ) (n t : ℕ) → at + length (gather n f) ≤ length b → t < n → Put b at (gather t f) m i → length m ≡ length b → i + length (f t) ≤ length m
+tasks-room b m f n t h l p k = omega (arith, gather-room f n t l, p .next)
 
-pub schedule-room : (b m : List ℕ) {i : ℕ} (s : Sheet) (σ : Schedule) → length (scheduleLines s σ) ≤ length b → PutIs b m 0 (planLine s σ) i → length m ≡ length b
+pub schedule-room : (b m : List ℕ) {i : ℕ} (s : Sheet) (σ : Schedule) → length (scheduleLines s σ) ≤ length b → Put b 0 (planLine s σ) m i → length m ≡ length b
     → i + length (gather (taskCount s) (taskLine σ)) ≤ length m
-schedule-room b m s σ h p k = omega (arith, schedule-length s σ, p .behind)
+schedule-room b m s σ h p k = omega (arith, schedule-length s σ, p .next)
 
 -- the lines of tasks, one by one
-pub tasks-none : (f : ℕ → List ℕ) (b : List ℕ) (at : ℕ) → at ≤ length b → PutIs b b at (gather 0 f) at
-tasks-none f b at h = put-as (sym (gather-zero f)) (put-nothing b at h)
+pub tasks-none : (f : ℕ → List ℕ) (b : List ℕ) (at : ℕ) → at ≤ length b → Put b at (gather 0 f) b at
+tasks-none f b at h = put-as (sym (gather-zero f)) (put-none b at)
 
-pub tasks-more : {b m r : List ℕ} {at i j : ℕ} (f : ℕ → List ℕ) (t : ℕ) → at ≤ length b → PutIs b m at (gather t f) i → PutIs m r i (f t) j → PutIs b r at (gather (t + 1) f) j
+pub tasks-more : {b m r : List ℕ} {at i j : ℕ} (f : ℕ → List ℕ) (t : ℕ) → at ≤ length b → Put b at (gather t f) m i → Put m i (f t) r j → Put b at (gather (t + 1) f) r j
 tasks-more f t h p q = put-as (sym (gather-one t f)) (put-then h p q)
 
-pub schedule-put : {b m r : List ℕ} {i j : ℕ} (s : Sheet) (σ : Schedule) → PutIs b m 0 (planLine s σ) i → PutIs m r i (gather (taskCount s) (taskLine σ)) j → PutIs b r 0 (scheduleLines s σ) j
+pub schedule-put : {b m r : List ℕ} {i j : ℕ} (s : Sheet) (σ : Schedule) → Put b 0 (planLine s σ) m i → Put m i (gather (taskCount s) (taskLine σ)) r j → Put b 0 (scheduleLines s σ) r j
 unfolding scheduleLines
 schedule-put s σ p q = put-then (omega arith) p q
 
--- the claim
-pub claim-none : (f : ℕ → ℕ) → 0 ≡ greatest 0 f
-claim-none f = sym (greatest-zero f)
-
-pub claim-more : (σ : Schedule) (t : ℕ) {c x r : ℕ} → c ≡ greatest t (finishOf σ) → x ≡ finishOf σ t → r ≡ max c x → r ≡ greatest (t + 1) (finishOf σ)
-claim-more σ t p q e = greatest-more t (finishOf σ) p q e
-
-pub claim-all : (s : Sheet) (σ : Schedule) (t : ℕ) {c : ℕ} → c ≡ greatest t (finishOf σ) → t ≡ taskCount s → c ≡ claimOf s σ
-unfolding claimOf
-claim-all s σ t p e = greatest-at (finishOf σ) t (taskCount s) p e
-
-pub tasks-all : {b m : List ℕ} {at i : ℕ} (f : ℕ → List ℕ) (t n : ℕ) → PutIs b m at (gather t f) i → t ≡ n → PutIs b m at (gather n f) i
+pub tasks-all : {b m : List ℕ} {at i : ℕ} (f : ℕ → List ℕ) (t n : ℕ) → Put b at (gather t f) m i → t ≡ n → Put b at (gather n f) m i
 tasks-all f t n p e = put-as (ap (λ (k : ℕ). gather k f) e) p
 
 -- the length of all lines, one by one

@@ -2,8 +2,9 @@
 ghost use mathlib.Core.Path.{_≡_};
 ghost use Prim.Native.Nat.{_+_, _≤_, _<_};
 ghost use lib.ListN.{length};
+ghost use Rattle.numbers.specs.Number.{Put};
 ghost use Rattle.listing.specs.Listing.{decimal, field, lineEnd};
-ghost use Rattle.lines.specs.Lines.{PutIs, twoFields};
+ghost use Rattle.lines.specs.Lines.{twoFields};
 
 // How many decimal digits n has.
 pub fn digits(n: usize) -> usize
@@ -26,7 +27,7 @@ fn digit(d: usize) -> u8
 // Puts n in decimal at `at`, and gives the offset behind it, as all below.
 pub fn put_decimal(out: &mut [u8], at: usize, n: usize) -> usize
     requires { ⌜ at + length (decimal n) ≤ length (now out) ⌝ }
-    ensures { λ r. ⌜ PutIs (now (out .entry)) (now (out .exit)) at (decimal n) r ⌝ }
+    ensures { λ r. ⌜ Put (now (out .entry)) at (decimal n) (now (out .exit)) r ⌝ }
 {
     if n < 10 {
         out[at] = digit(n);
@@ -40,7 +41,7 @@ pub fn put_decimal(out: &mut [u8], at: usize, n: usize) -> usize
 // A space and n.
 pub fn put_field(out: &mut [u8], at: usize, n: usize) -> usize
     requires { ⌜ at + length (field n) ≤ length (now out) ⌝ }
-    ensures { λ r. ⌜ PutIs (now (out .entry)) (now (out .exit)) at (field n) r ⌝ }
+    ensures { λ r. ⌜ Put (now (out .entry)) at (field n) (now (out .exit)) r ⌝ }
 {
     out[at] = 0x20;
     put_decimal(out, at + 1, n)
@@ -49,7 +50,7 @@ pub fn put_field(out: &mut [u8], at: usize, n: usize) -> usize
 // The end of a line.
 fn put_end(out: &mut [u8], at: usize) -> usize
     requires { ⌜ at < length (now out) ⌝ }
-    ensures { λ r. ⌜ PutIs (now (out .entry)) (now (out .exit)) at lineEnd r ⌝ }
+    ensures { λ r. ⌜ Put (now (out .entry)) at lineEnd (now (out .exit)) r ⌝ }
 {
     out[at] = 0x0A;
     at + 1
@@ -58,7 +59,7 @@ fn put_end(out: &mut [u8], at: usize) -> usize
 // Two fields and the end of the line.
 pub fn put_fields(out: &mut [u8], at: usize, a: usize, b: usize) -> usize
     requires { ⌜ at + length (twoFields a b) ≤ length (now out) ⌝ }
-    ensures { λ r. ⌜ PutIs (now (out .entry)) (now (out .exit)) at (twoFields a b) r ⌝ }
+    ensures { λ r. ⌜ Put (now (out .entry)) at (twoFields a b) (now (out .exit)) r ⌝ }
 {
     let next = put_field(out, at, a);
     let last = put_field(out, next, b);
@@ -68,7 +69,7 @@ pub fn put_fields(out: &mut [u8], at: usize, a: usize, b: usize) -> usize
 // A fixed word.
 pub fn put_word(out: &mut [u8], at: usize, word: &[u8]) -> usize
     requires { ⌜ at + length (now word) ≤ length (now out) ⌝ }
-    ensures { λ r. ⌜ PutIs (now (out .entry)) (now (out .exit)) at (now (word .entry)) r ⌝ }
+    ensures { λ r. ⌜ Put (now (out .entry)) at (now (word .entry)) (now (out .exit)) r ⌝ }
 {
     let mut i: usize = 0;
     while i < word.len() {

@@ -1,14 +1,13 @@
 // The lines of the listing, counted and put into the output, each directly behind the one before.
 ghost use mathlib.Core.Path.{_≡_};
-ghost use Prim.Native.Nat.{ℕ, _+_, _*_, _≤_, _<_};
+ghost use Prim.Native.Nat.{_+_, _≤_, _<_};
 ghost use lib.ListN.{length};
 ghost use Rattle.folds.specs.Folds.{gather};
 ghost use Rattle.sheet.specs.Sheet.{taskCount};
 ghost use Rattle.sheet.specs.Tables.{sheetIn, Loaded};
-ghost use Rattle.planner.specs.Planner.{claimOf};
 ghost use Rattle.schedule.specs.Layout.{scheduleIn};
 ghost use Rattle.listing.specs.Listing.{planLine, taskLine, refusalLine, scheduleLines};
-ghost use Rattle.lines.specs.Lines.{PutIs};
+ghost use Rattle.numbers.specs.Number.{Put};
 use crate::fields::digits;
 use crate::fields::put_decimal;
 use crate::fields::put_field;
@@ -16,28 +15,13 @@ use crate::fields::put_fields;
 use crate::fields::put_word;
 use sheet::tables;
 
-// The latest finish.
-fn claim(w: &[u32]) -> usize
-    requires { ⌜ Loaded (now w) ⌝ }
-    ensures { λ r. ⌜ r ≡ claimOf (sheetIn (now (w .entry))) (scheduleIn (now (w .entry))) ⌝ }
-{
-    let n = tables::tasks(w);
-    let mut c: usize = 0;
-    let mut t: usize = 0;
-    while t < n {
-        c = readiness::later(c, schedule::finish(w, t));
-        t += 1;
-    }
-    c
-}
-
 // How long the first line is.
 fn plan_length(w: &[u32]) -> usize
     requires { ⌜ Loaded (now w) ⌝ }
     requires { ⌜ scheduleIn (now w) .opened ≤ 16 ⌝ }
     ensures { λ r. ⌜ (r ≡ length (planLine (sheetIn (now (w .entry))) (scheduleIn (now (w .entry))))) × (r ≤ 47) ⌝ }
 {
-    7 + digits(schedule::opened(w)) + digits(claim(w))
+    7 + digits(schedule::opened(w)) + digits(schedule::claim(w))
 }
 
 // How long the line of task t is.
@@ -73,10 +57,10 @@ fn put_plan(w: &[u32], out: &mut [u8]) -> usize
     requires { ⌜ Loaded (now w) ⌝ }
     requires { ⌜ scheduleIn (now w) .opened ≤ 16 ⌝ }
     requires { ⌜ length (planLine (sheetIn (now w)) (scheduleIn (now w))) ≤ length (now out) ⌝ }
-    ensures { λ r. ⌜ PutIs (now (out .entry)) (now (out .exit)) 0 (planLine (sheetIn (now (w .entry))) (scheduleIn (now (w .entry)))) r ⌝ }
+    ensures { λ r. ⌜ Put (now (out .entry)) 0 (planLine (sheetIn (now (w .entry))) (scheduleIn (now (w .entry)))) (now (out .exit)) r ⌝ }
 {
     let opened = schedule::opened(w);
-    let claim = claim(w);
+    let claim = schedule::claim(w);
     let at = put_word(out, 0, b"PLAN");
     put_fields(out, at, opened, claim)
 }
@@ -86,7 +70,7 @@ fn put_task(w: &[u32], t: usize, out: &mut [u8], at: usize) -> usize
     requires { ⌜ Loaded (now w) ⌝ }
     requires { ⌜ t < taskCount (sheetIn (now w)) ⌝ }
     requires { ⌜ at + length (taskLine (scheduleIn (now w)) t) ≤ length (now out) ⌝ }
-    ensures { λ r. ⌜ PutIs (now (out .entry)) (now (out .exit)) at (taskLine (scheduleIn (now (w .entry))) t) r ⌝ }
+    ensures { λ r. ⌜ Put (now (out .entry)) at (taskLine (scheduleIn (now (w .entry))) t) (now (out .exit)) r ⌝ }
 {
     let k = schedule::place(w, t);
     let start = schedule::start(w, t);
@@ -100,7 +84,7 @@ fn put_task(w: &[u32], t: usize, out: &mut [u8], at: usize) -> usize
 fn put_tasks(w: &[u32], out: &mut [u8], at: usize) -> usize
     requires { ⌜ Loaded (now w) ⌝ }
     requires { ⌜ at + length (gather (taskCount (sheetIn (now w))) (taskLine (scheduleIn (now w)))) ≤ length (now out) ⌝ }
-    ensures { λ r. ⌜ PutIs (now (out .entry)) (now (out .exit)) at (gather (taskCount (sheetIn (now (w .entry)))) (taskLine (scheduleIn (now (w .entry))))) r ⌝ }
+    ensures { λ r. ⌜ Put (now (out .entry)) at (gather (taskCount (sheetIn (now (w .entry)))) (taskLine (scheduleIn (now (w .entry))))) (now (out .exit)) r ⌝ }
 {
     let n = tables::tasks(w);
     let mut end = at;
@@ -117,7 +101,7 @@ pub fn put_schedule(w: &[u32], out: &mut [u8]) -> usize
     requires { ⌜ Loaded (now w) ⌝ }
     requires { ⌜ scheduleIn (now w) .opened ≤ 16 ⌝ }
     requires { ⌜ length (scheduleLines (sheetIn (now w)) (scheduleIn (now w))) ≤ length (now out) ⌝ }
-    ensures { λ r. ⌜ PutIs (now (out .entry)) (now (out .exit)) 0 (scheduleLines (sheetIn (now (w .entry))) (scheduleIn (now (w .entry)))) r ⌝ }
+    ensures { λ r. ⌜ Put (now (out .entry)) 0 (scheduleLines (sheetIn (now (w .entry))) (scheduleIn (now (w .entry)))) (now (out .exit)) r ⌝ }
 {
     let at = put_plan(w, out);
     put_tasks(w, out, at)
@@ -133,7 +117,7 @@ pub fn refusal_length(number: usize, place: usize) -> usize
 // The line of a refusal, at the front.
 pub fn put_refusal(out: &mut [u8], number: usize, place: usize) -> usize
     requires { ⌜ length (refusalLine number place) ≤ length (now out) ⌝ }
-    ensures { λ r. ⌜ PutIs (now (out .entry)) (now (out .exit)) 0 (refusalLine number place) r ⌝ }
+    ensures { λ r. ⌜ Put (now (out .entry)) 0 (refusalLine number place) (now (out .exit)) r ⌝ }
 {
     let at = put_word(out, 0, b"REFUSED");
     put_fields(out, at, number, place)

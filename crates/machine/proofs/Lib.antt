@@ -6,6 +6,3 @@ pub mod Moves
 pub mod Chosen
 pub mod Lists
 pub mod Asks
-pub mod Fresh
-pub mod Opens
-pub mod Begins

@@ -2,4 +2,3 @@ pub mod Machine
 pub mod Runs
 pub mod Words
 pub mod Keeps
-pub mod Starts

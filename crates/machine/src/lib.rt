@@ -1,8 +1,5 @@
 // The stepping machine, over a sheet and a bundle that stay in their bytes, with its state in lent words.
 // Every function is safe on any bytes and any words; what it gives is promised for words that keep a state.
-pub mod bytes; // bytes.rt: the start from any bytes
-pub mod start; // start.rt: the fresh state
-
 ghost use mathlib.Core.Path.{_≡_};
 ghost use mathlib.Core.Bool.{not};
 ghost use Prim.Native.Nat.{_+_, _<_};

@@ -1,8 +1,8 @@
 -- Laws of numbers in bytes, over the width.
 use Prim.Native.Nat.{ℕ, zero, suc, _+_, _*_, _/_, _%_, _^_, _-_, _≤_, _<_}
-use mathlib.Core.Path.{_≡_, refl, sym, ap, ap₂, subst, _∙_}
+use mathlib.Core.Path.{_≡_, refl, sym, ap, ap₂, _∙_}
 use mathlib.Core.List.{List, [], _∷_, _++_, append-assoc, append-nil}
-use native.Mathlib.Nat.{pow-suc, div-lt-iff-lt-mul, add-zero, zero-add, add-suc, add-assoc}
+use native.Mathlib.Nat.{pow-suc, div-lt-iff-lt-mul, zero-add, add-suc, add-assoc}
 use native.Mathlib.Omega.{arith}
 use lib.ListN.{length, getD, set, take, drop, length-append, length-take, length-drop, drop-of-length-le}
 use lib.Seq.{getD-drop, getD-append-add, length-take-le, take-all, take-at, drop-append-add, drop-drop, drop-cons, sets-eq}

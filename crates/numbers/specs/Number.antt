@@ -1,5 +1,6 @@
 -- Unsigned numbers in bytes, lowest byte first.
 use Prim.Native.Nat.{ℕ, zero, suc, _+_, _*_, _/_, _%_}
+use mathlib.Core.Path.{_≡_}
 use mathlib.Core.List.{List, [], _∷_, _++_}
 use lib.ListN.{length, getD, take, drop}
 
@@ -16,3 +17,8 @@ numberBytes (suc w) n = n % 256 ∷ numberBytes w (n / 256)
 -- b with the bytes v in the place of those from index i
 unfoldable pub stored : List ℕ → ℕ → List ℕ → List ℕ
 stored b i v = take i b ++ v ++ drop (i + length v) b
+
+-- these bytes were put into `old` at an offset, all else is as it was, and r is the offset behind them
+pub record Put (old : List ℕ) (at : ℕ) (bytes last : List ℕ) (r : ℕ) : Type 0 where
+  pub left : last ≡ stored old at bytes
+  pub next : r ≡ at + length bytes

@@ -47,7 +47,7 @@ fn start_from(w: &[u32], t: usize, k: usize, e: usize) -> usize
     requires { ⌜ endOf (sheetIn (now w)) (scheduleIn (now w)) k ≤ e ⌝ }
     ensures { λ r. ⌜ (r ≡ startFrom (sheetIn (now (w .entry))) (scheduleIn (now (w .entry))) t k e) × (r ≤ max e 4294967295) ⌝ }
 {
-    readiness::later(e, reach_of(w, t, k))
+    words::later(e, reach_of(w, t, k))
 }
 
 // The start of t on k.

@@ -1,16 +1,15 @@
 -- Bytes put one behind the other.
 use Prim.Native.Nat.{ℕ, _+_, _-_, _≤_, _<_}
-use mathlib.Core.Path.{_≡_, refl, sym, ap, subst, _∙_}
+use mathlib.Core.Path.{_≡_, refl, sym, ap, _∙_}
 use mathlib.Core.Bool.{true}
-use mathlib.Core.List.{List, [], _∷_, _++_, append-nil}
+use mathlib.Core.List.{List, [], _∷_}
 use native.Mathlib.Omega.{arith}
-use native.Mathlib.Nat.{add-zero}
-use borrow.Rule.Slice.PartMut.{midOf, putMid}
-use lib.ListN.{length, getD, set, length-append, take, take-append-drop, length-take, length-drop}
+use lib.ListN.{length, getD, set}
 use Rattle.folds.specs.Folds.{gather}
 use Rattle.folds.proofs.Loops.{gather-zero, gather-one}
 use Rattle.numbers.specs.Number.{numberBytes, stored}
-use Rattle.numbers.proofs.Laws.{stored-one, stored-two, stored-then, stored-lent}
+use Rattle.numbers.proofs.Puts.{put-none, put-as, put-then}
+use Rattle.numbers.proofs.Laws.{stored-one, stored-then}
 use Rattle.sheet.specs.Sheet.{Sheet, taskCount, linkCount}
 use Rattle.chains.specs.Chains.{endBy, headAt, Chained}
 use Rattle.chains.specs.declared.End.{End}
@@ -18,37 +17,17 @@ use Rattle.chains.specs.declared.End.the-variants.{Source, Target}
 use Rattle.bundle.specs.Writing.{claimBytes, bundleBytes}
 use Rattle.planner.specs.Schedule.{Schedule, stands}
 use Rattle.planner.specs.Planner.{claimOf, bundleOf}
-use Rattle.programmes.specs.Bytes.{messageBytes, messagesBytes, blockBytes, turnBytes, openBytes, Put}
+use Rattle.programmes.specs.Bytes.{messageBytes, messagesBytes, blockBytes, turnBytes, openBytes}
+use Rattle.numbers.specs.Number.{Put}
 use Rattle.programmes.proofs.Gathers.{gather-first, gather-next, gather-part}
 use Rattle.programmes.proofs.Parts.{message-none, block-home, open-parts, bundle-parts}
 use Rattle.programmes.proofs.Measures.{Walk, walk-starts, walk-on}
-
-pub put-none : (b : List ℕ) (at : ℕ) → Put b at [] b at
-unfolding stored
-put-none b at = record { left = sym (rw (append-nil (take at b), add-zero at) (take-append-drop at b)); next = omega arith }
-
-pub put-as : {old last u v : List ℕ} {at r : ℕ} → u ≡ v → Put old at u last r → Put old at v last r
-put-as {old} {last} {u} {v} {at} {r} e p = subst (λ (x : List ℕ). Put old at x last r) e p
-
-pub put-then : {old mid last u v : List ℕ} {at a r : ℕ} → at ≤ length old → Put old at u mid a → Put mid a v last r → Put old at (u ++ v) last r
-put-then {old} {mid} {last} {u} {v} {at} {a} {r} h p q =
-    record { left = stored-then old mid last at a u v (p .left) (q .left) (p .next) h; next = omega (arith, p .next, q .next, length-append u v) }
-
-pub put-two : (b : List ℕ) (at x y z : ℕ) → at + 2 ≤ length b → y ≡ z → Put b at (x ∷ z ∷ []) (set (set b at x) (at + 1) y) (at + 2)
-put-two b at x y z h e = record { left = stored-two b at x y h ∙ ap (λ (v : ℕ). stored b at (x ∷ v ∷ [])) e; next = refl }
 
 -- a command byte, and a number behind it
 pub stored-number : (width : ℕ) (b last : List ℕ) (at x y c l : ℕ) → at < length b → x ≡ c → y ≡ l → last ≡ stored (set b at x) (at + 1) (numberBytes width y) → last ≡ stored b at (c ∷ numberBytes width l)
 stored-number width b last at x y c l h p q e =
     stored-then b (set b at x) last at (at + 1) (x ∷ []) (numberBytes width y) (stored-one b at x h) e refl (omega arith)
     ∙ ap (λ (v : ℕ). stored b at (v ∷ numberBytes width y)) p ∙ ap (λ (v : ℕ). stored b at (c ∷ numberBytes width v)) q
-
--- what follows the first a bytes, and what was put at its front
-pub rest-long : (b : List ℕ) (a : ℕ) → a ≤ length b → length (midOf a (length b - a) b) ≡ length b - a
-rest-long b a h = simp (length-take, length-drop) (omega arith)
-
-pub put-rest : {b last v : List ℕ} {a r : ℕ} → a ≤ length b → Put (midOf a (length b - a) b) 0 v last r → Put b a v (putMid a (length b - a) b last) (a + r)
-put-rest {b} {last} {v} {a} h p = record { left = stored-lent b last v a h (p .left); next = omega (arith, p .next) }
 
 -- the first i lists of an index stand from start on
 pub record Filled (f : ℕ → List ℕ) (old : List ℕ) (start i : ℕ) (out : List ℕ) (at : ℕ) : Type 0 where

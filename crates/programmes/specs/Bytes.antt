@@ -1,10 +1,8 @@
 -- The bytes of a schedule's bundle, part by part, as they are measured and written.
-use Prim.Native.Nat.{ℕ, _+_}
-use mathlib.Core.Path.{_≡_}
+use Prim.Native.Nat.{ℕ}
 use mathlib.Core.List.{List, [], _∷_}
-use lib.ListN.{length, getD}
+use lib.ListN.{getD}
 use Rattle.folds.specs.Folds.{pick, gather}
-use Rattle.numbers.specs.Number.{stored}
 use Rattle.sheet.specs.Sheet.{Sheet, linkCount, sourceOf, targetOf}
 use Rattle.chains.specs.declared.End.{End}
 use Rattle.chains.specs.declared.End.the-variants.{Source, Target}
@@ -46,8 +44,3 @@ module _ (s : Sheet) (σ : Schedule) where
   -- "`50` opens a processor's programme"
   unfoldable pub openBytes : ℕ → List ℕ
   openBytes k = 0x50 ∷ k ∷ programmeBytes (programme s σ k)
-
--- these bytes stand from `at` on, all else is as it was, and the next goes to r
-pub record Put (old : List ℕ) (at : ℕ) (bytes last : List ℕ) (r : ℕ) : Type 0 where
-  pub left : last ≡ stored old at bytes
-  pub next : r ≡ at + length bytes

@@ -4,14 +4,14 @@ ghost use mathlib.Core.List.{[], _∷_};
 ghost use Prim.Native.Nat.{_+_, _<_, _≤_};
 ghost use lib.ListN.{length};
 ghost use Rattle.folds.specs.Folds.{gather};
-ghost use Rattle.numbers.specs.Number.{numberBytes, stored};
+ghost use Rattle.numbers.specs.Number.{numberBytes, stored, Put};
 ghost use Rattle.sheet.specs.Sheet.{taskCount, linkCount};
 ghost use Rattle.sheet.specs.Tables.{sheetIn};
 ghost use Rattle.chains.specs.Chains.{endBy};
 ghost use Rattle.bundle.specs.Writing.{claimBytes, bundleBytes};
-ghost use Rattle.planner.specs.Planner.{claimOf, bundleOf};
+ghost use Rattle.planner.specs.Planner.{bundleOf};
 ghost use Rattle.schedule.specs.Layout.{scheduleIn};
-ghost use Rattle.programmes.specs.Bytes.{codeOf, messageBytes, messagesBytes, blockBytes, turnBytes, openBytes, Put};
+ghost use Rattle.programmes.specs.Bytes.{codeOf, messageBytes, messagesBytes, blockBytes, turnBytes, openBytes};
 ghost use Rattle.programmes.specs.Scheduled.{Scheduled};
 use chains::End;
 use sheet::tables;
@@ -133,21 +133,6 @@ fn put_programmes(w: &[u32], out: &mut [u8]) -> usize
     at
 }
 
-// The latest finish.
-fn latest(w: &[u32]) -> usize
-    requires { ⌜ Scheduled (now w) ⌝ }
-    ensures { λ r. ⌜ (r ≡ claimOf (sheetIn (now (w .entry))) (scheduleIn (now (w .entry)))) × (r < 4294967296) ⌝ }
-{
-    let n = tables::tasks(w);
-    let mut last: usize = 0;
-    let mut t: usize = 0;
-    while t < n {
-        last = readiness::later(last, schedule::finish(w, t));
-        t += 1;
-    }
-    last
-}
-
 fn put_claim(out: &mut [u8], at: usize, claim: usize)
     requires { ⌜ (at + 5 ≤ length (now out)) × (claim < 4294967296) ⌝ }
     ensures { λ _. ⌜ now (out .exit) ≡ stored (now (out .entry)) at (claimBytes claim) ⌝ }
@@ -162,7 +147,7 @@ pub fn put_bundle(w: &[u32], out: &mut [u8])
     requires { ⌜ length (bundleBytes (bundleOf (sheetIn (now w)) (scheduleIn (now w)))) ≤ length (now out) ⌝ }
     ensures { λ _. ⌜ now (out .exit) ≡ stored (now (out .entry)) 0 (bundleBytes (bundleOf (sheetIn (now (w .entry))) (scheduleIn (now (w .entry))))) ⌝ }
 {
-    let claim = latest(w);
+    let claim = schedule::claim(w);
     let at = put_programmes(w, out);
     put_claim(out, at, claim);
 }

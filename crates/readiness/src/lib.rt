@@ -1,6 +1,6 @@
 // Who is ready, who partly, when messages are there, and who goes first.
 ghost use mathlib.Core.Path.{_≡_};
-ghost use Prim.Native.Nat.{ℕ, _+_, _<_, _≤_, max};
+ghost use Prim.Native.Nat.{_+_, _<_};
 ghost use Rattle.sheet.specs.Sheet.{taskCount};
 ghost use Rattle.sheet.specs.Tables.{sheetIn};
 ghost use Rattle.planner.specs.Schedule.{placed};
@@ -13,12 +13,6 @@ ghost use Rattle.readiness.specs.Found.{foundOf, Below, stepped};
 pub enum Found {
     At(usize),
     Nothing,
-}
-
-pub fn later(a: usize, b: usize) -> usize
-    ensures { λ r. ⌜ r ≡ max a b ⌝ }
-{
-    if a < b { b } else { a }
 }
 
 fn is_placed(w: &[u32], t: usize) -> bool

@@ -8,7 +8,9 @@ ghost use Rattle.sheet.specs.Tables.{sheetIn, Loaded};
 ghost use Rattle.graph.specs.Graph.{level};
 ghost use Rattle.levelling.specs.Found.{Levelled};
 ghost use Rattle.planner.specs.Schedule.{placeOf, startOf, finishOf};
+ghost use Rattle.planner.specs.Planner.{claimOf};
 ghost use Rattle.schedule.specs.Layout.{scheduleIn, putWords};
+use sheet::tables;
 
 // The processor of t, or 16 while it is not placed.
 pub fn place(w: &[u32], t: usize) -> usize
@@ -81,4 +83,19 @@ pub fn put(w: &mut [u32], t: usize, k: usize, start: usize, finish: usize, n: us
     w[8960 + n] = workspace::narrow(t);
     w[9217] = workspace::narrow(n + 1);
     w[9216] = workspace::narrow(opened);
+}
+
+// The claim: the latest finish.
+pub fn claim(w: &[u32]) -> usize
+    requires { ⌜ Loaded (now w) ⌝ }
+    ensures { λ r. ⌜ (r ≡ claimOf (sheetIn (now (w .entry))) (scheduleIn (now (w .entry)))) × (r < 4294967296) ⌝ }
+{
+    let n = tables::tasks(w);
+    let mut last: usize = 0;
+    let mut t: usize = 0;
+    while t < n {
+        last = words::later(last, finish(w, t));
+        t += 1;
+    }
+    last
 }

@@ -29,7 +29,7 @@ fn put_on(w: &mut [u32], j: usize, t: usize, k: usize)
 {
     let start = placing::start_on(w, t, k);
     let finish = start + tables::work(w, t);
-    let open = readiness::later(schedule::opened(w), k + 1);
+    let open = words::later(schedule::opened(w), k + 1);
     let n = schedule::placed(w);
     arrivals::settle(w, t, k, start, finish);
     arrivals::release(w, t);

@@ -53,10 +53,7 @@ pub fn put(w: &mut [u32], i: usize, x: usize)
 pub fn later(a: usize, b: usize) -> usize
     ensures { λ r. ⌜ r ≡ max a b ⌝ }
 {
-    if a < b {
-        return b;
-    }
-    a
+    if a < b { b } else { a }
 }
 
 // The smaller of two numbers.

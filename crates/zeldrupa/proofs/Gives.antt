@@ -5,6 +5,7 @@ use mathlib.Core.List.{List}
 use borrow.Author.Tests.{lt-ltb, le-ltb}
 use lib.ListN.{length, replicate}
 use Rattle.folds.specs.Answers.{Answer, value, refused, longEnough, number, placeOr, written, cleared}
+use Rattle.numbers.proofs.Puts.{kept}
 use Rattle.workspace.specs.Area.{fixed}
 use Rattle.sheet.specs.Sheet.{Sheet}
 use Rattle.bundle.specs.Bundle.{Bundle}
@@ -36,10 +37,6 @@ number-of f (refused n at) = refl
 pub place-of : {A : Type 0} (f : A → ℕ) (a : Answer A) → placeOf (outcomeOf f a) ≡ placeOr f a
 place-of f (value x) = refl
 place-of f (refused n at) = refl
-
-kept : (old : List ℕ) (n at : ℕ) → old ≡ written old (refused n at)
-unfolding written
-kept old n at = refl
 
 module _ {A : Type 0} (f : A → ℕ) (a : Answer A) (work : List ℕ) where
   pub ends-short : length work < fixed → Ends f (longEnough fixed (length work) a) work work fixed 13

@@ -16,7 +16,7 @@ use Rattle.bundle.specs.Bundle.{Bundle}
 use Rattle.machine.specs.Machine.{State}
 use Rattle.machine.specs.Words.{stampIn}
 use Rattle.machine.specs.Keeps.{StepIs, LeftIs, StampIs}
-use Rattle.machine.specs.Starts.{starting}
+use Rattle.starting.specs.Starts.{starting}
 use Rattle.zeldrupa.specs.Stepping.{startAnswer, GivesState, stateNumber, GivesStep, GivesLeft, GivesProcessor, stampNumber, GivesStamp}
 use Rattle.answers.specs.Parts.{numberOf, placeOf, StateIs, NumbersIs}
 use Rattle.answers.specs.declared.ending.Outcome.{Outcome}

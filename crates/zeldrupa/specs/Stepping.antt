@@ -14,7 +14,7 @@ use Rattle.messages.specs.Counting.{each}
 use Rattle.machine.specs.Machine.{State, freshState, stampOf, step, canStep}
 use Rattle.machine.specs.Runs.{runOf, left}
 use Rattle.machine.specs.Keeps.{Keeps, chosen}
-use Rattle.machine.specs.Starts.{starting}
+use Rattle.starting.specs.Starts.{starting}
 use Rattle.answers.specs.Values.{steppedIn, numbersOf}
 
 -- zeldrupa_start, zeldrupa_run: 13 for the work area, then for the state's

@@ -1,5 +1,5 @@
 -- `lines::fields::put_end` meets its contract.
-use Rattle.lines.proofs.Puts.{put-one}
+use Rattle.numbers.proofs.Puts.{put-one}
 use borrow.Author.Needs.{needs}
 use Rattle.lines.proofs.fields.put_end.Statement.{statement}
 use Rattle.lines.proofs.fields.put_end.Tie as tie

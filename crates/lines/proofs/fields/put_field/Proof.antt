@@ -1,5 +1,5 @@
 -- `lines::fields::put_field` meets its contract.
-use Rattle.lines.proofs.Puts.{put-one, put-then}
+use Rattle.numbers.proofs.Puts.{put-one, put-then}
 use denote.Ref.{now}
 use lib.ListN.{length-set}
 use native.Mathlib.Omega.{arith}

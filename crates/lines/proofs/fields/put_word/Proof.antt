@@ -1,6 +1,6 @@
 -- `lines::fields::put_word` meets its contract.
 use denote.Ref.{now}
-use Rattle.lines.specs.Lines.{PutIs}
+use Rattle.numbers.specs.Number.{Put}
 use Rattle.lines.proofs.Puts.{word-none, word-more, word-whole}
 use lib.ListN.{length, take, length-set}
 use Prim.Native.Nat.{_+_, _-_, _≤_}
@@ -11,7 +11,7 @@ use Rattle.lines.proofs.fields.put_word.Statement.{statement}
 use Rattle.lines.proofs.fields.put_word.Tie as tie
 
 abbrev Inv-loop : tie.InvT-loop
-Inv-loop out₀ at word i₀ out i = (length out ≡ length out₀) × (i ≤ length word) × PutIs out₀ out at (take i word) (at + i)
+Inv-loop out₀ at word i₀ out i = (length out ≡ length out₀) × (i ≤ length word) × Put out₀ at (take i word) out (at + i)
 
 abbrev μ-loop : tie.MeasureT-loop
 μ-loop out₀ at word i₀ out i = length word - i

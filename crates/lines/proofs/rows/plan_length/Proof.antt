@@ -12,7 +12,7 @@ returns : tie.Need-returns
 returns c =
     let e = plan-length (sheetIn (now (c .before .before .before .before .before .args .w))) (scheduleIn (now (c .before .before .before .before .before .args .w))) in
     let p = digits-of (c .before .before .before .opened .ensures .0) in
-    let q = digits-of (c .before .claim .ensures) in
+    let q = digits-of (c .before .claim .ensures .0) in
     (omega (arith, e, p, q, c .before .before .digits .ensures .0, c .digits2 .ensures .0), omega (arith, c .before .before .digits .ensures .1, c .digits2 .ensures .1))
 
 pub plan-length-spec : {M : Type 1} → statement M

@@ -8,13 +8,13 @@ use Rattle.listing.specs.Listing.{taskLine}
 use Rattle.schedule.specs.Layout.{scheduleIn}
 use Rattle.folds.specs.Folds.{gather}
 use Rattle.lines.proofs.Parts.{tasks-none, tasks-more, tasks-all, tasks-room}
-use Rattle.lines.specs.Lines.{PutIs}
+use Rattle.numbers.specs.Number.{Put}
 use borrow.Author.Needs.{needs}
 use Rattle.lines.proofs.rows.put_tasks.Statement.{statement}
 use Rattle.lines.proofs.rows.put_tasks.Tie as tie
 
 abbrev Inv-loop : tie.InvT-loop
-Inv-loop w out₀ at n end₀ t₀ out end t = (t ≤ n) × (length out ≡ length out₀) × PutIs out₀ out at (gather t (taskLine (scheduleIn w))) end
+Inv-loop w out₀ at n end₀ t₀ out end t = (t ≤ n) × (length out ≡ length out₀) × Put out₀ at (gather t (taskLine (scheduleIn w))) out end
 
 abbrev μ-loop : tie.MeasureT-loop
 μ-loop w out₀ at n end₀ t₀ out end t = n - t

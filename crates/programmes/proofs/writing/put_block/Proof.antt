@@ -1,7 +1,8 @@
 use native.Mathlib.Omega.{arith}
 use Rattle.programmes.proofs.Parts.{block-away}
 use Rattle.programmes.proofs.Measures.{block-length, stands-else, stands-here}
-use Rattle.programmes.proofs.Puts.{block-put, put-as, put-none}
+use Rattle.numbers.proofs.Puts.{put-as, put-none}
+use Rattle.programmes.proofs.Puts.{block-put}
 use borrow.Author.Needs.{needs}
 use denote.Ref.{now}
 use Rattle.sheet.proofs.Rows.{ranged}

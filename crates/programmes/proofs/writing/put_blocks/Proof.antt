@@ -1,4 +1,5 @@
-use Rattle.programmes.proofs.Puts.{Filled, filled-all, filled-more, filled-none, filled-room, put-as}
+use Rattle.numbers.proofs.Puts.{put-as}
+use Rattle.programmes.proofs.Puts.{Filled, filled-all, filled-more, filled-none, filled-room}
 use Prim.Native.Nat.{_-_, _<_, _≤_}
 use mathlib.Core.Path.{ap}
 use native.Mathlib.Omega.{arith}

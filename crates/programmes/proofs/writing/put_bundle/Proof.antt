@@ -16,10 +16,10 @@ put-programmes-requires : tie.Need-put-programmes-requires
 put-programmes-requires c κs = let s = c .before .before .before .before in (s .pre .0, omega (arith, s .pre .1, bundle-length (sheetIn (now (s .args .w))) (scheduleIn (now (s .args .w)))))
 
 put-claim-requires : tie.Need-put-claim-requires
-put-claim-requires c κs = let s = c .before .before .before .before .before .before .before .before in (omega (arith, s .pre .1, bundle-length (sheetIn (now (s .args .w))) (scheduleIn (now (s .args .w))), c .before .before .before .put-programmes .ensures .next, c .before .before .before .put-programmes .kept .1 .0), c .before .before .before .before .before .latest .ensures .1)
+put-claim-requires c κs = let s = c .before .before .before .before .before .before .before .before in (omega (arith, s .pre .1, bundle-length (sheetIn (now (s .args .w))) (scheduleIn (now (s .args .w))), c .before .before .before .put-programmes .ensures .next, c .before .before .before .put-programmes .kept .1 .0), c .before .before .before .before .before .claim .ensures .1)
 
 returns : tie.Need-returns
-returns c = let s = c .before .before .before .before .before .before .before .before .before .before .before in bundle-put (sheetIn (now (s .args .w))) (scheduleIn (now (s .args .w))) (c .before .before .before .before .before .before .put-programmes .ensures) (c .before .before .put-claim .ensures ∙ ap (λ (x : ℕ). stored (c .before .before .before .before .before .before .put-programmes .last .1 .0) (c .before .before .before .before .before .before .put-programmes .result) (claimBytes x)) (c .before .before .before .before .before .before .before .before .latest .ensures .0))
+returns c = let s = c .before .before .before .before .before .before .before .before .before .before .before in bundle-put (sheetIn (now (s .args .w))) (scheduleIn (now (s .args .w))) (c .before .before .before .before .before .before .put-programmes .ensures) (c .before .before .put-claim .ensures ∙ ap (λ (x : ℕ). stored (c .before .before .before .before .before .before .put-programmes .last .1 .0) (c .before .before .before .before .before .before .put-programmes .result) (claimBytes x)) (c .before .before .before .before .before .before .before .before .claim .ensures .0))
 
 pub put-bundle-spec : {M : Type 1} → statement M
 put-bundle-spec =

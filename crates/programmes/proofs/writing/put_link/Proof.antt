@@ -4,7 +4,7 @@ use Rattle.programmes.proofs.Parts.{message-away, message-home}
 use Rattle.programmes.proofs.Measures.{message-three}
 use borrow.Author.Needs.{needs}
 use denote.Ref.{now}
-use Rattle.programmes.proofs.Puts.{put-as, put-none}
+use Rattle.numbers.proofs.Puts.{put-as, put-none}
 use Rattle.sheet.proofs.Rows.{ranged}
 use Rattle.schedule.specs.Layout.{scheduleIn}
 use Rattle.sheet.specs.Tables.{sheetIn}

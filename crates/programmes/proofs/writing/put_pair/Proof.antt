@@ -2,7 +2,7 @@ use native.Mathlib.Omega.{arith}
 use lib.ListN.{length-set}
 use borrow.Author.Needs.{needs}
 use denote.Ref.{now}
-use Rattle.programmes.proofs.Puts.{put-two}
+use Rattle.numbers.proofs.Puts.{put-two}
 use mathlib.Core.Path.{refl}
 use Rattle.programmes.proofs.writing.put_pair.Statement.{statement}
 use Rattle.programmes.proofs.writing.put_pair.Tie as tie

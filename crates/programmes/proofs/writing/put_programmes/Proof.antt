@@ -1,4 +1,5 @@
-use Rattle.programmes.proofs.Puts.{Filled, filled-all, filled-more, filled-none, filled-room, put-rest, rest-long}
+use Rattle.numbers.proofs.Puts.{put-rest, rest-long}
+use Rattle.programmes.proofs.Puts.{Filled, filled-all, filled-more, filled-none, filled-room}
 use Prim.Native.Nat.{_-_, _≤_}
 use native.Mathlib.Omega.{arith}
 use lib.ListN.{length}

@@ -1,10 +1,10 @@
 use Prim.Native.Nat.{_-_, _≤_}
-use Rattle.machine.proofs.Fresh.{first-all, first-more, first-none}
-use Rattle.machine.specs.Starts.{FirstIs}
+use Rattle.starting.proofs.Fresh.{first-all, first-more, first-none}
+use Rattle.starting.specs.Starts.{FirstIs}
 use borrow.Author.Needs.{needs}
 use native.Mathlib.Omega.{arith}
-use Rattle.machine.proofs.start.first.Statement.{statement}
-use Rattle.machine.proofs.start.first.Tie as tie
+use Rattle.starting.proofs.start.first.Statement.{statement}
+use Rattle.starting.proofs.start.first.Tie as tie
 
 abbrev Inv-loop : tie.InvT-loop
 Inv-loop w₀ m k₀ w k = (FirstIs w₀ w k) × (k ≤ m)

@@ -1,8 +1,8 @@
 use Prim.Native.Nat.{_-_}
-use Rattle.machine.proofs.Fresh.{Wiping, wiping-ends, wiping-more, wiping-starts}
+use Rattle.starting.proofs.Fresh.{Wiping, wiping-ends, wiping-more, wiping-starts}
 use borrow.Author.Needs.{needs}
-use Rattle.machine.proofs.start.wipe.Statement.{statement}
-use Rattle.machine.proofs.start.wipe.Tie as tie
+use Rattle.starting.proofs.start.wipe.Statement.{statement}
+use Rattle.starting.proofs.start.wipe.Tie as tie
 
 abbrev Inv-loop : tie.InvT-loop
 Inv-loop w₀ i₀ w i = Wiping w₀ w i

@@ -3,7 +3,7 @@ ghost use mathlib.Core.Path.{_≡_};
 ghost use Prim.Native.Nat.{_≤_, _<_};
 ghost use lib.ListN.{length};
 ghost use Rattle.sheet.specs.Tables.{Loaded};
-ghost use Rattle.machine.specs.Starts.{WipeIs, FirstIs, TakeIs, StartIs, AdmitIs, OpenIs};
+ghost use Rattle.starting.specs.Starts.{WipeIs, FirstIs, TakeIs, StartIs, AdmitIs, OpenIs};
 use messages::Judged;
 
 // All numbers of processors and links become 0.

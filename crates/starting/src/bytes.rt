@@ -2,7 +2,7 @@
 ghost use Prim.Native.Nat.{_≤_};
 ghost use lib.ListN.{length};
 ghost use Rattle.workspace.specs.Area.{fixed};
-ghost use Rattle.machine.specs.Starts.{BytesIs};
+ghost use Rattle.starting.specs.Starts.{BytesIs};
 use levelling::open;
 use messages::Judged;
 use sheet_reader::Reading;

@@ -1,7 +1,7 @@
-use Rattle.machine.proofs.Fresh.{started}
+use Rattle.starting.proofs.Fresh.{started}
 use borrow.Author.Needs.{needs}
-use Rattle.machine.proofs.start.start.Statement.{statement}
-use Rattle.machine.proofs.start.start.Tie as tie
+use Rattle.starting.proofs.start.start.Statement.{statement}
+use Rattle.starting.proofs.start.start.Tie as tie
 
 returns : tie.Need-returns
 returns c = started _ _ _ _ _ _ _ _ _ (c .before .before .before .before .before .before .before .smaller .ensures) (c .before .before .before .before .before .before .take-over .ensures) (c .before .before .begin .ensures)

@@ -6,9 +6,9 @@ use Rattle.planner.specs.Schedule.{finishOf}
 use Rattle.folds.specs.Folds.{greatest}
 use Rattle.folds.proofs.Loops.{greatest-at, greatest-more, greatest-zero}
 use borrow.Author.Needs.{needs}
 use Rattle.schedule.specs.Layout.{scheduleIn}
-use Rattle.programmes.proofs.writing.latest.Statement.{statement}
-use Rattle.programmes.proofs.writing.latest.Tie as tie
+use Rattle.schedule.proofs.claim.Statement.{statement}
+use Rattle.schedule.proofs.claim.Tie as tie
 
 abbrev Inv-loop : tie.InvT-loop
 Inv-loop w n last₀ t₀ last t = (t ≤ n) × (last ≡ greatest t (finishOf (scheduleIn w))) × (last < 4294967296)
@@ -26,8 +26,8 @@ returns : tie.Need-returns Inv-loop μ-loop
 unfolding claimOf
 returns c = (greatest-at _ _ _ (c .before .loop .inv .1) (omega (arith, c .before .loop .inv .0, c .loop-test .left, c .before .before .tasks .ensures .0)), c .before .loop .inv .2)
 
-pub latest-spec : {M : Type 1} → statement M
-latest-spec =
+pub claim-spec : {M : Type 1} → statement M
+claim-spec =
     tie.close
     (tie.spec
     Inv-loop

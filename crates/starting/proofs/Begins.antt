@@ -18,9 +18,9 @@ use Rattle.messages.specs.Admitted.{admittedBytes, judgedOf}
 use Rattle.messages.specs.declared.Judged.{Judged}
 use Rattle.messages.specs.declared.Judged.the-variants.{Refused}
 use Rattle.messages.proofs.Written.{fields-read}
 use Rattle.machine.specs.Machine.{freshState}
 use Rattle.machine.specs.Keeps.{Keeps}
-use Rattle.machine.specs.Starts.{OpenIs, starting, startedOf, BytesIs}
+use Rattle.starting.specs.Starts.{OpenIs, starting, startedOf, BytesIs}
 
 -- the sheet beside its bundle, or the refusal
 abbrev beside : Sheet → Answer Bundle → Answer (Sheet × Bundle)

@@ -1,9 +1,9 @@
 use Prim.Native.Nat.{_+_, _-_, _≤_}
-use Rattle.machine.proofs.Fresh.{Taking, taking-ends, taking-more, taking-starts}
+use Rattle.starting.proofs.Fresh.{Taking, taking-ends, taking-more, taking-starts}
 use borrow.Author.Needs.{needs}
 use native.Mathlib.Omega.{arith}
-use Rattle.machine.proofs.start.take_over.Statement.{statement}
-use Rattle.machine.proofs.start.take_over.Tie as tie
+use Rattle.starting.proofs.start.take_over.Statement.{statement}
+use Rattle.starting.proofs.start.take_over.Tie as tie
 
 abbrev Inv-loop : tie.InvT-loop
 Inv-loop from w₀ m i₀ w i = (Taking from w₀ w i) × (i ≤ m + 1)

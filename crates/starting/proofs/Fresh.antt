@@ -18,12 +18,12 @@ use Rattle.bundle.proofs.Lying.{lies-le}
 use Rattle.messages.specs.Counting.{whole, each}
 use Rattle.messages.specs.Fields.{Fields}
 use Rattle.messages.proofs.Walking.{laid-by}
 use Rattle.machine.specs.Machine.{State, Processor, freshProcessor, freshState, processorOf, stampOf}
 use Rattle.machine.specs.Runs.{left}
 use Rattle.machine.specs.Words.{stampIn}
 use Rattle.machine.specs.Keeps.{Keeps}
-use Rattle.machine.specs.Starts.{WipeIs, FirstIs, StartIs, TakeIs}
+use Rattle.starting.specs.Starts.{WipeIs, FirstIs, StartIs, TakeIs}
 use Rattle.machine.proofs.Runs.{fresh-processor, fresh-left}
 
 -- a word that is put is 0 there, also past the end
 put-zero : (w : List ℕ) (i : ℕ) → getD (set w i 0) i 0 ≡ 0

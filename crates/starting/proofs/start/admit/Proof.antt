@@ -1,8 +1,8 @@
-use Rattle.machine.proofs.Opens.{admit-refused, admit-starts}
+use Rattle.starting.proofs.Opens.{admit-refused, admit-starts}
 use borrow.Author.Needs.{needs}
 use native.Mathlib.Omega.{arith}
-use Rattle.machine.proofs.start.admit.Statement.{statement}
-use Rattle.machine.proofs.start.admit.Tie as tie
+use Rattle.starting.proofs.start.admit.Statement.{statement}
+use Rattle.starting.proofs.start.admit.Tie as tie
 
 returns : tie.Need-returns
 returns c = admit-refused _ _ _ _ _ _ _ _ _ _ (c .before .before .before .before .before .judge .ensures) _ _ (c .before .r .given .1)

@@ -1,9 +1,9 @@
 use Rattle.levelling.proofs.Opens.{open-loaded}
-use Rattle.machine.proofs.Begins.{begin-opened, begin-refused}
+use Rattle.starting.proofs.Begins.{begin-opened, begin-refused}
 use borrow.Author.Needs.{needs}
 use native.Mathlib.Omega.{arith}
-use Rattle.machine.proofs.bytes.start.Statement.{statement}
-use Rattle.machine.proofs.bytes.start.Tie as tie
+use Rattle.starting.proofs.bytes.start.Statement.{statement}
+use Rattle.starting.proofs.bytes.start.Tie as tie
 
 open-requires : tie.Need-open-requires
 open-requires c κs = open-loaded (c .before .before .before .before .before .before .read .ensures) (c .before .before .enum-told .given .1)

@@ -1,8 +1,8 @@
-use Rattle.machine.proofs.Fresh.{begun}
+use Rattle.starting.proofs.Fresh.{begun}
 use borrow.Author.Needs.{needs}
 use native.Mathlib.Omega.{arith}
-use Rattle.machine.proofs.start.begin.Statement.{statement}
-use Rattle.machine.proofs.start.begin.Tie as tie
+use Rattle.starting.proofs.start.begin.Statement.{statement}
+use Rattle.starting.proofs.start.begin.Tie as tie
 
 returns : tie.Need-returns
 returns c = begun _ _ _ _ _ _ _ _ _ _ _ (λ i. omega (arith, c .before .before .before .before .before .before .before .before .before .before .before .before .before .before .before .before .before .before .before .before .before .before .before .before .before .slice-known .given i)) (c .before .before .before .before .before .before .before .before .before .before .before .before .before .before .before .before .before .before .before .before .before .before .before .wipe .ensures) (c .before .before .before .before .before .before .before .before .before .before .before .before .before .before .before .before .before .before .before .put .ensures) (c .before .before .before .before .before .before .before .before .before .before .before .before .before .before .before .put2 .ensures) (c .before .before .before .before .before .before .before .before .before .before .before .put3 .ensures) (c .before .before .before .before .before .before .before .put4 .ensures) _ (c .before .before .before .smaller .ensures) (c .before .before .first .ensures)
