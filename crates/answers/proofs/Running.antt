@@ -14,7 +14,7 @@ use Rattle.messages.specs.declared.Judged.{Judged}
 use Rattle.messages.specs.declared.Judged.the-variants as judged
 use Rattle.machine.specs.Machine.{State, Processor, freshState, freshProcessor, processorOf}
 use Rattle.machine.specs.Runs.{freshRun, runOf}
-use Rattle.machine.specs.Keeps.{Keeps, RunIs, ClockIs, PositionIs, StoreIs}
+use Rattle.state.specs.Keeps.{Keeps, RunIs, ClockIs, PositionIs, StoreIs}
 use Rattle.starting.specs.Starts.{starting, startedOf, BytesIs}
 use Rattle.checker.specs.Checker.{check}
 use Rattle.checker.specs.Verdicts as checker

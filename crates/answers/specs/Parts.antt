@@ -7,7 +7,7 @@ use Rattle.folds.specs.Answers.{Answer, value, refused, written}
 use Rattle.sheet.specs.Sheet.{Sheet}
 use Rattle.bundle.specs.Bundle.{Bundle}
 use Rattle.machine.specs.Machine.{State}
-use Rattle.machine.specs.Keeps.{Keeps}
+use Rattle.state.specs.Keeps.{Keeps}
 use Rattle.starting.specs.Starts.{starting}
 use Rattle.answers.specs.Values.{taskTable, linkTable, boardAfter, no-place, valueCount, commandTable, claimAfter}
 use Rattle.answers.specs.Values.{numbersOf}

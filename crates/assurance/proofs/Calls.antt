@@ -9,8 +9,8 @@ use Rattle.workspace.specs.Area.{fixed}
 use Rattle.sheet.specs.Sheet.{Sheet}
 use Rattle.bundle.specs.Bundle.{Bundle}
 use Rattle.machine.specs.Runs.{Run, choose, runFrom, freshRun, runOf, answers}
-use Rattle.machine.specs.Keeps.{Keeps}
-use Rattle.machine.proofs.Lists.{choose-is}
+use Rattle.state.specs.Keeps.{Keeps}
+use Rattle.stepping.proofs.Lists.{choose-is}
 use Rattle.assurance.specs.Demand.{Stepped, nothing, stepped, Agrees}
 
 module _ (s : Sheet) (b : Bundle) (sheet bundle : List ℕ) where

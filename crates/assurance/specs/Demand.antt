@@ -18,7 +18,7 @@ use Rattle.messages.specs.Counting.{weigh, whole, each, is, need}
 use Rattle.messages.specs.Messages.{Published}
 use Rattle.machine.specs.Machine.{processorOf, stampOf, canStep}
 use Rattle.machine.specs.Runs.{Run, freshRun, runOf, answers, doneOf, done, left, latest}
-use Rattle.machine.specs.Keeps.{Keeps}
+use Rattle.state.specs.Keeps.{Keeps}
 use Rattle.starting.specs.Starts.{starting}
 use Rattle.zeldrupa.specs.Promises.{GivesCheck, GivesPlan}
 use Rattle.answers.specs.Values.{numbersOf}

@@ -36,7 +36,7 @@ use Rattle.messages.proofs.Few.{few-of-read, commands-whole}
 use Rattle.messages.proofs.Admits.{admitted-published}
 use Rattle.machine.specs.Machine.{State, processorOf}
 use Rattle.machine.specs.Runs.{clockOf, latest, settled}
-use Rattle.machine.specs.Keeps.{Keeps}
+use Rattle.state.specs.Keeps.{Keeps}
 use Rattle.starting.specs.Starts.{StartIs}
 use Rattle.checker.specs.Checker.{unfinished, at29, at30, closing, checked}
 use Rattle.checker.specs.Settling.{SettleIs}

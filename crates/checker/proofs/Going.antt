@@ -14,12 +14,12 @@ use Rattle.messages.specs.Counting.{each}
 use Rattle.messages.specs.Messages.{Published}
 use Rattle.machine.specs.Machine.{State, freshState, step, canStep}
 use Rattle.machine.specs.Runs.{Run, freshRun, choose, runFrom, runOf, left, settled}
-use Rattle.machine.specs.Keeps.{Keeps, StepIs, RunIs}
+use Rattle.state.specs.Keeps.{Keeps, StepIs, RunIs}
 use Rattle.machine.proofs.Steps.{Move, step-move, left-moved, step-below}
 use Rattle.machine.proofs.Runs.{keeps}
 use Rattle.machine.proofs.Orders.{any-run}
-use Rattle.machine.proofs.Lists.{from-then, run-none, run-more}
-use Rattle.machine.proofs.Chosen.{no-programme}
+use Rattle.stepping.proofs.Lists.{from-then, run-none, run-more}
+use Rattle.stepping.proofs.Chosen.{no-programme}
 use Rattle.checker.specs.Settling.{Goes, Halts, AdvanceIs, RoundIs, SettleIs}
 
 cannot : (s : Sheet) (b : Bundle) (σ : State) (k : ℕ) → false ≡ canStep s b σ k → step s b σ k ≡ none

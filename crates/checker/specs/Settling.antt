@@ -7,7 +7,7 @@ use Rattle.sheet.specs.Sheet.{Sheet}
 use Rattle.bundle.specs.Bundle.{Bundle}
 use Rattle.machine.specs.Machine.{State, step}
 use Rattle.machine.specs.Runs.{Run, runFrom}
-use Rattle.machine.specs.Keeps.{Keeps, RunIs}
+use Rattle.state.specs.Keeps.{Keeps, RunIs}
 
 -- some choices were made, and n of them stepped
 pub record Goes (sheet bundle w last : List ℕ) (n : ℕ) : Type 0 where

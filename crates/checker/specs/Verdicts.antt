@@ -14,7 +14,7 @@ use Rattle.messages.specs.Admitted.{Known}
 use Rattle.messages.specs.declared.Found.{Found}
 use Rattle.machine.specs.Machine.{State}
 use Rattle.machine.specs.Runs.{latest}
-use Rattle.machine.specs.Keeps.{Keeps}
+use Rattle.state.specs.Keeps.{Keeps}
 use Rattle.checker.specs.Checker.{at29, closing, checked, check}
 use Rattle.checker.specs.declared.Verdict.{Verdict}
 use Rattle.checker.specs.declared.Verdict.the-variants.{Good, Refused}

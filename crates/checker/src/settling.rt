@@ -8,7 +8,7 @@ fn advance(sheet: &[u8], bundle: &[u8], w: &mut [u32], k: usize) -> usize
 {
     let mut n = 0;
     while n < 65536 {
-        if machine::step(sheet, bundle, w, k) {
+        if stepping::step(sheet, bundle, w, k) {
             n += 1;
         } else {
             return n;

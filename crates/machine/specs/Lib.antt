@@ -1,4 +1,2 @@
 pub mod Machine
 pub mod Runs
-pub mod Words
-pub mod Keeps

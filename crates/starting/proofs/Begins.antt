@@ -19,7 +19,7 @@ use Rattle.messages.specs.declared.Judged.{Judged}
 use Rattle.messages.specs.declared.Judged.the-variants.{Refused}
 use Rattle.messages.proofs.Written.{fields-read}
 use Rattle.machine.specs.Machine.{freshState}
-use Rattle.machine.specs.Keeps.{Keeps}
+use Rattle.state.specs.Keeps.{Keeps}
 use Rattle.starting.specs.Starts.{OpenIs, starting, startedOf, BytesIs}
 
 -- the sheet beside its bundle, or the refusal

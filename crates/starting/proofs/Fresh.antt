@@ -20,8 +20,8 @@ use Rattle.messages.specs.Fields.{Fields}
 use Rattle.messages.proofs.Walking.{laid-by}
 use Rattle.machine.specs.Machine.{State, Processor, freshProcessor, freshState, processorOf, stampOf}
 use Rattle.machine.specs.Runs.{left}
-use Rattle.machine.specs.Words.{stampIn}
-use Rattle.machine.specs.Keeps.{Keeps}
+use Rattle.state.specs.Words.{stampIn}
+use Rattle.state.specs.Keeps.{Keeps}
 use Rattle.starting.specs.Starts.{WipeIs, FirstIs, StartIs, TakeIs}
 use Rattle.machine.proofs.Runs.{fresh-processor, fresh-left}
 

@@ -21,7 +21,7 @@ use Rattle.messages.proofs.Few.{few-of-read, commands-whole}
 use Rattle.messages.proofs.Admits.{admitted-published}
 use Rattle.messages.proofs.Areas.{part-long, part-low, known-in}
 use Rattle.machine.specs.Machine.{freshState}
-use Rattle.machine.specs.Keeps.{Keeps}
+use Rattle.state.specs.Keeps.{Keeps}
 use Rattle.starting.specs.Starts.{StartIs, AdmitIs, OpenIs}
 
 module _ (sheet bundle w u state : List ℕ) (p n l limit : ℕ) (f : Judged) (h : JudgeIs sheet bundle w u p n l limit f) where

@@ -16,7 +16,7 @@ use Rattle.messages.specs.Admitted.{admittedBytes, judgedOf, Known}
 use Rattle.messages.specs.declared.Judged.{Judged}
 use Rattle.messages.specs.declared.Judged.the-variants.{Refused}
 use Rattle.machine.specs.Machine.{freshState}
-use Rattle.machine.specs.Keeps.{Keeps}
+use Rattle.state.specs.Keeps.{Keeps}
 
 -- the words from 32 to 1119 are 0
 pub record WipeIs (w last : List ℕ) : Type 0 where

@@ -14,8 +14,8 @@ use Rattle.workspace.specs.Area.{fixed}
 use Rattle.sheet.specs.Sheet.{Sheet}
 use Rattle.bundle.specs.Bundle.{Bundle}
 use Rattle.machine.specs.Machine.{State}
-use Rattle.machine.specs.Words.{stampIn}
-use Rattle.machine.specs.Keeps.{StepIs, LeftIs, StampIs}
+use Rattle.state.specs.Words.{stampIn}
+use Rattle.state.specs.Keeps.{StepIs, LeftIs, StampIs}
 use Rattle.starting.specs.Starts.{starting}
 use Rattle.zeldrupa.specs.Stepping.{startAnswer, GivesState, stateNumber, GivesStep, GivesLeft, GivesProcessor, stampNumber, GivesStamp}
 use Rattle.answers.specs.Parts.{numberOf, placeOf, StateIs, NumbersIs}

@@ -13,7 +13,7 @@ use Rattle.bundle.specs.Bundle.{Bundle}
 use Rattle.messages.specs.Counting.{each}
 use Rattle.machine.specs.Machine.{State, freshState, stampOf, step, canStep}
 use Rattle.machine.specs.Runs.{runOf, left}
-use Rattle.machine.specs.Keeps.{Keeps, chosen}
+use Rattle.state.specs.Keeps.{Keeps, chosen}
 use Rattle.starting.specs.Starts.{starting}
 use Rattle.answers.specs.Values.{steppedIn, numbersOf}
 

@@ -7,8 +7,8 @@ ghost use Rattle.zeldrupa.specs.Promises.{Gives, GivesSheet, GivesBundle
 ghost use Rattle.zeldrupa.specs.Stepping.{GivesStart, GivesRun, GivesStep, GivesLeft, GivesProcessor, GivesStamp};
 use answers::bundles;
 use answers::ending;
+use answers::runs;
 use answers::sheets;
-use answers::stepping;
 
 // Reads a sheet into its tables: two values a task, four a link; processors, limit, tasks and links into `board`.
 #[no_mangle]
@@ -190,7 +190,7 @@ pub extern "C" fn zeldrupa_start(
         *place = 22528;
         return 13;
     }
-    let o = stepping::start(sheet, bundle, work, state);
+    let o = runs::start(sheet, bundle, work, state);
     workspace::clear(work);
     ending::conclude(o, place)
 }
@@ -215,7 +215,7 @@ pub extern "C" fn zeldrupa_run(
         *place = 22528;
         return 13;
     }
-    let o = stepping::run(sheet, bundle, choices, work, state);
+    let o = runs::run(sheet, bundle, choices, work, state);
     workspace::clear(work);
     ending::conclude(o, place)
 }
@@ -235,8 +235,8 @@ pub extern "C" fn zeldrupa_step(
         *place = 22528;
         return 13;
     }
-    let stepped = machine::step(sheet, bundle, state, choice as usize);
-    *place = stepping::counted(stepped);
+    let stepped = stepping::step(sheet, bundle, state, choice as usize);
+    *place = runs::counted(stepped);
     0
 }
 
@@ -249,7 +249,7 @@ pub extern "C" fn zeldrupa_left(bundle: &[u8], state: &[u32], place: &mut u64) -
         *place = 22528;
         return 13;
     }
-    *place = machine::left(state) as u64;
+    *place = state::left(state) as u64;
     0
 }
 
@@ -268,7 +268,7 @@ pub extern "C" fn zeldrupa_processor(
         *place = 22528;
         return 13;
     }
-    stepping::numbers(state, k as usize, processor);
+    runs::numbers(state, k as usize, processor);
     *place = 0;
     0
 }
@@ -282,6 +282,6 @@ pub extern "C" fn zeldrupa_stamp(state: &[u32], link: u64, place: &mut u64) -> u
         *place = 22528;
         return 13;
     }
-    *place = machine::stamp(state, link as usize) as u64;
+    *place = state::stamp(state, link as usize) as u64;
     0
 }

@@ -1,0 +1,67 @@
+// The machine's side of the interface, behind the test of the areas.
+ghost use mathlib.Core.Path.{_≡_};
+ghost use Prim.Native.Nat.{_%_, _≤_};
+ghost use lib.ListN.{length};
+ghost use Rattle.folds.specs.Folds.{bit};
+ghost use Rattle.workspace.specs.Area.{fixed};
+ghost use Rattle.machine.specs.Machine.{freshState};
+ghost use Rattle.machine.specs.Runs.{runOf};
+ghost use Rattle.answers.specs.Values.{steppedIn};
+ghost use Rattle.answers.specs.Parts.{StateIs, NumbersIs};
+use crate::ending::Outcome;
+use messages::Judged;
+
+// The fresh state.
+pub fn start(sheet: &[u8], bundle: &[u8], work: &mut [u32], state: &mut [u32]) -> Outcome
+    requires { ⌜ fixed ≤ length (now work) ⌝ }
+    ensures { λ o. ⌜ StateIs (λ x. 0) freshState (now (sheet .entry)) (now (bundle .entry)) (now (work .entry)) (now (work .exit)) (now (state .entry)) (now (state .exit)) o ⌝ }
+{
+    match starting::bytes::start(sheet, bundle, work, state) {
+        Judged::Refused(r, at) => Outcome::Refused(r, at),
+        Judged::Fit(_, _, _) => Outcome::Done(0),
+    }
+}
+
+// The state after a list of choices, and how many of them stepped.
+pub fn run(
+    sheet: &[u8],
+    bundle: &[u8],
+    choices: &[u8],
+    work: &mut [u32],
+    state: &mut [u32],
+) -> Outcome
+    requires { ⌜ fixed ≤ length (now work) ⌝ }
+    requires { ⌜ fixed ≤ length (now state) ⌝ }
+    ensures { λ o. ⌜ StateIs (steppedIn (now (choices .entry))) (λ s b. runOf s b (now (choices .entry)) .state) (now (sheet .entry)) (now (bundle .entry)) (now (work .entry)) (now (work .exit)) (now (state .entry)) (now (state .exit)) o ⌝ }
+{
+    match starting::bytes::start(sheet, bundle, work, state) {
+        Judged::Refused(r, at) => Outcome::Refused(r, at),
+        Judged::Fit(_, _, _) => Outcome::Done(stepping::run(sheet, bundle, choices, state)),
+    }
+}
+
+// 1 for true, 0 for false.
+pub fn counted(b: bool) -> u64
+    ensures { λ r. ⌜ r ≡ bit b ⌝ }
+{
+    if b {
+        return 1;
+    }
+    0
+}
+
+fn narrow(x: usize) -> u32
+    ensures { λ r. ⌜ r ≡ x % 4294967296 ⌝ }
+{
+    (x % 4294967296) as u32
+}
+
+// Clock, position and store in use of processor k.
+pub fn numbers(state: &[u32], k: usize, processor: &mut [u32; 3])
+    ensures { λ _. ⌜ NumbersIs (now (state .entry)) k (now (processor .exit)) ⌝ }
+{
+    let clock = narrow(state::clock(state, k));
+    let position = narrow(state::position(state, k));
+    let store = narrow(state::store(state, k));
+    *processor = [clock, position, store];
+}

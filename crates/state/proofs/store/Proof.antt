@@ -1,0 +1,14 @@
+use Rattle.state.proofs.Asks.{no-store, some-store}
+use borrow.Author.Needs.{needs}
+use native.Mathlib.Omega.{arith}
+use Rattle.state.proofs.store.Statement.{statement}
+use Rattle.state.proofs.store.Tie as tie
+
+returns : tie.Need-returns
+returns c = no-store _ _ (omega (arith, c .before .word .ensures .0))
+
+returns-2 : tie.Need-returns-2
+returns-2 c = some-store _ _ _ (omega (arith, c .before .before .word .ensures .0)) (c .word2 .ensures .0)
+
+pub store-spec : {M : Type 1} → statement M
+store-spec = tie.close (tie.spec (λ c κs. search needs) returns (λ c. search needs) (λ c κs. search needs) returns-2)
