@@ -15,17 +15,17 @@ use Rattle.folds.proofs.Laws.{sum-zeros, sum-mono}
 use Rattle.sheet.specs.Sheet.{Sheet, taskCount, linkCount, workOf, sourceOf, targetOf}
 use Rattle.sheet.specs.Tables.{sheetIn, Loaded}
 use Rattle.graph.specs.Graph.{circle, level}
-use Rattle.levelling.specs.Words.{Held, Kept, Beside, ChainedFrom, inQueue, doneBy}
-use Rattle.levelling.specs.Peeling.{dueBy, levelIn, Peeled}
+use Rattle.peeling.specs.Words.{Held, Kept, Beside, ChainedFrom, inQueue, doneBy}
+use Rattle.peeling.specs.Peeling.{dueBy, levelIn, Peeled}
 use Rattle.levelling.specs.Found.{foundOf, Levelled, LevelsAre}
 use Rattle.levelling.specs.declared.Found.{Found}
 use Rattle.levelling.specs.declared.Found.the-variants.{At, Nothing}
 use Rattle.graph.proofs.Reaches.{Declared}
 use Rattle.graph.proofs.Ranks.{Ranked, Solved, ranked-none, rankOf, none-ranked, level-is}
-use Rattle.levelling.proofs.Frames.{held, kept-held, kept-sheet, kept-trans, beside-held, beside-own, loaded-declared, beside-chained}
-use Rattle.levelling.proofs.Pushes.{in-queue, queued-all, queued-few}
-use Rattle.levelling.proofs.Lights.{due-lit, due-other}
-use Rattle.levelling.proofs.Turns.{chain-here}
+use Rattle.peeling.proofs.Frames.{held, kept-held, kept-sheet, kept-trans, beside-held, beside-own, loaded-declared, beside-chained}
+use Rattle.peeling.proofs.Pushes.{in-queue, queued-all, queued-few}
+use Rattle.peeling.proofs.Lights.{due-lit, due-other}
+use Rattle.peeling.proofs.Turns.{chain-here}
 
 -- all are taken off
 module _ (s : Sheet) (k : ℕ) (w : List ℕ) (declared : Declared s) (p : Peeled s k k 0 0 w) (all : k ≡ taskCount s) where

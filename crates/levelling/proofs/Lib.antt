@@ -1,10 +1,3 @@
-pub mod Frames
-pub mod Heads
-pub mod Pushes
-pub mod Lights
-pub mod Walks
-pub mod Turns
-pub mod Starts
 pub mod Spreads
 pub mod Ends
 pub mod Opens

@@ -18,17 +18,17 @@ use Rattle.folds.proofs.Loops.{first-passed, first-at}
 use Rattle.sheet.specs.Sheet.{Sheet, taskCount, linkCount, sourceOf, targetOf}
 use Rattle.sheet.specs.Tables.{sheetIn}
 use Rattle.graph.specs.Graph.{reaches, onCircle, circle}
-use Rattle.levelling.specs.Words.{Held, Beside, ChainedFrom, Queued, pushed, doneBy, doneUpTo}
-use Rattle.levelling.specs.Peeling.{Emptied, Noted, Search, Searched, Spreading}
+use Rattle.peeling.specs.Words.{Held, Beside, ChainedFrom, Queued, pushed, doneBy, doneUpTo}
+use Rattle.peeling.specs.Peeling.{Emptied, Noted, Search, Searched, Spreading}
 use Rattle.levelling.specs.Found.{SpreadIs}
 use Rattle.levelling.specs.declared.search.Spread.{Spread}
 use Rattle.levelling.specs.declared.search.Spread.the-variants.{Back, On}
 use Rattle.graph.proofs.Reaches.{Declared, link-reaches, reaches-along, reaches-none}
-use Rattle.levelling.proofs.Frames.{loaded-declared, beside-sheet, beside-held, beside-none, beside-trans, beside-chained, beside-set, beside-own, beside-from}
-use Rattle.levelling.proofs.Pushes.{queued-few, queued-room, queued-push, push-here, push-else, push-beside}
-use Rattle.levelling.proofs.Walks.{up-none, up-hop, up-end, up-same, up-late, up-else}
-use Rattle.levelling.proofs.Starts.{queued-none}
-use Rattle.levelling.proofs.Turns.{chain-here}
+use Rattle.peeling.proofs.Frames.{loaded-declared, beside-sheet, beside-held, beside-none, beside-trans, beside-chained, beside-set, beside-own, beside-from}
+use Rattle.peeling.proofs.Pushes.{queued-few, queued-room, queued-push, push-here, push-else, push-beside}
+use Rattle.peeling.proofs.Walks.{up-none, up-hop, up-end, up-same, up-late, up-else}
+use Rattle.peeling.proofs.Starts.{queued-none}
+use Rattle.peeling.proofs.Turns.{chain-here}
 
 -- a task is noted
 module _ (w : List ℕ) (h : Held w) (k u : ℕ) (u-in : u < taskCount (sheetIn w)) (q : Queued (taskCount (sheetIn w)) k w) {x : ℕ} (x-is : x ≡ getD w (6672 + u) 0) where

@@ -8,8 +8,8 @@ use lib.ListN.{length, getD}
 use Rattle.sheet.specs.Sheet.{Sheet, taskCount}
 use Rattle.sheet.specs.Tables.{sheetIn}
 use Rattle.graph.specs.Graph.{onCircle, circle, level}
-use Rattle.levelling.specs.Words.{Kept}
-use Rattle.levelling.specs.Peeling.{Searched}
+use Rattle.peeling.specs.Words.{Kept}
+use Rattle.peeling.specs.Peeling.{Searched}
 use Rattle.levelling.specs.declared.search.Spread.{Spread}
 use Rattle.levelling.specs.declared.search.Spread.the-variants.{Back, On}
 use Rattle.levelling.specs.declared.Found.{Found}

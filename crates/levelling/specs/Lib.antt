@@ -1,4 +1,2 @@
-pub mod Words
-pub mod Peeling
 pub mod Found
 pub mod Opened

@@ -1,12 +1,11 @@
 // Circles and levels of a sheet that stands in the work area, and a sheet opened there with them.
 ghost use Rattle.sheet.specs.Tables.{Loaded};
 ghost use Rattle.levelling.specs.Found.{LevelsAre};
+use peeling::chaining;
+use peeling::peel;
 use sheet::tables;
 
-mod chaining;
 pub mod open;
-mod peel;
-mod queue;
 mod search;
 
 // The lowest task on a circle.

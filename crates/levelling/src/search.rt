@@ -5,12 +5,12 @@ ghost use lib.ListN.{getD, length};
 ghost use Rattle.sheet.specs.Sheet.{taskCount};
 ghost use Rattle.sheet.specs.Tables.{sheetIn};
 ghost use Rattle.graph.specs.Graph.{onCircle, circle};
-ghost use Rattle.levelling.specs.Words.{Held, Beside, ChainedFrom, Queued};
-ghost use Rattle.levelling.specs.Peeling.{Emptied, Noted, Searched, Spreading};
+ghost use Rattle.peeling.specs.Words.{Held, Beside, ChainedFrom, Queued};
+ghost use Rattle.peeling.specs.Peeling.{Emptied, Noted, Searched, Spreading};
 ghost use Rattle.levelling.specs.Found.{foundOf, SpreadIs};
 use crate::Found;
-use crate::chaining;
-use crate::queue;
+use peeling::chaining;
+use peeling::queue;
 use sheet::tables;
 
 // A circle through the goal was closed, or the queue has so many tasks.

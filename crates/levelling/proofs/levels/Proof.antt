@@ -1,5 +1,5 @@
 use Rattle.levelling.proofs.Ends.{find-goes, levels-found, levels-free, peel-asks}
-use Rattle.levelling.proofs.Frames.{held}
+use Rattle.peeling.proofs.Frames.{held}
 use borrow.Author.Needs.{needs}
 use Rattle.levelling.proofs.levels.Statement.{statement}
 use Rattle.levelling.proofs.levels.Tie as tie

@@ -1,8 +1,8 @@
-use Rattle.levelling.specs.Words.{Beside}
-use Rattle.levelling.specs.Peeling.{Emptied}
+use Rattle.peeling.specs.Words.{Beside}
+use Rattle.peeling.specs.Peeling.{Emptied}
 use Prim.Native.Nat.{_-_, _≤_}
 use native.Mathlib.Omega.{arith}
-use Rattle.levelling.proofs.Frames.{beside-none, beside-set}
+use Rattle.peeling.proofs.Frames.{beside-none, beside-set}
 use Rattle.levelling.proofs.Spreads.{emptied-at, emptied-more, emptied-none}
 use borrow.Author.Needs.{needs}
 use Rattle.levelling.proofs.search.empty.Statement.{statement}

@@ -1,8 +1,8 @@
-use Rattle.levelling.specs.Words.{Beside}
+use Rattle.peeling.specs.Words.{Beside}
 use Prim.Native.Nat.{_-_, _≤_}
 use mathlib.Core.Path.{_∙_, _≡_}
 use native.Mathlib.Omega.{arith}
-use Rattle.levelling.proofs.Frames.{beside-none, beside-trans}
+use Rattle.peeling.proofs.Frames.{beside-none, beside-trans}
 use Rattle.levelling.proofs.Spreads.{find-asks, find-done, find-hit, find-miss, find-start}
 use Rattle.folds.specs.Folds.{first}
 use borrow.Author.Needs.{needs}

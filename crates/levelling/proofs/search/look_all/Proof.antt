@@ -1,9 +1,9 @@
-use Rattle.levelling.specs.Words.{Beside}
-use Rattle.levelling.specs.Peeling.{Searched}
+use Rattle.peeling.specs.Words.{Beside}
+use Rattle.peeling.specs.Peeling.{Searched}
 use Prim.Native.Nat.{_-_}
 use mathlib.Core.Path.{_∙_}
 use native.Mathlib.Omega.{arith}
-use Rattle.levelling.proofs.Frames.{beside-none, beside-trans}
+use Rattle.peeling.proofs.Frames.{beside-none, beside-trans}
 use Rattle.levelling.proofs.Spreads.{look-asks, look-back, look-ends, look-index, look-on}
 use borrow.Author.Needs.{needs}
 use Rattle.sheet.specs.Tables.{sheetIn}

@@ -1,5 +1,5 @@
 use native.Mathlib.Omega.{arith}
-use Rattle.levelling.proofs.Frames.{beside-held}
+use Rattle.peeling.proofs.Frames.{beside-held}
 use Rattle.levelling.proofs.Spreads.{goal-asks, goal-ends, goal-first}
 use borrow.Author.Needs.{needs}
 use Rattle.levelling.proofs.search.on_circle.Statement.{statement}

@@ -1,9 +1,9 @@
 use Rattle.levelling.proofs.Spreads.{SpreadTo, spread-asks, spread-closes, spread-ends, spread-goes, spread-is-back, spread-is-on, spread-less, spread-source, spread-starts}
 use Prim.Native.Nat.{_-_}
 use native.Mathlib.Omega.{arith}
-use Rattle.levelling.proofs.Frames.{beside-held, beside-trans}
+use Rattle.peeling.proofs.Frames.{beside-held, beside-trans}
 use borrow.Author.Needs.{needs}
-use Rattle.levelling.proofs.Turns.{next-asks}
+use Rattle.peeling.proofs.Turns.{next-asks}
 use denote.Ref.{now}
 use Rattle.levelling.proofs.search.walk_into.Statement.{statement}
 use Rattle.levelling.proofs.search.walk_into.Tie as tie

@@ -1,0 +1,85 @@
+-- What the words that the search leaves alone carry over: the sheet, and the chains.
+use Prim.Native.Nat.{ℕ, _+_, _≤_, _<_}
+use mathlib.Core.Path.{_≡_, refl, ap, sym, _∙_, subst}
+use mathlib.Core.List.{List}
+use native.Mathlib.Omega.{arith}
+use lib.ListN.{length, getD, set, length-set}
+use lib.Seq.{getD-set-same, getD-set-other}
+use Rattle.sheet.specs.Sheet.{Sheet, taskCount, linkCount}
+use Rattle.sheet.specs.Tables.{sheetIn, Loaded, Ranged}
+use Rattle.sheet.proofs.Rows.{sheet-frame, loaded-frame, ranged}
+use Rattle.peeling.specs.Words.{Held, Kept, Beside, ChainedFrom}
+use Rattle.graph.proofs.Reaches.{Declared}
+
+pub kept-none : (w : List ℕ) → Kept w w
+kept-none w = record { long = refl; low = λ i h. refl; high = λ i h. refl }
+
+pub kept-trans : {u v w : List ℕ} → Kept u v → Kept v w → Kept u w
+kept-trans p q = record { long = q .long ∙ p .long; low = λ i h. q .low i h ∙ p .low i h; high = λ i h. q .high i h ∙ p .high i h }
+
+pub kept-set : {w w′ : List ℕ} (j v : ℕ) → 4624 ≤ j → j < 8192 → Kept w w′ → Kept w (set w′ j v)
+kept-set {w} {w′} j v l h k =
+    record {
+      long = length-set w′ j v ∙ k .long;
+      low = λ i p. getD-set-other w′ j i v 0 (omega arith) ∙ k .low i p;
+      high = λ i p. getD-set-other w′ j i v 0 (omega arith) ∙ k .high i p;
+    }
+
+pub kept-sheet : {w w′ : List ℕ} → Held w → Kept w w′ → sheetIn w′ ≡ sheetIn w
+kept-sheet {w} {w′} h k = sheet-frame w w′ (k .low) (h .loaded .tasks) (h .loaded .links)
+
+pub kept-loaded : {w w′ : List ℕ} → Loaded w → Kept w w′ → Loaded w′
+kept-loaded {w} {w′} h k = loaded-frame w w′ (k .low) h (k .long)
+
+pub held : {w : List ℕ} → Loaded w → Held w
+held {w} h = let r = ranged w h in record { loaded = h; long = h .long; few-tasks = r .few-tasks; few-links = r .few-links }
+
+pub kept-held : {w w′ : List ℕ} → Held w → Kept w w′ → Held w′
+kept-held h k = held (kept-loaded (h .loaded) k)
+
+pub beside-held : {w w′ : List ℕ} → Held w → Beside w w′ → Held w′
+beside-held h b = kept-held h (b .kept)
+
+pub loaded-declared : {w : List ℕ} → Loaded w → Declared (sheetIn w)
+loaded-declared {w} h = let r = ranged w h in record { source = r .source; target = r .target }
+
+pub beside-none : (w : List ℕ) → Beside w w
+beside-none w = record { kept = kept-none w; chains = λ i h k. refl }
+
+pub beside-trans : {u v w : List ℕ} → Beside u v → Beside v w → Beside u w
+beside-trans p q = record { kept = kept-trans (p .kept) (q .kept); chains = λ i h k. q .chains i h k ∙ p .chains i h k }
+
+-- a store into the levels, and one behind the chains
+pub beside-level : {w w′ : List ℕ} (t v : ℕ) → t < 256 → Beside w w′ → Beside w (set w′ (4624 + t) v)
+beside-level {w} {w′} t v h b =
+    record { kept = kept-set (4624 + t) v (omega arith) (omega arith) (b .kept); chains = λ i p q. getD-set-other w′ (4624 + t) i v 0 (omega arith) ∙ b .chains i p q }
+
+pub beside-set : {w w′ : List ℕ} (j v : ℕ) → 6160 ≤ j → j < 8192 → Beside w w′ → Beside w (set w′ j v)
+beside-set {w} {w′} j v l h b =
+    record { kept = kept-set j v (omega arith) h (b .kept); chains = λ i p q. getD-set-other w′ j i v 0 (omega arith) ∙ b .chains i p q }
+
+pub beside-sheet : {w w′ : List ℕ} → Held w → Beside w w′ → sheetIn w′ ≡ sheetIn w
+beside-sheet h b = kept-sheet h (b .kept)
+
+-- the chains of an area whose chains are as they were
+pub beside-chained : (s : Sheet) (w w′ : List ℕ) → taskCount s ≤ 256 → linkCount s ≤ 1024 → Beside w w′ → ChainedFrom s 0 w → ChainedFrom s 0 w′
+beside-chained s w w′ n m b d =
+    let head : (t : ℕ) → t < taskCount s → getD w′ (4880 + t) 0 ≡ getD w (4880 + t) 0 = λ t h. b .chains (4880 + t) (omega arith) (omega arith) in
+    let next : (i : ℕ) → i < linkCount s → getD w′ (5136 + i) 0 ≡ getD w (5136 + i) 0 = λ i h. b .chains (5136 + i) (omega arith) (omega arith) in
+    record {
+      head-few = λ t h. rw (head t h) (d .head-few t h);
+      head-low = λ t h. omega arith;
+      head-own = λ t h. rw (head t h) (d .head-own t h);
+      head-none = λ t h i k. rw (head t h) (d .head-none t h i k);
+      next-few = λ i k h. rw (next i h) (d .next-few i k h);
+      next-more = λ i k h. rw (next i h) (d .next-more i k h);
+      next-own = λ i k h. rw (next i h) (d .next-own i k h);
+      next-none = λ i k h. rw (next i h) (d .next-none i k h);
+    }
+
+-- what is said of the sheet before holds of the sheet after, and the other way round
+pub beside-own : (P : Sheet → Type 0) {w w′ : List ℕ} → Held w → Beside w w′ → P (sheetIn w) → P (sheetIn w′)
+beside-own P h b p = subst P (sym (beside-sheet h b)) p
+
+pub beside-from : (P : Sheet → Type 0) {w w′ : List ℕ} → Held w → Beside w w′ → P (sheetIn w′) → P (sheetIn w)
+beside-from P h b p = subst P (beside-sheet h b) p

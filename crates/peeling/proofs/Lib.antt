@@ -1,0 +1,7 @@
+pub mod Frames
+pub mod Heads
+pub mod Pushes
+pub mod Lights
+pub mod Walks
+pub mod Turns
+pub mod Starts

@@ -1,0 +1,176 @@
+-- The beginning of peeling: blank tables, the links counted at their sources, and the tasks without links in the queue.
+use Prim.Native.Nat.{ℕ, zero, suc, _+_, _*_, _-_, _≤_, _<_, max}
+use mathlib.Core.Bool.{Bool, true, false, not, true≢false}
+use mathlib.Core.Path.{_≡_, refl, ap, ap₂, sym, _∙_, subst}
+use mathlib.Core.Logic.{_≢_}
+use mathlib.Core.List.{List}
+use native.Mathlib.Omega.{arith}
+use native.Mathlib.Decide.{decLt, ℕ-discrete}
+use borrow.Author.Tests.{eq-eqb, ne-eqb, lt-ltb, le-ltb, ltb-true}
+use lib.ListN.{length, getD, set, length-set}
+use lib.Seq.{getD-set-same, getD-set-other}
+use lib.Dec.{eqb, ltb}
+use Rattle.workspace.specs.Area.{fixed}
+use Rattle.folds.specs.Folds.{bit, both, sum, greatest}
+use Rattle.folds.proofs.Loops.{sum-zero, sum-one}
+use Rattle.folds.proofs.Laws.{sum-le, sum-cong, sum-zeros, greatest-le}
+use Rattle.sheet.specs.Sheet.{Sheet, taskCount, linkCount, sourceOf, targetOf}
+use Rattle.sheet.specs.Tables.{sheetIn}
+use Rattle.peeling.specs.Words.{Held, Beside, ChainedFrom, Queued, inQueue, pushed, doneBy}
+use Rattle.peeling.specs.Peeling.{dueBy, gaveBy, never, Peel, Peeled, Counted, Filled}
+use Rattle.graph.proofs.Reaches.{Declared, bit-le}
+use Rattle.peeling.proofs.Frames.{beside-none, beside-trans, beside-level, beside-set, beside-sheet, beside-held, beside-own, beside-from, loaded-declared}
+use Rattle.peeling.proofs.Pushes.{off-queue, queued-room, push-else, push-beside}
+use Rattle.peeling.proofs.Lights.{due-unlit, due-other, due-cong, gave-unlit, peel-same, peel-push}
+
+-- blank tables
+pub blank-none : (s : Sheet) (w : List ℕ) → Counted s 0 0 w
+blank-none s w = record { level = λ t h. absurd (omega arith); degree = λ t h. absurd (omega arith); place = λ t h. absurd (omega arith) }
+
+pub blank-more : {s : Sheet} {w : List ℕ} (t : ℕ) → t < 256 → fixed ≤ length w → Counted s t 0 w → Counted s (t + 1) 0 (set (set (set w (4624 + t) 0) (6160 + t) 0) (6672 + t) 256)
+blank-more {s} {w} t h long d = record { level = λ u k. level u k (ℕ-discrete u t); degree = λ u k. degree u k (ℕ-discrete u t) ∙ sym (sum-zero (dueBy s never u)); place = λ u k. place u k (ℕ-discrete u t) }
+  where
+    new : List ℕ
+    new = set (set (set w (4624 + t) 0) (6160 + t) 0) (6672 + t) 256
+
+    level : (u : ℕ) → u < t + 1 → Dec (u ≡ t) → getD (set (set (set w (4624 + t) 0) (6160 + t) 0) (6672 + t) 256) (4624 + u) 0 ≡ 0
+    level u k (yes e) = rw e (getD-set-other (set (set w (4624 + t) 0) (6160 + t) 0) (6672 + t) (4624 + t) 256 0 (omega arith) ∙ getD-set-other (set w (4624 + t) 0) (6160 + t) (4624 + t) 0 0 (omega arith) ∙ getD-set-same w (4624 + t) 0 0 (omega arith))
+    level u k (no e) = getD-set-other (set (set w (4624 + t) 0) (6160 + t) 0) (6672 + t) (4624 + u) 256 0 (omega arith) ∙ getD-set-other (set w (4624 + t) 0) (6160 + t) (4624 + u) 0 0 (omega arith) ∙ getD-set-other w (4624 + t) (4624 + u) 0 0 (λ x. e (omega arith)) ∙ d .level u (omega arith)
+
+    degree : (u : ℕ) → u < t + 1 → Dec (u ≡ t) → getD (set (set (set w (4624 + t) 0) (6160 + t) 0) (6672 + t) 256) (6160 + u) 0 ≡ 0
+    degree u k (yes e) = rw e (getD-set-other (set (set w (4624 + t) 0) (6160 + t) 0) (6672 + t) (6160 + t) 256 0 (omega arith) ∙ getD-set-same (set w (4624 + t) 0) (6160 + t) 0 0 (simp length-set (omega arith)))
+    degree u k (no e) = getD-set-other (set (set w (4624 + t) 0) (6160 + t) 0) (6672 + t) (6160 + u) 256 0 (omega arith) ∙ getD-set-other (set w (4624 + t) 0) (6160 + t) (6160 + u) 0 0 (λ x. e (omega arith)) ∙ getD-set-other w (4624 + t) (6160 + u) 0 0 (omega arith) ∙ d .degree u (omega arith) ∙ sum-zero (dueBy s never u)
+
+    place : (u : ℕ) → u < t + 1 → Dec (u ≡ t) → getD (set (set (set w (4624 + t) 0) (6160 + t) 0) (6672 + t) 256) (6672 + u) 0 ≡ 256
+    place u k (yes e) = rw e (getD-set-same (set (set w (4624 + t) 0) (6160 + t) 0) (6672 + t) 256 0 (simp length-set (omega arith)))
+    place u k (no e) = getD-set-other (set (set w (4624 + t) 0) (6160 + t) 0) (6672 + t) (6672 + u) 256 0 (λ x. e (omega arith)) ∙ getD-set-other (set w (4624 + t) 0) (6160 + t) (6672 + u) 0 0 (omega arith) ∙ getD-set-other w (4624 + t) (6672 + u) 0 0 (omega arith) ∙ d .place u (omega arith)
+
+pub blank-beside : {w₀ w : List ℕ} (t : ℕ) → t < 256 → Beside w₀ w → Beside w₀ (set (set (set w (4624 + t) 0) (6160 + t) 0) (6672 + t) 256)
+blank-beside t h b = beside-set (6672 + t) 256 (omega arith) (omega arith) (beside-set (6160 + t) 0 (omega arith) (omega arith) (beside-level t 0 h b))
+
+pub counted-at : {s : Sheet} {n n′ l l′ : ℕ} {w : List ℕ} → Counted s n l w → n ≡ n′ → l ≡ l′ → Counted s n′ l′ w
+counted-at {s} {n} {n′} {l} {l′} {w} d e f = subst (λ (x : ℕ). Counted s n′ x w) f (subst (λ (x : ℕ). Counted s x l w) e d)
+
+-- one link more
+due-le : (s : Sheet) (c : ℕ → Bool) (t l : ℕ) → dueBy s c t l ≤ 1
+unfolding dueBy
+due-le s c t l = bit-le (both (eqb (sourceOf s l) t) (not (c l)))
+
+never-is : (l : ℕ) → never l ≡ false
+unfolding never
+never-is l = refl
+
+module _ (s : Sheet) (w : List ℕ) (l : ℕ) (declared : Declared s) (few : taskCount s ≤ 256) (long : fixed ≤ length w) (l-in : l < linkCount s) (p : Counted s (taskCount s) l w) where
+  pub count-small : {u d : ℕ} → u ≡ sourceOf s l → d ≡ getD w (6160 + u) 0 → d ≤ l
+  count-small {u} {d} eu ed =
+      let e : getD w (6160 + u) 0 ≡ getD w (6160 + sourceOf s l) 0 = ap (λ (z : ℕ). getD w (6160 + z) 0) eu in
+      omega (arith, p .degree (sourceOf s l) (declared .source l l-in), sum-le l 1 (dueBy s never (sourceOf s l)) (λ j h. due-le s never (sourceOf s l) j))
+
+  pub counted : {u d e : ℕ} (w′ : List ℕ) → u ≡ sourceOf s l → d ≡ getD w (6160 + u) 0 → e ≡ d + 1 → w′ ≡ set w (6160 + u) e → Beside w w′ × Counted s (taskCount s) (l + 1) w′
+  counted {u} {d} {e} w′ eu ed ee ew =
+      let h = declared .source l l-in in
+      let new : w′ ≡ set w (6160 + sourceOf s l) e = ew ∙ ap (λ (z : ℕ). set w (6160 + z) e) eu in
+      let e-is : e ≡ getD w (6160 + sourceOf s l) 0 + 1 = ee ∙ ap (λ (z : ℕ). z + 1) (ed ∙ ap (λ (z : ℕ). getD w (6160 + z) 0) eu) in
+      subst (λ (x : List ℕ). Beside w x × Counted s (taskCount s) (l + 1) x) (sym new) (
+        beside-set (6160 + sourceOf s l) e (omega arith) (omega arith) (beside-none w),
+        record {
+          level = λ t k. getD-set-other w (6160 + sourceOf s l) (4624 + t) e 0 (omega arith) ∙ p .level t k;
+          degree = λ t k. at t k e-is (ℕ-discrete t (sourceOf s l));
+          place = λ t k. getD-set-other w (6160 + sourceOf s l) (6672 + t) e 0 (omega arith) ∙ p .place t k;
+        },
+      )
+    where
+      at : (t : ℕ) → t < taskCount s → e ≡ getD w (6160 + sourceOf s l) 0 + 1 → Dec (t ≡ sourceOf s l) → getD (set w (6160 + sourceOf s l) e) (6160 + t) 0 ≡ sum (l + 1) (dueBy s never t)
+      at t k e-is (yes q) =
+          let h = declared .source l l-in in
+          rw q (getD-set-same w (6160 + sourceOf s l) e 0 (omega arith) ∙ e-is ∙ omega (arith, p .degree (sourceOf s l) h, sum-one l (dueBy s never (sourceOf s l)), due-unlit s never (sourceOf s l) l refl (never-is l)))
+      at t k e-is (no q) =
+          getD-set-other w (6160 + sourceOf s l) (6160 + t) e 0 (λ x. q (omega arith)) ∙ omega (arith, p .degree t k, sum-one l (dueBy s never t), due-other s never t l (λ x. q (sym x)))
+
+-- nothing is in the queue yet
+done-none : (s : Sheet) (w : List ℕ) (l : ℕ) → doneBy s 0 w l ≡ false
+unfolding doneBy
+done-none s w l = le-ltb (getD w (6672 + targetOf s l) 0) 0 (omega arith)
+
+pub queued-none : {n : ℕ} {w : List ℕ} → ((t : ℕ) → t < n → getD w (6672 + t) 0 ≡ 256) → Queued n 0 w
+queued-none {n} {w} place =
+    record {
+      task = λ j h. absurd (omega arith);
+      place = λ j h. absurd (omega arith);
+      few = λ t h l. absurd (omega (arith, place t h));
+      back = λ t h l. absurd (omega (arith, place t h));
+      count = sym (sum-zeros n (inQueue w) (λ t h. off-queue w t (omega (arith, place t h))));
+    }
+
+pub filled-none : (s : Sheet) (w : List ℕ) → Declared s → Counted s (taskCount s) (linkCount s) w → Filled s 0 0 w
+filled-none s w declared p =
+    record {
+      peeled = record {
+        peel =
+            record {
+              queued = queued-none (p .place);
+              early = omega arith;
+              lit = λ l h q. absurd (true≢false (sym q ∙ done-none s w l));
+              degree = λ t h. p .degree t h ∙ sum-cong (linkCount s) (dueBy s never t) (dueBy s (doneBy s 0 w) t) (λ l k. due-cong s never (doneBy s 0 w) t l (never-is l ∙ sym (done-none s w l)));
+              gathered = λ t h g. omega (arith, p .level t h, greatest-le (linkCount s) (gaveBy s (doneBy s 0 w) w t) 0 (λ l k. omega (arith, gave-unlit s (doneBy s 0 w) t l w (done-none s w l))));
+              ready = λ t h g. absurd (omega (arith, p .place t h));
+              waits = λ t h x g. absurd (x (omega arith) h);
+              falls = λ l h g. absurd (omega (arith, p .place (sourceOf s l) (declared .source l h)));
+              solved = λ t h g. absurd (omega arith);
+              bounded = λ t h. omega (arith, p .level t h);
+            };
+      };
+      rest = λ u a h. omega (arith, p .place u h);
+    }
+
+-- one task more is asked
+module _ (s : Sheet) (w : List ℕ) (k t : ℕ) (declared : Declared s) (few : taskCount s ≤ 256) (long : fixed ≤ length w) (t-in : t < taskCount s) (p : Filled s k t w) where
+  pub offer-room : k < 256
+  offer-room = omega (arith, queued-room t (p .peeled .peel .queued) t-in (p .rest t (omega arith) t-in))
+
+  pub offer-stays : {d : ℕ} → d ≡ getD w (6160 + t) 0 → (d ≡ 0 → ⊥) → Beside w w × Filled s k (t + 1) w
+  offer-stays {d} e n =
+      let q = p .peeled .peel in (
+        beside-none w,
+        record {
+          peeled = record { peel = record { queued = q .queued; early = q .early; lit = q .lit; degree = q .degree; gathered = q .gathered; ready = q .ready; waits = λ u h x g. wait u h x g (ℕ-discrete u t); falls = q .falls; solved = q .solved; bounded = q .bounded } };
+          rest = λ u a h. p .rest u (omega arith) h;
+        },
+      )
+    where
+      wait : (u : ℕ) → u < taskCount s → (t + 1 ≤ u → u < taskCount s → ⊥) → getD w (6160 + u) 0 ≡ 0 → Dec (u ≡ t) → getD w (6672 + u) 0 < 256
+      wait u h x g (yes q) = absurd (n (e ∙ ap (λ (z : ℕ). getD w (6160 + z) 0) (sym q) ∙ g))
+      wait u h x g (no q) = p .peeled .peel .waits u h (λ a b. x (omega arith) b) g
+
+  pub offer-goes : {d : ℕ} (w′ : List ℕ) → d ≡ getD w (6160 + t) 0 → d ≡ 0 → w′ ≡ pushed w k t → Beside w w′ × Filled s (k + 1) (t + 1) w′
+  offer-goes {d} w′ e n ew =
+      let q = p .peeled .peel in
+      let free : 256 ≤ getD w (6672 + t) 0 = p .rest t (omega arith) t-in in
+      subst (λ (x : List ℕ). Beside w x × Filled s (k + 1) (t + 1) x) (sym ew) (
+        push-beside (taskCount s) k t w few long t-in free (q .queued),
+        record {
+          peeled = record {
+            peel = peel-same (doneBy s 0 w) (doneBy s 0 (pushed w k t)) (λ l h. done-none s w l ∙ sym (done-none s (pushed w k t) l))
+                (peel-push s w declared few long (doneBy s 0 w) 0 k t (taskCount s) (t + 1) (taskCount s) t q t-in free (sym e ∙ n) (λ u a b c d. b (let z : u ≢ t = a in omega arith) d));
+          };
+          rest = λ u a h. rw (push-else (taskCount s) k t w few long t-in free (q .queued) u (omega arith)) (p .rest u (omega arith) h);
+        },
+      )
+
+pub filled-done : {s : Sheet} {k t : ℕ} {w : List ℕ} → Filled s k t w → taskCount s ≤ t → Peeled s 0 k 0 0 w
+filled-done p h =
+    let q = p .peeled .peel in
+    record { peel = record { queued = q .queued; early = q .early; lit = q .lit; degree = q .degree; gathered = q .gathered; ready = q .ready; waits = λ u a x g. q .waits u a (λ b c. absurd (omega arith)) g; falls = q .falls; solved = q .solved; bounded = q .bounded } }
+
+-- the same, for the sheet that stands in a work area
+pub count-asks : {w₀ w : List ℕ} {l : ℕ} → Held w₀ → Beside w₀ w → l < linkCount (sheetIn w₀) → Counted (sheetIn w₀) (taskCount (sheetIn w₀)) l w → Held w × ((l < linkCount (sheetIn w)) × Counted (sheetIn w) (taskCount (sheetIn w)) l w)
+count-asks {w₀} {w} {l} h b g d = (beside-held h b, beside-own (λ (s : Sheet). (l < linkCount s) × Counted s (taskCount s) l w) h b (g, d))
+
+pub count-turns : {w₀ w w′ : List ℕ} {l : ℕ} → Held w₀ → Beside w₀ w → Beside w w′ × Counted (sheetIn w) (taskCount (sheetIn w)) l w′ → Beside w₀ w′ × Counted (sheetIn w₀) (taskCount (sheetIn w₀)) l w′
+count-turns {w₀} {w} {w′} {l} h b d = (beside-trans b (d .0), beside-from (λ (s : Sheet). Counted s (taskCount s) l w′) h b (d .1))
+
+pub fill-asks : {w₀ w : List ℕ} {k t : ℕ} → Held w₀ → Beside w₀ w → t < taskCount (sheetIn w₀) → Filled (sheetIn w₀) k t w → Held w × ((t < taskCount (sheetIn w)) × Filled (sheetIn w) k t w)
+fill-asks {w₀} {w} {k} {t} h b g d = (beside-held h b, beside-own (λ (s : Sheet). (t < taskCount s) × Filled s k t w) h b (g, d))
+
+pub fill-turns : {w₀ w w′ : List ℕ} {k t : ℕ} → Held w₀ → Beside w₀ w → Beside w w′ × Filled (sheetIn w) k t w′ → Beside w₀ w′ × Filled (sheetIn w₀) k t w′
+fill-turns {w₀} {w} {w′} {k} {t} h b d = (beside-trans b (d .0), beside-from (λ (s : Sheet). Filled s k t w′) h b (d .1))

@@ -1,0 +1,14 @@
+// A queue of tasks, each at most once, with the place of each.
+ghost use mathlib.Core.Path.{_≡_};
+ghost use Prim.Native.Nat.{_+_, _<_, _≤_};
+ghost use lib.ListN.{length};
+ghost use Rattle.workspace.specs.Area.{fixed};
+ghost use Rattle.peeling.specs.Words.{pushed};
+
+pub fn push(w: &mut [u32], k: usize, u: usize)
+    requires { ⌜ (fixed ≤ length (now w)) × (k < 256) × (u < 256) ⌝ }
+    ensures { λ _. ⌜ now (w .exit) ≡ pushed (now (w .entry)) k u ⌝ }
+{
+    w[6416 + k] = workspace::narrow(u);
+    w[6672 + u] = workspace::narrow(k);
+}
