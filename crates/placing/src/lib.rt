@@ -11,6 +11,7 @@ ghost use Rattle.planner.specs.Planner.{mayJoin, mayTake, another, choice};
 ghost use Rattle.schedule.specs.Layout.{scheduleIn};
 ghost use Rattle.arrivals.specs.Kept.{Kept};
 ghost use Rattle.readiness.specs.Found.{foundOf, Below};
+ghost use Rattle.readiness.specs.Keyed.{Keyed};
 ghost use Rattle.placing.specs.Choosing.{Choosing, dueBy};
 ghost use Rattle.placing.specs.Best.{gainsBy, below, above, Leading};
 ghost use Rattle.placing.specs.Guards.{raisedBy, Raises, Guards};
@@ -190,11 +191,12 @@ pub enum Guard {
 }
 
 // The guard of this turn.
-fn guard_of(w: &[u32], t: usize) -> Guard
+fn guard_of(w: &[u32], q: &[u64], t: usize) -> Guard
     requires { ⌜ Choosing (now w) t ⌝ }
+    requires { ⌜ Keyed (sheetIn (now w)) (scheduleIn (now w)) (now q) ⌝ }
     ensures { λ r. ⌜ Guards (sheetIn (now (w .entry))) (scheduleIn (now (w .entry))) t r ⌝ }
 {
-    match readiness::first_partly(w) {
+    match readiness::first_partly(w, q) {
         Found::Nothing => Guard::Open,
         Found::At(u) => {
             if readiness::priority_of(w, t) < readiness::priority_of(w, u) {
@@ -367,12 +369,13 @@ fn last_on(w: &[u32], t: usize) -> Best
     best
 }
 
-// The processor for t.
-pub fn choice_of(w: &[u32], t: usize) -> Found
+// The processor for t; q holds the keys.
+pub fn choice_of(w: &[u32], q: &[u64], t: usize) -> Found
     requires { ⌜ Choosing (now w) t ⌝ }
+    requires { ⌜ Keyed (sheetIn (now w)) (scheduleIn (now w)) (now q) ⌝ }
     ensures { λ r. ⌜ (foundOf r ≡ choice (sheetIn (now (w .entry))) (barred (sheetIn (now (w .entry)))) (scheduleIn (now (w .entry))) t) × Below 16 r ⌝ }
 {
-    let guard = guard_of(w, t);
+    let guard = guard_of(w, q, t);
     let a = readiness::arrival_of(w, t);
     let j = join_on(w, t, guard, a);
     if j.found {

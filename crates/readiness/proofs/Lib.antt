@@ -1,2 +1,4 @@
 pub mod Searches
 pub mod Counts
+pub mod Keys
+pub mod Renewing

@@ -1,14 +1,20 @@
-// Who is ready, who partly, when messages are there, and who goes first.
+// Who is ready, who partly, when messages are there, and who goes first, by a table of keys that each placing brings up to date.
 ghost use mathlib.Core.Path.{_≡_};
 ghost use Prim.Native.Nat.{_+_, _<_};
+ghost use lib.ListN.{replicate};
+ghost use Rattle.folds.specs.Folds.{pick};
+ghost use Rattle.keys.specs.Keys.{Blocked};
 ghost use Rattle.sheet.specs.Sheet.{taskCount};
 ghost use Rattle.sheet.specs.Tables.{sheetIn};
 ghost use Rattle.planner.specs.Schedule.{placed};
-ghost use Rattle.planner.specs.Placing.{ready, partlyReady, arrival, priority, ahead, firstReady, firstPartlyReady};
+ghost use Rattle.planner.specs.Placing.{ready, partlyReady, arrival, priority, firstReady, firstPartlyReady};
 ghost use Rattle.levelling.specs.Found.{Levelled};
 ghost use Rattle.schedule.specs.Layout.{scheduleIn};
 ghost use Rattle.arrivals.specs.Kept.{Kept};
-ghost use Rattle.readiness.specs.Found.{foundOf, Below, stepped};
+ghost use Rattle.readiness.specs.Found.{foundOf, Below};
+ghost use Rattle.readiness.specs.Keyed.{keyOf, taskOf, Early, Renewed, Keyed, KeyedTo, KeyedPast, KeyedBeside};
+use chains::End;
+use sheet::tables;
 
 pub enum Found {
     At(usize),
@@ -66,99 +72,112 @@ pub fn priority_of(w: &[u32], t: usize) -> usize
     arrival_of(w, t) + schedule::level_of(w, t)
 }
 
-// a goes before b.
-fn is_ahead(w: &[u32], a: usize, b: usize) -> bool
+// The key of t.
+fn key_of(w: &[u32], t: usize) -> u64
     requires { ⌜ Kept (now w) ⌝ }
     requires { ⌜ Levelled (sheetIn (now w)) (now w) ⌝ }
-    requires { ⌜ (a < taskCount (sheetIn (now w))) × (b < taskCount (sheetIn (now w))) ⌝ }
-    ensures { λ r. ⌜ r ≡ ahead (sheetIn (now (w .entry))) (scheduleIn (now (w .entry))) a b ⌝ }
-{
-    let p = priority_of(w, a);
-    let q = priority_of(w, b);
-    if q < p {
-        return true;
-    }
-    if q == p {
-        schedule::level_of(w, b) < schedule::level_of(w, a)
-    } else {
-        false
-    }
-}
-
-// The better one of t, if it is ready, and what was found before it.
-fn prefer_ready(w: &[u32], t: usize, best: Found) -> Found
-    requires { ⌜ Kept (now w) ⌝ }
-    requires { ⌜ Levelled (sheetIn (now w)) (now w) ⌝ }
+    requires { ⌜ Early (scheduleIn (now w)) ⌝ }
     requires { ⌜ t < taskCount (sheetIn (now w)) ⌝ }
-    requires { ⌜ Below (taskCount (sheetIn (now w))) best ⌝ }
-    ensures { λ r. ⌜ (foundOf r ≡ stepped (ready (sheetIn (now (w .entry))) (scheduleIn (now (w .entry)))) (ahead (sheetIn (now (w .entry))) (scheduleIn (now (w .entry)))) t best) × Below (taskCount (sheetIn (now (w .entry)))) r ⌝ }
+    ensures { λ r. ⌜ r ≡ keyOf (sheetIn (now (w .entry))) (scheduleIn (now (w .entry))) t ⌝ }
 {
-    if !is_ready(w, t) {
-        return best;
-    }
-    match best {
-        Found::Nothing => Found::At(t),
-        Found::At(b) => {
-            if is_ahead(w, t, b) {
-                Found::At(t)
-            } else {
-                Found::At(b)
-            }
-        }
+    let p = priority_of(w, t);
+    let v = schedule::level_of(w, t);
+    ((p * 33554432 + v + 1) * 256 + (255 - t)) as u64
+}
+
+// The key where the test holds, and 0 elsewhere.
+fn key_if(test: bool, key: u64) -> u64
+    ensures { λ r. ⌜ r ≡ pick test key 0 ⌝ }
+{
+    if test { key } else { 0 }
+}
+
+// The keys of t as it stands now.
+fn renew_task(w: &[u32], q: &mut [u64], t: usize)
+    requires { ⌜ Kept (now w) ⌝ }
+    requires { ⌜ Levelled (sheetIn (now w)) (now w) ⌝ }
+    requires { ⌜ Early (scheduleIn (now w)) ⌝ }
+    requires { ⌜ t < taskCount (sheetIn (now w)) ⌝ }
+    requires { ⌜ Blocked (now q) ⌝ }
+    ensures { λ _. ⌜ Renewed (sheetIn (now (w .entry))) (scheduleIn (now (w .entry))) (now (q .entry)) (now (q .exit)) t ⌝ }
+{
+    let key = key_of(w, t);
+    let ready = key_if(is_ready(w, t), key);
+    let partly = key_if(is_partly_ready(w, t), key);
+    keys::put(q, t, ready);
+    keys::put(q, 256 + t, partly);
+}
+
+// The keys of the tasks to which the links from t lead.
+fn renew_targets(w: &[u32], q: &mut [u64], t: usize)
+    requires { ⌜ Kept (now w) ⌝ }
+    requires { ⌜ Levelled (sheetIn (now w)) (now w) ⌝ }
+    requires { ⌜ Early (scheduleIn (now w)) ⌝ }
+    requires { ⌜ t < taskCount (sheetIn (now w)) ⌝ }
+    requires { ⌜ KeyedPast (sheetIn (now w)) (scheduleIn (now w)) t 0 (now q) ⌝ }
+    ensures { λ _. ⌜ Keyed (sheetIn (now (w .entry))) (scheduleIn (now (w .entry))) (now (q .exit)) ⌝ }
+{
+    let m = tables::links(w);
+    let mut l = chains::first(w, End::Source, t);
+    while l < m {
+        renew_task(w, q, tables::target(w, l));
+        l = chains::next(w, End::Source, l);
     }
 }
 
-// The first ready task.
-pub fn first_ready(w: &[u32]) -> Found
+// The keys after t was placed.
+pub fn renew(w: &[u32], q: &mut [u64], t: usize)
     requires { ⌜ Kept (now w) ⌝ }
     requires { ⌜ Levelled (sheetIn (now w)) (now w) ⌝ }
+    requires { ⌜ Early (scheduleIn (now w)) ⌝ }
+    requires { ⌜ t < taskCount (sheetIn (now w)) ⌝ }
+    requires { ⌜ KeyedBeside (sheetIn (now w)) (scheduleIn (now w)) t (now q) ⌝ }
+    ensures { λ _. ⌜ Keyed (sheetIn (now (w .entry))) (scheduleIn (now (w .entry))) (now (q .exit)) ⌝ }
+{
+    renew_task(w, q, t);
+    renew_targets(w, q, t);
+}
+
+// The keys of all tasks, in a table of noughts.
+pub fn begin(w: &[u32], q: &mut [u64])
+    requires { ⌜ Kept (now w) ⌝ }
+    requires { ⌜ Levelled (sheetIn (now w)) (now w) ⌝ }
+    requires { ⌜ Early (scheduleIn (now w)) ⌝ }
+    requires { ⌜ now q ≡ replicate 544 0 ⌝ }
+    ensures { λ _. ⌜ Keyed (sheetIn (now (w .entry))) (scheduleIn (now (w .entry))) (now (q .exit)) ⌝ }
+{
+    let n = tables::tasks(w);
+    let mut t: usize = 0;
+    while t < n {
+        renew_task(w, q, t);
+        t += 1;
+    }
+}
+
+// The task of a key.
+fn task_of(key: u64) -> Found
+    ensures { λ r. ⌜ foundOf r ≡ taskOf key ⌝ }
+{
+    if key == 0 {
+        return Found::Nothing;
+    }
+    Found::At(255 - (key % 256) as usize)
+}
+
+// The first ready task of the schedule in w, by the keys.
+pub fn first_ready(w: &[u32], q: &[u64]) -> Found
+    requires { ⌜ Kept (now w) ⌝ }
+    requires { ⌜ Keyed (sheetIn (now w)) (scheduleIn (now w)) (now q) ⌝ }
     ensures { λ r. ⌜ (foundOf r ≡ firstReady (sheetIn (now (w .entry))) (scheduleIn (now (w .entry)))) × Below (taskCount (sheetIn (now (w .entry)))) r ⌝ }
 {
-    let n = sheet::tables::tasks(w);
-    let mut best = Found::Nothing;
-    let mut t: usize = 0;
-    while t < n {
-        best = prefer_ready(w, t, best);
-        t += 1;
-    }
-    best
+    task_of(keys::greatest_of(q, 512))
 }
 
-// The better one of t, if it is partly ready, and what was found before it.
-fn prefer_partly(w: &[u32], t: usize, best: Found) -> Found
+// The first partly ready task of the schedule in w, by the keys.
+pub fn first_partly(w: &[u32], q: &[u64]) -> Found
     requires { ⌜ Kept (now w) ⌝ }
-    requires { ⌜ Levelled (sheetIn (now w)) (now w) ⌝ }
-    requires { ⌜ t < taskCount (sheetIn (now w)) ⌝ }
-    requires { ⌜ Below (taskCount (sheetIn (now w))) best ⌝ }
-    ensures { λ r. ⌜ (foundOf r ≡ stepped (partlyReady (sheetIn (now (w .entry))) (scheduleIn (now (w .entry)))) (ahead (sheetIn (now (w .entry))) (scheduleIn (now (w .entry)))) t best) × Below (taskCount (sheetIn (now (w .entry)))) r ⌝ }
-{
-    if !is_partly_ready(w, t) {
-        return best;
-    }
-    match best {
-        Found::Nothing => Found::At(t),
-        Found::At(b) => {
-            if is_ahead(w, t, b) {
-                Found::At(t)
-            } else {
-                Found::At(b)
-            }
-        }
-    }
-}
-
-// The first partly ready task.
-pub fn first_partly(w: &[u32]) -> Found
-    requires { ⌜ Kept (now w) ⌝ }
-    requires { ⌜ Levelled (sheetIn (now w)) (now w) ⌝ }
+    requires { ⌜ Keyed (sheetIn (now w)) (scheduleIn (now w)) (now q) ⌝ }
     ensures { λ r. ⌜ (foundOf r ≡ firstPartlyReady (sheetIn (now (w .entry))) (scheduleIn (now (w .entry)))) × Below (taskCount (sheetIn (now (w .entry)))) r ⌝ }
 {
-    let n = sheet::tables::tasks(w);
-    let mut best = Found::Nothing;
-    let mut t: usize = 0;
-    while t < n {
-        best = prefer_partly(w, t, best);
-        t += 1;
-    }
-    best
+    task_of(keys::greatest_of(q, 528))
 }

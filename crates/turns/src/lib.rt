@@ -8,6 +8,7 @@ ghost use Rattle.planner.specs.Placing.{ready, startOn, barred};
 ghost use Rattle.planner.specs.Planner.{choice, placedFrom, placeOn, turn, turns, planned};
 ghost use Rattle.levelling.specs.Found.{Levelled};
 ghost use Rattle.schedule.specs.Layout.{scheduleIn};
+ghost use Rattle.readiness.specs.Keyed.{Keyed};
 ghost use Rattle.placing.specs.Choosing.{Single};
 ghost use Rattle.turns.specs.Turns.{answerOf, Going, Cleared, Emptied, Afterwards};
 use chains::End;
@@ -37,43 +38,58 @@ fn put_on(w: &mut [u32], j: usize, t: usize, k: usize)
     arrivals::count_links(w, t, k, finish);
 }
 
+// t goes on k at turn j, and the keys follow.
+fn place_on(w: &mut [u32], q: &mut [u64], j: usize, t: usize, k: usize)
+    requires { ⌜ Going (now w) j (now w) ⌝ }
+    requires { ⌜ (j < 256) × (t < taskCount (sheetIn (now w))) × (k < 16) ⌝ }
+    requires { ⌜ ready (sheetIn (now w)) (scheduleIn (now w)) t ≡ true ⌝ }
+    requires { ⌜ Keyed (sheetIn (now w)) (scheduleIn (now w)) (now q) ⌝ }
+    ensures { λ _. ⌜ (scheduleIn (now (w .exit)) ≡ placedFrom (sheetIn (now (w .entry))) (barred (sheetIn (now (w .entry)))) (scheduleIn (now (w .entry))) t k (startOn (sheetIn (now (w .entry))) (scheduleIn (now (w .entry))) t k)) × Going (now (w .entry)) (j + 1) (now (w .exit)) × Keyed (sheetIn (now (w .exit))) (scheduleIn (now (w .exit))) (now (q .exit)) ⌝ }
+{
+    put_on(w, j, t, k);
+    readiness::renew(w, q, t);
+}
+
 // The first ready task goes where the steps say, or is refused.
-fn place_task(w: &mut [u32], j: usize, t: usize) -> Planned
+fn place_task(w: &mut [u32], q: &mut [u64], j: usize, t: usize) -> Planned
     requires { ⌜ Going (now w) j (now w) ⌝ }
     requires { ⌜ (j < 256) × (t < taskCount (sheetIn (now w))) ⌝ }
     requires { ⌜ ready (sheetIn (now w)) (scheduleIn (now w)) t ≡ true ⌝ }
-    ensures { λ r. ⌜ (answerOf r (scheduleIn (now (w .exit))) ≡ placeOn (sheetIn (now (w .entry))) (barred (sheetIn (now (w .entry)))) (scheduleIn (now (w .entry))) t (choice (sheetIn (now (w .entry))) (barred (sheetIn (now (w .entry)))) (scheduleIn (now (w .entry))) t)) × Going (now (w .entry)) (j + 1) (now (w .exit)) ⌝ }
+    requires { ⌜ Keyed (sheetIn (now w)) (scheduleIn (now w)) (now q) ⌝ }
+    ensures { λ r. ⌜ (answerOf r (scheduleIn (now (w .exit))) ≡ placeOn (sheetIn (now (w .entry))) (barred (sheetIn (now (w .entry)))) (scheduleIn (now (w .entry))) t (choice (sheetIn (now (w .entry))) (barred (sheetIn (now (w .entry)))) (scheduleIn (now (w .entry))) t)) × Going (now (w .entry)) (j + 1) (now (w .exit)) × Keyed (sheetIn (now (w .exit))) (scheduleIn (now (w .exit))) (now (q .exit)) ⌝ }
 {
-    match placing::choice_of(w, t) {
+    match placing::choice_of(w, q, t) {
         Found::Nothing => Planned::Refused(t),
         Found::At(k) => {
-            put_on(w, j, t, k);
+            place_on(w, q, j, t, k);
             Planned::Done
         }
     }
 }
 
 // One turn.
-fn take_turn(w: &mut [u32], j: usize) -> Planned
+fn take_turn(w: &mut [u32], q: &mut [u64], j: usize) -> Planned
     requires { ⌜ Going (now w) j (now w) ⌝ }
     requires { ⌜ j < 256 ⌝ }
-    ensures { λ r. ⌜ (answerOf r (scheduleIn (now (w .exit))) ≡ turn (sheetIn (now (w .entry))) (barred (sheetIn (now (w .entry)))) (scheduleIn (now (w .entry)))) × Going (now (w .entry)) (j + 1) (now (w .exit)) ⌝ }
+    requires { ⌜ Keyed (sheetIn (now w)) (scheduleIn (now w)) (now q) ⌝ }
+    ensures { λ r. ⌜ (answerOf r (scheduleIn (now (w .exit))) ≡ turn (sheetIn (now (w .entry))) (barred (sheetIn (now (w .entry)))) (scheduleIn (now (w .entry)))) × Going (now (w .entry)) (j + 1) (now (w .exit)) × Keyed (sheetIn (now (w .exit))) (scheduleIn (now (w .exit))) (now (q .exit)) ⌝ }
 {
-    match readiness::first_ready(w) {
+    match readiness::first_ready(w, q) {
         Found::Nothing => Planned::Done,
-        Found::At(t) => place_task(w, j, t),
+        Found::At(t) => place_task(w, q, j, t),
     }
 }
 
-// Turns until all tasks are placed, or one is refused.
-fn take_turns(w: &mut [u32]) -> Planned
+// Turns until all tasks are placed, or one is refused; q holds the keys of the empty schedule.
+fn take_each(w: &mut [u32], q: &mut [u64]) -> Planned
     requires { ⌜ Going (now w) 0 (now w) ⌝ }
+    requires { ⌜ Keyed (sheetIn (now w)) (scheduleIn (now w)) (now q) ⌝ }
     ensures { λ r. ⌜ (answerOf r (scheduleIn (now (w .exit))) ≡ turns (sheetIn (now (w .entry))) (barred (sheetIn (now (w .entry)))) (taskCount (sheetIn (now (w .entry)))) (scheduleIn (now (w .entry)))) × Going (now (w .entry)) 256 (now (w .exit)) ⌝ }
 {
     let n = tables::tasks(w);
     let mut j: usize = 0;
     while j < n {
-        match take_turn(w, j) {
+        match take_turn(w, q, j) {
             Planned::Refused(t) => {
                 return Planned::Refused(t);
             }
@@ -83,6 +99,16 @@ fn take_turns(w: &mut [u32]) -> Planned
         }
     }
     Planned::Done
+}
+
+// All turns, by the keys of who goes first.
+fn take_turns(w: &mut [u32]) -> Planned
+    requires { ⌜ Going (now w) 0 (now w) ⌝ }
+    ensures { λ r. ⌜ (answerOf r (scheduleIn (now (w .exit))) ≡ turns (sheetIn (now (w .entry))) (barred (sheetIn (now (w .entry)))) (taskCount (sheetIn (now (w .entry)))) (scheduleIn (now (w .entry)))) × Going (now (w .entry)) 256 (now (w .exit)) ⌝ }
+{
+    let mut keys = [0u64; 544];
+    readiness::begin(w, &mut keys);
+    take_each(w, &mut keys)
 }
 
 // No task is placed.

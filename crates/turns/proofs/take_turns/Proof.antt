@@ -1,57 +1,20 @@
-use Rattle.turns.proofs.Turns.{Turning, turning-begins, turning-done, turning-on, turning-refused, turns-at}
-use Prim.Native.Nat.{_-_, _≤_}
-use mathlib.Core.Path.{_∙_}
-use Rattle.turns.proofs.Going.{after, later-turns, own}
+use mathlib.Core.Path.{refl}
 use native.Mathlib.Omega.{arith}
+use Rattle.turns.proofs.Keys.{early}
 use borrow.Author.Needs.{needs}
 use Rattle.turns.proofs.take_turns.Statement.{statement}
 use Rattle.turns.proofs.take_turns.Tie as tie
 
-abbrev Inv-loop : tie.InvT-loop
-Inv-loop w₀ n j₀ w j = (j ≤ n) × Turning w₀ n j w
-
-abbrev μ-loop : tie.MeasureT-loop
-μ-loop w₀ n j₀ w j = n - j
-
-tasks-requires : tie.Need-tasks-requires Inv-loop μ-loop
-tasks-requires c κs = c .before .before .pre .kept .loaded
-
-loop-holds : tie.Need-loop-holds Inv-loop μ-loop
-loop-holds c = (search needs, turning-begins _ _ (c .before .before .before .pre))
-
-take-turn-requires : tie.Need-take-turn-requires Inv-loop μ-loop
-take-turn-requires c κs = (own (c .before .before .loop .inv .1 .going), omega (arith, c .before .loop-test .taken, c .before .before .before .tasks .ensures .1))
-
-same-length : tie.Need-same-length Inv-loop μ-loop
-same-length c = c .before .before .before .before .before .take-turn .kept .0 ∙ c .before .before .before .before .before .before .before .before .loop .inv .1 .going .long
-
-returns : tie.Need-returns Inv-loop μ-loop
-returns c = (turns-at _ _ _ _ _ (turning-refused (c .before .before .before .before .before .before .before .before .loop .inv .1) _ (c .before .before .before .before .before .take-turn .last .0) (c .before .before .before .before .before .before .before .loop-test .taken) (c .before .before .before .before .before .take-turn .ensures .0) (c .before .t .given .1)) (c .before .before .before .before .before .before .before .before .before .tasks .ensures .0), later-turns (omega (arith, c .before .before .before .before .before .before .before .loop-test .taken, c .before .before .before .before .before .before .before .before .before .tasks .ensures .1)) (after (c .before .before .before .before .before .before .before .before .loop .inv .1 .going) (c .before .before .before .before .before .take-turn .ensures .1)))
-
-loop-again : tie.Need-loop-again Inv-loop μ-loop
-loop-again c = (omega arith, turning-on (c .before .before .before .before .before .before .before .loop .inv .1) _ (c .before .before .before .before .take-turn .last .0) (c .before .before .before .before .before .before .loop-test .taken) (c .before .before .before .before .take-turn .ensures .0) (c .enum-told .given .1) (c .before .before .before .before .take-turn .ensures .1))
-
-same-length-2 : tie.Need-same-length-2 Inv-loop μ-loop
-same-length-2 c = c .before .loop .inv .1 .going .long
-
-returns-2 : tie.Need-returns-2 Inv-loop μ-loop
-returns-2 c = (turns-at _ _ _ _ _ (turning-done (c .before .loop .inv .1) (c .loop-test .left)) (c .before .before .tasks .ensures .0), later-turns (omega (arith, c .before .loop .inv .0, c .before .before .tasks .ensures .1)) (c .before .loop .inv .1 .going))
+begin-requires : tie.Need-begin-requires
+begin-requires c κs = let g = c .before .before .before .pre in (g .kept, (g .levelled, (early (g .timely) (omega arith), refl)))
 
 pub take-turns-spec : {M : Type 1} → statement M
 take-turns-spec =
     tie.close
     (tie.spec
-    Inv-loop
-    μ-loop
-    tasks-requires
-    loop-holds
-    take-turn-requires
     (λ c. search needs)
-    same-length
-    returns
+    begin-requires
     (λ c. search needs)
+    (λ c κs. search needs)
     (λ c. search needs)
-    (λ c. search needs)
-    loop-again
-    same-length-2
-    returns-2)
+    (λ c. search needs))

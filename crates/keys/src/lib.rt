@@ -1,0 +1,46 @@
+// A table of 512 keys, and behind them the greatest of each block of sixteen, so that the greatest of half the table takes sixteen steps.
+ghost use mathlib.Core.Path.{_≡_};
+ghost use Prim.Native.Nat.{_+_, _<_, _≤_, max};
+ghost use lib.ListN.{length};
+ghost use Rattle.folds.specs.Folds.{greatest};
+ghost use Rattle.keys.specs.Keys.{keyBy, Blocked, Changed};
+
+// The greater of two keys.
+fn greater(a: u64, b: u64) -> u64
+    ensures { λ r. ⌜ r ≡ max a b ⌝ }
+{
+    if a < b { b } else { a }
+}
+
+// The greatest of the sixteen from `at` on.
+pub fn greatest_of(q: &[u64], at: usize) -> u64
+    requires { ⌜ at + 16 ≤ length (now q) ⌝ }
+    ensures { λ r. ⌜ r ≡ greatest 16 (keyBy (now (q .entry)) at) ⌝ }
+{
+    let mut best: u64 = 0;
+    let mut i: usize = 0;
+    while i < 16 {
+        best = greater(best, q[at + i]);
+        i += 1;
+    }
+    best
+}
+
+// Key i becomes x. Its block is searched anew only where its greatest may have left it.
+pub fn put(q: &mut [u64], i: usize, x: u64)
+    requires { ⌜ Blocked (now q) ⌝ }
+    requires { ⌜ i < 512 ⌝ }
+    ensures { λ _. ⌜ Changed (now (q .entry)) (now (q .exit)) i x ⌝ }
+{
+    let b = i / 16;
+    let old = q[i];
+    let most = q[512 + b];
+    q[i] = x;
+    if most <= x {
+        q[512 + b] = x;
+        return;
+    }
+    if old == most {
+        q[512 + b] = greatest_of(q, 16 * b);
+    }
+}
