@@ -72,7 +72,7 @@ fn task_at(bytes: &[u8], at: usize, w: &[u32], tasks: usize, links: usize) -> Ne
     if bytes.len() - (at + 1) < 4 {
         return Next::No(1);
     }
-    let fault = task_fault(tasks, numbers::get16(bytes, at + 1));
+    let fault = task_fault(tasks, reader::get16(bytes, at + 1));
     if fault != 0 {
         return Next::No(fault);
     }
@@ -92,8 +92,8 @@ fn link_at(bytes: &[u8], at: usize, w: &[u32], tasks: usize, links: usize) -> Ne
         w,
         tasks,
         links,
-        numbers::get8(bytes, at + 1),
-        numbers::get8(bytes, at + 2),
+        reader::get8(bytes, at + 1),
+        reader::get8(bytes, at + 2),
     );
     if fault != 0 {
         return Next::No(fault);
@@ -110,7 +110,7 @@ fn next_at(bytes: &[u8], at: usize, w: &[u32], tasks: usize, links: usize) -> Ne
     if bytes.len() <= at {
         return Next::No(1);
     }
-    let c = bytes[at];
+    let c = reader::get8(bytes, at);
     if c == 0x54 {
         return task_at(bytes, at, w, tasks, links);
     }
@@ -133,7 +133,7 @@ fn opening(bytes: &[u8]) -> u8
     if bytes.len() == 0 {
         return 1;
     }
-    let c = bytes[0];
+    let c = reader::get8(bytes, 0);
     if c == 0x54 {
         return 3;
     }
@@ -149,7 +149,7 @@ fn opening(bytes: &[u8]) -> u8
     if bytes.len() - 1 < 5 {
         return 1;
     }
-    let processors = bytes[1];
+    let processors = reader::get8(bytes, 1);
     if processors < 1 {
         return 6;
     }
@@ -167,8 +167,8 @@ fn add_task(bytes: &[u8], at: usize, w: &mut [u32], tasks: usize)
     tables::put_task(
         w,
         tasks,
-        numbers::get16(bytes, at + 1),
-        numbers::get16(bytes, at + 3),
+        reader::get16(bytes, at + 1),
+        reader::get16(bytes, at + 3),
     );
 }
 
@@ -178,10 +178,10 @@ fn add_link(bytes: &[u8], at: usize, w: &mut [u32], links: usize)
     requires { ⌜ pairIn (now w) (getD (now bytes) (at + 1) 0) (getD (now bytes) (at + 2) 0) ≡ false ⌝ }
     ensures { λ _. ⌜ now (w .exit) ≡ addedWords (now (bytes .entry)) at (now (w .entry)) links ⌝ }
 {
-    let source = numbers::get8(bytes, at + 1);
-    let target = numbers::get8(bytes, at + 2);
-    let cost = numbers::get16(bytes, at + 3);
-    let size = numbers::get16(bytes, at + 5);
+    let source = reader::get8(bytes, at + 1);
+    let target = reader::get8(bytes, at + 2);
+    let cost = reader::get16(bytes, at + 3);
+    let size = reader::get16(bytes, at + 5);
     pairs::join(w, source, target);
     tables::put_link(w, links, source as u16, target as u16, cost, size);
 }
@@ -249,6 +249,6 @@ pub fn read(bytes: &[u8], w: &mut [u32]) -> Reading
     if fault != 0 {
         return Reading::Refused(fault, 0);
     }
-    begin(w, bytes[1], numbers::get32(bytes, 2));
+    begin(w, reader::get8(bytes, 1) as u8, reader::get32(bytes, 2));
     walk(bytes, w)
 }

@@ -7,58 +7,75 @@ use borrow.Author.Tests.{le-leb, le-ltb, lt-leb, lt-ltb}
 use denote.Ref.{now}
 use mathlib.Core.Path.{_∙_, ap, refl, sym}
 use native.Mathlib.Omega.{arith}
+use lib.ListN.{getD}
+use Prim.Native.Nat.{_<_, _≤_}
 use Rattle.sheet_reader.proofs.bytes.opening.Statement.{statement}
 use Rattle.sheet_reader.proofs.bytes.opening.Tie as tie
 
 returns : tie.Need-returns
-returns c = sym (judge-end sheetFormat fresh (now (c .before .args .bytes)) 0 (omega arith))
+returns c = sym (judge-end sheetFormat fresh (now (c .before .before .args .bytes)) 0 (omega arith))
 
-shared-slice-read-c : tie.Need-shared-slice-read-c
-shared-slice-read-c c = search needs
+get8-requires : tie.Need-get8-requires
+get8-requires c κs = search needs
 
 returns-2 : tie.Need-returns-2
-returns-2 c = sym (judge-known fresh (now (c .before .before .before .args .bytes)) 0 0x54 (omega (arith, c .before .before .if1 .left)) (c .if2 .taken) ∙ ap (verdict sheetFormat task) (out-of-turn task _ refl))
+returns-2 c = sym (judge-known fresh (now (c .before .before .before .before .args .bytes)) 0 0x54 (omega (arith, c .before .before .if1 .left)) (sym (c .before .get8 .ensures .0) ∙ c .if2 .taken) ∙ ap (verdict sheetFormat task) (out-of-turn task _ refl))
 
 returns-3 : tie.Need-returns-3
-returns-3 c = sym (judge-known fresh (now (c .before .before .before .before .args .bytes)) 0 0x45 (omega (arith, c .before .before .before .if1 .left)) (c .if3 .taken) ∙ ap (verdict sheetFormat link) (out-of-turn link _ refl))
+returns-3 c = sym (judge-known fresh (now (c .before .before .before .before .before .args .bytes)) 0 0x45 (omega (arith, c .before .before .before .if1 .left)) (sym (c .before .before .get8 .ensures .0) ∙ c .if3 .taken) ∙ ap (verdict sheetFormat link) (out-of-turn link _ refl))
 
 returns-4 : tie.Need-returns-4
-returns-4 c = sym (judge-known fresh (now (c .before .before .before .before .before .args .bytes)) 0 0x51 (omega (arith, c .before .before .before .before .if1 .left)) (c .if4 .taken) ∙ ap (verdict sheetFormat end) (out-of-turn end _ refl))
+returns-4 c = sym (judge-known fresh (now (c .before .before .before .before .before .before .args .bytes)) 0 0x51 (omega (arith, c .before .before .before .before .if1 .left)) (sym (c .before .before .before .get8 .ensures .0) ∙ c .if4 .taken) ∙ ap (verdict sheetFormat end) (out-of-turn end _ refl))
 
 returns-5 : tie.Need-returns-5
-returns-5 c = sym (judge-strange fresh (now (c .before .before .before .before .before .before .args .bytes)) 0 (omega (arith, c .before .before .before .before .before .if1 .left)) (c .if5 .taken) (c .before .before .before .if2 .left) (c .before .before .if3 .left) (c .before .if4 .left))
+returns-5 c =
+    let e = c .before .before .before .before .get8 .ensures .0 in
+    sym (judge-strange fresh (now (c .before .before .before .before .before .before .before .args .bytes)) 0 (omega (arith, c .before .before .before .before .before .if1 .left)) (λ q. c .if5 .taken (e ∙ q)) (λ q. c .before .before .before .if2 .left (e ∙ q)) (λ q. c .before .before .if3 .left (e ∙ q)) (λ q. c .before .if4 .left (e ∙ q)))
 
 sub-if6 : tie.Need-sub-if6
 sub-if6 c = search needs
 
 returns-6 : tie.Need-returns-6
-returns-6 c = sym (judge-known fresh (now (c .before .before .before .before .before .before .before .args .bytes)) 0 0x4D (omega (arith, c .before .before .before .before .before .before .if1 .left)) (c .before .if5 .left) ∙ simp (fault-opening, lt-ltb _ _ (c .if6 .taken)))
+returns-6 c =
+    let b = now (c .before .before .before .before .before .before .before .before .args .bytes) in
+    sym (judge-known fresh b 0 0x4D (omega (arith, c .before .before .before .before .before .before .if1 .left)) (sym (c .before .before .before .before .before .get8 .ensures .0) ∙ c .before .if5 .left) ∙ simp (fault-opening, lt-ltb _ _ (c .if6 .taken)))
 
-shared-slice-read-processors : tie.Need-shared-slice-read-processors
-shared-slice-read-processors c = search needs
+get8-requires-2 : tie.Need-get8-requires-2
+get8-requires-2 c κs = search needs
 
 returns-7 : tie.Need-returns-7
-returns-7 c = sym (judge-known fresh (now (c .before .before .before .before .before .before .before .before .before .args .bytes)) 0 0x4D (omega (arith, c .before .before .before .before .before .before .before .before .if1 .left)) (c .before .before .before .if5 .left) ∙ simp (fault-opening, le-ltb _ _ (c .before .before .if6 .left), lt-leb _ _ (c .if7 .taken)))
+returns-7 c =
+    let b = now (c .before .before .before .before .before .before .before .before .before .before .args .bytes) in
+    let low : getD b 1 0 < 1 = omega (arith, c .before .get82 .ensures .0, c .if7 .taken) in
+    sym (judge-known fresh b 0 0x4D (omega (arith, c .before .before .before .before .before .before .before .before .if1 .left)) (sym (c .before .before .before .before .before .before .before .get8 .ensures .0) ∙ c .before .before .before .if5 .left) ∙ simp (fault-opening, le-ltb _ _ (c .before .before .if6 .left), lt-leb _ _ low))
 
 returns-8 : tie.Need-returns-8
-returns-8 c = sym (judge-known fresh (now (c .before .before .before .before .before .before .before .before .before .before .args .bytes)) 0 0x4D (omega (arith, c .before .before .before .before .before .before .before .before .before .if1 .left)) (c .before .before .before .before .if5 .left) ∙ simp (fault-opening, le-ltb _ _ (c .before .before .before .if6 .left), le-leb _ _ (c .before .if7 .left), lt-leb _ _ (c .if8 .taken)))
+returns-8 c =
+    let b = now (c .before .before .before .before .before .before .before .before .before .before .before .args .bytes) in
+    let low : 1 ≤ getD b 1 0 = omega (arith, c .before .before .get82 .ensures .0, c .before .if7 .left) in
+    let high : 16 < getD b 1 0 = omega (arith, c .before .before .get82 .ensures .0, c .if8 .taken) in
+    sym (judge-known fresh b 0 0x4D (omega (arith, c .before .before .before .before .before .before .before .before .before .if1 .left)) (sym (c .before .before .before .before .before .before .before .before .get8 .ensures .0) ∙ c .before .before .before .before .if5 .left) ∙ simp (fault-opening, le-ltb _ _ (c .before .before .before .if6 .left), le-leb _ _ low, lt-leb _ _ high))
 
 returns-9 : tie.Need-returns-9
-returns-9 c = sym (judge-known fresh (now (c .before .before .before .before .before .before .before .before .before .before .args .bytes)) 0 0x4D (omega (arith, c .before .before .before .before .before .before .before .before .before .if1 .left)) (c .before .before .before .before .if5 .left) ∙ simp (fault-opening, le-ltb _ _ (c .before .before .before .if6 .left), le-leb _ _ (c .before .if7 .left), le-leb _ _ (c .if8 .left)))
+returns-9 c =
+    let b = now (c .before .before .before .before .before .before .before .before .before .before .before .args .bytes) in
+    let low : 1 ≤ getD b 1 0 = omega (arith, c .before .before .get82 .ensures .0, c .before .if7 .left) in
+    let high : getD b 1 0 ≤ 16 = omega (arith, c .before .before .get82 .ensures .0, c .if8 .left) in
+    sym (judge-known fresh b 0 0x4D (omega (arith, c .before .before .before .before .before .before .before .before .before .if1 .left)) (sym (c .before .before .before .before .before .before .before .before .get8 .ensures .0) ∙ c .before .before .before .before .if5 .left) ∙ simp (fault-opening, le-ltb _ _ (c .before .before .before .if6 .left), le-leb _ _ low, le-leb _ _ high))
 
 pub opening-spec : {M : Type 1} → statement M
 opening-spec =
     tie.close
     (tie.spec
     returns
-    shared-slice-read-c
+    get8-requires
     returns-2
     returns-3
     returns-4
     returns-5
     sub-if6
     returns-6
-    shared-slice-read-processors
+    get8-requires-2
     returns-7
     returns-8
     returns-9)

@@ -1,7 +1,6 @@
 use Rattle.sheet_reader.proofs.Scans.{open-go, open-refuse, open-room, read-through, walk-starts}
 use borrow.Author.Needs.{needs}
 use denote.Ref.{now}
-use mathlib.Core.Path.{refl}
 use native.Mathlib.Omega.{arith}
 use Rattle.sheet_reader.proofs.bytes.read.Statement.{statement}
 use Rattle.sheet_reader.proofs.bytes.read.Tie as tie
@@ -12,17 +11,26 @@ opening-requires c κs = search needs
 returns : tie.Need-returns
 returns c = open-refuse (now (c .before .before .before .before .args .bytes)) _ _ (c .before .opening .ensures) (c .if1 .taken)
 
-shared-slice-read-begin : tie.Need-shared-slice-read-begin
-shared-slice-read-begin c = let r = open-room (now (c .before .before .before .before .before .before .args .bytes)) (open-go (now (c .before .before .before .before .before .before .args .bytes)) _ (c .before .before .before .opening .ensures) (c .before .before .if1 .left)) in omega (arith, r .0)
+get8-requires : tie.Need-get8-requires
+get8-requires c κs =
+    let r = open-room (now (c .before .before .before .before .before .args .bytes)) (open-go (now (c .before .before .before .before .before .args .bytes)) _ (c .before .before .opening .ensures) (c .before .if1 .left)) in
+    omega (arith, r .0)
 
 get32-requires : tie.Need-get32-requires
-get32-requires c κs = let r = open-room (now (c .before .before .before .before .before .before .args .bytes)) (open-go (now (c .before .before .before .before .before .before .args .bytes)) _ (c .before .before .before .opening .ensures) (c .before .before .if1 .left)) in omega (arith, r .0)
+get32-requires c κs =
+    let r = open-room (now (c .before .before .before .before .before .before .args .bytes)) (open-go (now (c .before .before .before .before .before .before .args .bytes)) _ (c .before .before .before .opening .ensures) (c .before .before .if1 .left)) in
+    omega (arith, r .0)
 
 begin-requires : tie.Need-begin-requires
-begin-requires c κs = let r = open-room (now (c .before .before .before .before .before .before .before .args .bytes)) (open-go (now (c .before .before .before .before .before .before .before .args .bytes)) _ (c .before .before .before .before .opening .ensures) (c .before .before .before .if1 .left)) in (c .before .before .before .before .before .before .before .pre, r .1)
+begin-requires c κs =
+    let s = c .before .before .before .before .before .before .before in
+    let r = open-room (now (s .args .bytes)) (open-go (now (s .args .bytes)) _ (c .before .before .before .before .opening .ensures) (c .before .before .before .if1 .left)) in
+    (s .pre, omega (arith, r .1, c .before .get8 .ensures .0))
 
 walk-requires : tie.Need-walk-requires
-walk-requires c κs = walk-starts (now (c .before .before .before .before .before .before .before .before .before .before .before .args .bytes)) _ _ _ (open-go (now (c .before .before .before .before .before .before .before .before .before .before .before .args .bytes)) _ (c .before .before .before .before .before .before .before .before .opening .ensures) (c .before .before .before .before .before .before .before .if1 .left)) refl (c .before .before .before .before .get32 .ensures) _ (c .before .before .before .begin .ensures)
+walk-requires c κs =
+    let b = now (c .before .before .before .before .before .before .before .before .before .before .before .args .bytes) in
+    walk-starts b _ _ _ (open-go b _ (c .before .before .before .before .before .before .before .before .opening .ensures) (c .before .before .before .before .before .before .before .if1 .left)) (c .before .before .before .before .before .get8 .ensures .0) (c .before .before .before .before .get32 .ensures) _ (c .before .before .before .begin .ensures)
 
 same-length : tie.Need-same-length
 same-length c = search needs
@@ -36,7 +44,8 @@ read-spec =
     (tie.spec
     opening-requires
     returns
-    shared-slice-read-begin
+    get8-requires
+    (λ c. search needs)
     get32-requires
     begin-requires
     walk-requires
