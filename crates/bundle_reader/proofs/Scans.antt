@@ -2,7 +2,7 @@
 use Prim.Native.Nat.{ℕ, _+_, _*_, _%_, _<_, _≤_}
 use mathlib.Core.Path.{_≡_, refl, sym, ap, subst, _∙_}
 use mathlib.Core.Bool.{Bool, true, false, false≢true}
-use mathlib.Core.Option.{none, some}
+use mathlib.Core.Option.{Option, none, some}
 use mathlib.Core.Logic.{⊎-elim}
 use mathlib.Core.List.{List, [], _∷_, _++_}
 use native.Mathlib.Omega.{arith}
@@ -16,7 +16,7 @@ use Rattle.folds.specs.Answers.{value, refused}
 use Rattle.folds.proofs.Tests.{not-value}
 use Rattle.numbers.specs.Number.{numberAt}
 use Rattle.numbers.proofs.Laws.{numberAt-drop}
-use Rattle.commands.specs.Commands.{Outcome, refuse, go, judge}
+use Rattle.commands.specs.Commands.{Outcome, refuse, go, judge, judgeKind}
 use Rattle.commands.specs.Reading.{Going}
 use Rattle.commands.proofs.Going.{comes, judge-end, starts, goes, refuses, ends}
 use Rattle.sheet.specs.Sheet.{Sheet}
@@ -25,8 +25,10 @@ use Rattle.bundle.specs.Format.{Kind, opening, running, sending, receiving, cla
 use Rattle.bundle.specs.Counts.{Sized, faultBelow, limitOf, countFormat, commandsIn, commandCount}
 use Rattle.bundle.specs.Lies.{sizeOf, Stands, Laid}
 use Rattle.bundle.specs.Kinds.{numbered, isMessage}
-use Rattle.bundle_reader.specs.Answers.{readingOf, closedOf}
+use Rattle.bundle_reader.specs.Answers.{readingOf, closedOf, kindNext, nextOf}
 use Rattle.bundle_reader.specs.ReadIs.{ReadIs}
+use Rattle.bundle_reader.specs.declared.bytes.Next.{Next}
+use Rattle.bundle_reader.specs.declared.bytes.Next.the-variants.{Step, Open, Claim, No}
 use Rattle.bundle_reader.specs.declared.bytes.Reading.{Reading}
 use Rattle.bundle_reader.specs.declared.bytes.Reading.the-variants.{Read, Refused}
 use Rattle.bundle.proofs.Parts.{byteOf, kind-byte, open-facts, run-facts, send-facts, receive-facts, length-within, width-some}
@@ -291,46 +293,69 @@ module _ {b : List ℕ} {p t l : ℕ} {v w : List ℕ} {n m at : ℕ} (g : Scan 
         fits = λ x y c e. closed-fits j x y c (sym q ∙ e);
       }
 
--- the ways by what the code tests: a command of kind k with the number of its fault
-module _ {b : List ℕ} {p t l : ℕ} {v w : List ℕ} {n m at : ℕ} (g : Scan b p t l v w n m at) (more : at < length b) where
-  clear-judged : (k : Kind) (r : ℕ) → kindOf (getD b at 0) ≡ some k → numbered r ≡ faultBelow (limitOf p t l k) n k (drop (at + 1) b) → r ≡ 0 → judge (countFormat p t l) n (drop at b) ≡ go k
-  clear-judged k r e h z = judge-kind p t l n b at more (some k) e ∙ verdict-clear p t l k r _ h z
+-- the next command by what the code tests: its byte x, and the number r of its fault
+module _ (p t l n : ℕ) (b : List ℕ) (at : ℕ) (more : at < length b) (x : ℕ) (here : x ≡ getD b at 0) where
+  kind-next : (o : Option Kind) → kindOf x ≡ o → nextOf (judge (countFormat p t l) n (drop at b)) ≡ nextOf (judgeKind (countFormat p t l) n o (drop (at + 1) b))
+  kind-next o e = ap nextOf (judge-kind p t l n b at more o (ap kindOf (sym here) ∙ e))
 
-  refused-judged : (k : Kind) (r : ℕ) → kindOf (getD b at 0) ≡ some k → numbered r ≡ faultBelow (limitOf p t l k) n k (drop (at + 1) b) → (r ≡ 0 → ⊥) → judge (countFormat p t l) n (drop at b) ≡ refuse r
-  refused-judged k r e h z = judge-kind p t l n b at more (some k) e ∙ verdict-refused p t l k r _ h z
+  pub clear-next : (k : Kind) (r : ℕ) → kindOf x ≡ some k → numbered r ≡ faultBelow (limitOf p t l k) n k (drop (at + 1) b) → r ≡ 0 → kindNext k ≡ nextOf (judge (countFormat p t l) n (drop at b))
+  clear-next k r e h z = sym (kind-next (some k) e ∙ ap nextOf (verdict-clear p t l k r _ h z))
 
-  fault-refused : (k : Kind) (r : ℕ) → kindOf (getD b at 0) ≡ some k → numbered r ≡ faultBelow (limitOf p t l k) n k (drop (at + 1) b) → (r ≡ 0 → ⊥) → ReadIs b p t l v w (Refused r at)
-  fault-refused k r e h z = scan-refused g r (refused-judged k r e h z)
+  pub fault-next : (k : Kind) (r : ℕ) → kindOf x ≡ some k → numbered r ≡ faultBelow (limitOf p t l k) n k (drop (at + 1) b) → (r ≡ 0 → ⊥) → No r ≡ nextOf (judge (countFormat p t l) n (drop at b))
+  fault-next k r e h z = sym (kind-next (some k) e ∙ ap nextOf (verdict-refused p t l k r _ h z))
 
-  pub byte-refused : (k : Kind) (c r : ℕ) → getD b at 0 ≡ c → kindOf c ≡ some k → numbered r ≡ faultBelow (limitOf p t l k) n k (drop (at + 1) b) → (r ≡ 0 → ⊥) → ReadIs b p t l v w (Refused r at)
-  byte-refused k c r e f h z = fault-refused k r (ap kindOf e ∙ f) h z
+  pub message-clear : (r : ℕ) → isMessage x ≡ true → numbered r ≡ faultBelow l n sending (drop (at + 1) b) → r ≡ 0 → Step 3 ≡ nextOf (judge (countFormat p t l) n (drop at b))
+  message-clear r e h z = ⊎-elim (λ q. clear-next sending r q h z) (λ q. clear-next receiving r q (h ∙ fault-receive l n b at) z) (message-kind x e)
 
-  pub message-refused : (r : ℕ) → isMessage (getD b at 0) ≡ true → numbered r ≡ faultBelow l n sending (drop (at + 1) b) → (r ≡ 0 → ⊥) → ReadIs b p t l v w (Refused r at)
-  message-refused r e h z =
-      ⊎-elim (λ q. fault-refused sending r q h z) (λ q. fault-refused receiving r q (h ∙ fault-receive l n b at) z) (message-kind (getD b at 0) e)
+  pub message-fault : (r : ℕ) → isMessage x ≡ true → numbered r ≡ faultBelow l n sending (drop (at + 1) b) → (r ≡ 0 → ⊥) → No r ≡ nextOf (judge (countFormat p t l) n (drop at b))
+  message-fault r e h z = ⊎-elim (λ q. fault-next sending r q h z) (λ q. fault-next receiving r q (h ∙ fault-receive l n b at) z) (message-kind x e)
 
-  pub message-on : (r : ℕ) → isMessage (getD b at 0) ≡ true → numbered r ≡ faultBelow l n sending (drop (at + 1) b) → r ≡ 0 → Scan b p t l v w n (m + 1) (at + 3)
-  message-on r e h z =
-      ⊎-elim (λ q. scan-step g sending refl (clear-judged sending r q h z))
-      (λ q. scan-step g receiving refl (clear-judged receiving r q (h ∙ fault-receive l n b at) z)) (message-kind (getD b at 0) e)
+  pub strange-next : isMessage x ≡ false → (x ≡ 0x52 → ⊥) → (x ≡ 0x50 → ⊥) → (x ≡ 0x5A → ⊥) → No 22 ≡ nextOf (judge (countFormat p t l) n (drop at b))
+  strange-next e f h k = sym (kind-next none (strange-kind x e f h k))
 
-  pub run-on : (r : ℕ) → getD b at 0 ≡ 0x52 → numbered r ≡ faultBelow t n running (drop (at + 1) b) → r ≡ 0 → Scan b p t l v w n (m + 1) (at + 2)
-  run-on r e h z = scan-step g running refl (clear-judged running r (ap kindOf e) h z)
+-- a command that stands in a programme, and its length
+record Steps (o : Outcome Kind) (size : ℕ) : Type 0 where
+  kind : Kind
+  inside : steps kind ≡ true
+  goes-on : o ≡ go kind
+  sized : 1 + width kind ≡ size
 
-  pub open-room : (r : ℕ) → getD b at 0 ≡ 0x50 → numbered r ≡ faultBelow p n opening (drop (at + 1) b) → r ≡ 0 → (at + 2 ≤ length b) × (n < p)
-  open-room r e h z = scan-open-room g (clear-judged opening r (ap kindOf e) h z)
+-- what the code's answer tells of the outcome
+abbrev Tells : Outcome Kind → Next → Type 0
+Tells o (Step size) = Steps o size
+Tells o Open = o ≡ go opening
+Tells o Claim = o ≡ go claiming
+Tells o (No r) = o ≡ refuse r
 
-  pub open-on : p < length v → (r : ℕ) → getD b at 0 ≡ 0x50 → numbered r ≡ faultBelow p n opening (drop (at + 1) b) → r ≡ 0 → Scan b p t l v (set w n (at % 4294967296)) (n + 1) m (at + 2)
-  open-on wide r e h z = scan-open g wide (clear-judged opening r (ap kindOf e) h z)
+tells : (o : Outcome Kind) → Tells o (nextOf o)
+tells (refuse r) = refl
+tells (go opening) = refl
+tells (go running) = record { kind = running; inside = refl; goes-on = refl; sized = refl }
+tells (go sending) = record { kind = sending; inside = refl; goes-on = refl; sized = refl }
+tells (go receiving) = record { kind = receiving; inside = refl; goes-on = refl; sized = refl }
+tells (go claiming) = refl
 
-  pub claim-room : (r : ℕ) → getD b at 0 ≡ 0x5A → numbered r ≡ faultBelow 0 n claiming (drop (at + 1) b) → r ≡ 0 → at + 5 ≤ length b
-  claim-room r e h z = scan-room g (clear-judged claiming r (ap kindOf e) h z)
+-- the ways by the code's answer f
+module _ {b : List ℕ} {p t l : ℕ} {v w : List ℕ} {n m at : ℕ} (g : Scan b p t l v w n m at) (f : Next) (e : f ≡ nextOf (judge (countFormat p t l) n (drop at b))) where
+  told : (x : Next) → f ≡ x → Tells (judge (countFormat p t l) n (drop at b)) x
+  told x q = subst (Tells (judge (countFormat p t l) n (drop at b))) (sym e ∙ q) (tells (judge (countFormat p t l) n (drop at b)))
 
-  pub claim-on : p < length v → (r : ℕ) → getD b at 0 ≡ 0x5A → numbered r ≡ faultBelow 0 n claiming (drop (at + 1) b) → r ≡ 0 → (f : Reading) → f ≡ closedOf b at n m → ReadIs b p t l v (set w n (at % 4294967296)) f
-  claim-on wide r e h z f q = scan-claim g wide (clear-judged claiming r (ap kindOf e) h z) f q
+  pub step-on : (size : ℕ) → f ≡ Step size → Scan b p t l v w n (m + 1) (at + size) × (0 < size)
+  step-on size q =
+      let s = told (Step size) q in
+      (subst (λ (i : ℕ). Scan b p t l v w n (m + 1) (at + i)) (s .sized) (scan-step g (s .kind) (s .inside) (s .goes-on)), omega (arith, s .sized))
 
-  pub strange-refused : isMessage (getD b at 0) ≡ false → (getD b at 0 ≡ 0x52 → ⊥) → (getD b at 0 ≡ 0x50 → ⊥) → (getD b at 0 ≡ 0x5A → ⊥) → ReadIs b p t l v w (Refused 22 at)
-  strange-refused e f h k = scan-refused g 22 (judge-kind p t l n b at more none (strange-kind (getD b at 0) e f h k))
+  pub open-room : f ≡ Open → (at + 2 ≤ length b) × (n < p)
+  open-room q = scan-open-room g (told Open q)
 
-pub cut-refused : {b : List ℕ} {p t l : ℕ} {v w : List ℕ} {n m at : ℕ} → Scan b p t l v w n m at → length b ≤ at → ReadIs b p t l v w (Refused 21 at)
-cut-refused {b} {p} {t} {l} {v} {w} {n} {m} {at} g h = scan-refused g 21 (judge-end (countFormat p t l) n b at (omega arith))
+  pub open-on : p < length v → f ≡ Open → Scan b p t l v (set w n (at % 4294967296)) (n + 1) m (at + 2)
+  open-on wide q = scan-open g wide (told Open q)
+
+  pub claim-room : f ≡ Claim → at + 5 ≤ length b
+  claim-room q = scan-room g (told Claim q)
+
+  pub claim-on : p < length v → f ≡ Claim → (r : Reading) → r ≡ closedOf b at n m → ReadIs b p t l v (set w n (at % 4294967296)) r
+  claim-on wide q r h = scan-claim g wide (told Claim q) r h
+
+  pub refused-at : (r : ℕ) → f ≡ No r → ReadIs b p t l v w (Refused r at)
+  refused-at r q = scan-refused g r (told (No r) q)

@@ -3,9 +3,10 @@ ghost use mathlib.Core.Path.{_≡_};
 ghost use Prim.Native.Nat.{_+_, _≤_, _<_};
 ghost use lib.ListN.{length, drop};
 ghost use Rattle.bundle.specs.Format.{opening, running, sending, claiming};
-ghost use Rattle.bundle.specs.Counts.{faultBelow};
+ghost use Rattle.commands.specs.Commands.{judge};
+ghost use Rattle.bundle.specs.Counts.{faultBelow, countFormat};
 ghost use Rattle.bundle.specs.Kinds.{numbered};
-ghost use Rattle.bundle_reader.specs.Answers.{closedOf};
+ghost use Rattle.bundle_reader.specs.Answers.{closedOf, nextOf};
 ghost use Rattle.bundle_reader.specs.ReadIs.{ReadIs};
 use bundle::kinds::is_message;
 
@@ -13,6 +14,14 @@ use bundle::kinds::is_message;
 pub enum Reading {
     Read(usize, usize, u32),
     Refused(u8, usize),
+}
+
+// The next command: one in a programme, with its length; one that opens a programme; the claim; or the number that refuses it.
+pub enum Next {
+    Step(usize),
+    Open,
+    Claim,
+    No(u8),
 }
 
 // The command at `at` that opens a programme: 0, or the number that refuses it.
@@ -23,7 +32,7 @@ fn open_at(bytes: &[u8], at: usize, opened: usize, processors: usize) -> u8
     if bytes.len() - (at + 1) < 1 {
         return 21;
     }
-    let k = bytes[at + 1] as usize;
+    let k = reader::get8(bytes, at + 1);
     if k != opened {
         return 23;
     }
@@ -44,7 +53,7 @@ fn run_at(bytes: &[u8], at: usize, opened: usize, tasks: usize) -> u8
     if bytes.len() - (at + 1) < 1 {
         return 21;
     }
-    if tasks <= bytes[at + 1] as usize {
+    if tasks <= reader::get8(bytes, at + 1) {
         return 25;
     }
     0
@@ -61,7 +70,7 @@ fn message_at(bytes: &[u8], at: usize, opened: usize, links: usize) -> u8
     if bytes.len() - (at + 1) < 2 {
         return 21;
     }
-    if links <= numbers::get16(bytes, at + 1) as usize {
+    if links <= reader::get16(bytes, at + 1) as usize {
         return 25;
     }
     0
@@ -90,7 +99,54 @@ fn closing(bytes: &[u8], at: usize, opened: usize, commands: usize) -> Reading
     if past < bytes.len() {
         return Reading::Refused(24, past);
     }
-    Reading::Read(opened, commands, numbers::get32(bytes, at + 1))
+    Reading::Read(opened, commands, reader::get32(bytes, at + 1))
+}
+
+// The command at `at`, behind so many programmes that are open.
+fn next_at(
+    bytes: &[u8],
+    at: usize,
+    opened: usize,
+    processors: usize,
+    tasks: usize,
+    links: usize,
+) -> Next
+    requires { ⌜ at ≤ length (now bytes) ⌝ }
+    ensures { λ r. ⌜ r ≡ nextOf (judge (countFormat processors tasks links) opened (drop at (now (bytes .entry)))) ⌝ }
+{
+    if bytes.len() <= at {
+        return Next::No(21);
+    }
+    let c = reader::get8(bytes, at) as u16;
+    if is_message(c) {
+        let r = message_at(bytes, at, opened, links);
+        if r != 0 {
+            return Next::No(r);
+        }
+        return Next::Step(3);
+    }
+    if c == 0x52 {
+        let r = run_at(bytes, at, opened, tasks);
+        if r != 0 {
+            return Next::No(r);
+        }
+        return Next::Step(2);
+    }
+    if c == 0x50 {
+        let r = open_at(bytes, at, opened, processors);
+        if r != 0 {
+            return Next::No(r);
+        }
+        return Next::Open;
+    }
+    if c == 0x5A {
+        let r = claim_at(bytes, at, opened);
+        if r != 0 {
+            return Next::No(r);
+        }
+        return Next::Claim;
+    }
+    Next::No(22)
 }
 
 // Reads bytes as a bundle for a sheet with these counts. Puts the offset of each command that opens a programme into the
@@ -108,45 +164,24 @@ pub fn read(
     let mut at = 0;
     let mut opened = 0;
     let mut commands = 0;
-    while at < bytes.len() {
-        let c = bytes[at] as u16;
-        if is_message(c) {
-            let r = message_at(bytes, at, opened, links);
-            if r != 0 {
+    loop {
+        match next_at(bytes, at, opened, processors, tasks, links) {
+            Next::Step(size) => {
+                commands += 1;
+                at += size;
+            }
+            Next::Open => {
+                words[opened] = (at % 4294967296) as u32;
+                opened += 1;
+                at += 2;
+            }
+            Next::Claim => {
+                words[opened] = (at % 4294967296) as u32;
+                return closing(bytes, at, opened, commands);
+            }
+            Next::No(r) => {
                 return Reading::Refused(r, at);
             }
-            commands += 1;
-            at += 3;
-            continue;
         }
-        if c == 0x52 {
-            let r = run_at(bytes, at, opened, tasks);
-            if r != 0 {
-                return Reading::Refused(r, at);
-            }
-            commands += 1;
-            at += 2;
-            continue;
-        }
-        if c == 0x50 {
-            let r = open_at(bytes, at, opened, processors);
-            if r != 0 {
-                return Reading::Refused(r, at);
-            }
-            words[opened] = (at % 4294967296) as u32;
-            opened += 1;
-            at += 2;
-            continue;
-        }
-        if c == 0x5A {
-            let r = claim_at(bytes, at, opened);
-            if r != 0 {
-                return Reading::Refused(r, at);
-            }
-            words[opened] = (at % 4294967296) as u32;
-            return closing(bytes, at, opened, commands);
-        }
-        return Reading::Refused(22, at);
     }
-    Reading::Refused(21, at)
 }

@@ -1,26 +1,21 @@
 -- `bundle::reader::open_at` meets its contract.
-use Prim.Native.Nat.{_+_}
 use Rattle.bundle.proofs.Faults.{fault-open}
 use borrow.Author.Needs.{needs}
 use borrow.Author.Tests.{eq-eqb, le-leb, le-ltb, lt-leb, lt-ltb, ne-eqb}
-use native.Mathlib.Omega.{arith}
 use Rattle.bundle_reader.proofs.bytes.open_at.Statement.{statement}
 use Rattle.bundle_reader.proofs.bytes.open_at.Tie as tie
 
 returns : tie.Need-returns
 returns c = simp (fault-open, lt-ltb _ _ (c .if1 .taken))
 
-cast-k : tie.Need-cast-k
-cast-k c = omega (arith, c .shared-slice-known .given (c .before .before .args .at + 1))
-
 returns-2 : tie.Need-returns-2
-returns-2 c = simp (fault-open, le-ltb _ _ (c .before .before .if1 .left), ne-eqb _ _ (c .if2 .taken))
+returns-2 c = simp (fault-open, le-ltb _ _ (c .before .before .if1 .left), ← c .before .get8 .ensures .0, ne-eqb _ _ (c .if2 .taken))
 
 returns-3 : tie.Need-returns-3
-returns-3 c = simp (fault-open, le-ltb _ _ (c .before .before .before .if1 .left), eq-eqb _ _ (c .before .if2 .left), le-leb _ _ (c .if3 .taken))
+returns-3 c = simp (fault-open, le-ltb _ _ (c .before .before .before .if1 .left), ← c .before .before .get8 .ensures .0, eq-eqb _ _ (c .before .if2 .left), le-leb _ _ (c .if3 .taken))
 
 returns-4 : tie.Need-returns-4
-returns-4 c = simp (fault-open, le-ltb _ _ (c .before .before .before .if1 .left), eq-eqb _ _ (c .before .if2 .left), lt-leb _ _ (c .if3 .left))
+returns-4 c = simp (fault-open, le-ltb _ _ (c .before .before .before .if1 .left), ← c .before .before .get8 .ensures .0, eq-eqb _ _ (c .before .if2 .left), lt-leb _ _ (c .if3 .left))
 
 pub open-at-spec : {M : Type 1} → statement M
 open-at-spec =
@@ -30,8 +25,7 @@ open-at-spec =
     (λ c. search needs)
     returns
     (λ c. search needs)
-    (λ c. search needs)
-    cast-k
+    (λ c κs. search needs)
     returns-2
     returns-3
     returns-4)
