@@ -9,23 +9,23 @@ use native.Mathlib.Omega.{arith}
 use borrow.Author.Tests.{lt-ltb, le-ltb}
 use lib.ListN.{length, getD, drop, set, length-set, length-drop, length-append}
 use lib.Seq.{getD-drop, drop-drop, getD-set-other}
-use lib.Dec.{ltb}
+use lib.Dec.{eqb, ltb}
 use native.Mathlib.Decide.{decLt}
 use Rattle.folds.specs.Folds.{pick}
 use Rattle.folds.specs.Answers.{value, refused}
 use Rattle.folds.proofs.Tests.{not-value}
 use Rattle.numbers.specs.Number.{numberAt}
 use Rattle.numbers.proofs.Laws.{numberAt-drop}
-use Rattle.commands.specs.Commands.{Outcome, refuse, go, judge, judgeKind}
+use Rattle.commands.specs.Commands.{Outcome, refuse, go, verdict, judgeKind, judge}
 use Rattle.commands.specs.Reading.{Going}
-use Rattle.commands.proofs.Going.{comes, judge-end, starts, goes, refuses, ends}
+use Rattle.commands.proofs.Going.{comes, starts, goes, refuses, ends}
 use Rattle.sheet.specs.Sheet.{Sheet}
 use Rattle.bundle.specs.Bundle.{Command, run, send, receive, Bundle, programmeCount}
 use Rattle.bundle.specs.Format.{Kind, opening, running, sending, receiving, claiming, kindOf, width, within, after, closes, ended, bundleFormat, readBundle}
 use Rattle.bundle.specs.Counts.{Sized, faultBelow, limitOf, countFormat, commandsIn, commandCount}
 use Rattle.bundle.specs.Lies.{sizeOf, Stands, Laid}
 use Rattle.bundle.specs.Kinds.{numbered, isMessage}
-use Rattle.bundle_reader.specs.Answers.{readingOf, closedOf, kindNext, nextOf}
+use Rattle.bundle_reader.specs.Answers.{readingOf, closedOf, kindNext, nextOf, judgedOf}
 use Rattle.bundle_reader.specs.ReadIs.{ReadIs}
 use Rattle.bundle_reader.specs.declared.bytes.Next.{Next}
 use Rattle.bundle_reader.specs.declared.bytes.Next.the-variants.{Step, Open, Claim, No}
@@ -33,7 +33,7 @@ use Rattle.bundle_reader.specs.declared.bytes.Reading.{Reading}
 use Rattle.bundle_reader.specs.declared.bytes.Reading.the-variants.{Read, Refused}
 use Rattle.bundle.proofs.Parts.{byteOf, kind-byte, open-facts, run-facts, send-facts, receive-facts, length-within, width-some}
 use Rattle.bundle.proofs.Rounds.{clear-of, ended-value}
-use Rattle.bundle.proofs.Faults.{judge-sized, sheetBy, sized-by, fault-receive, message-kind, strange-kind, verdict-clear, verdict-refused, judge-kind}
+use Rattle.bundle.proofs.Faults.{judge-sized, sheetBy, sized-by, fault-receive, message-kind, strange-kind, judge-kind}
 use Rattle.bundle.proofs.Lying.{Laying, laying-command, laying-open, laying-claim, laying-none}
 
 pub commands-within : (ps : List (List Command)) (c : Command) → 0 < length ps → commandsIn (within ps c) ≡ commandsIn ps + 1
@@ -295,23 +295,21 @@ module _ {b : List ℕ} {p t l : ℕ} {v w : List ℕ} {n m at : ℕ} (g : Scan 
 
 -- the next command by what the code tests: its byte x, and the number r of its fault
 module _ (p t l n : ℕ) (b : List ℕ) (at : ℕ) (more : at < length b) (x : ℕ) (here : x ≡ getD b at 0) where
-  kind-next : (o : Option Kind) → kindOf x ≡ o → nextOf (judge (countFormat p t l) n (drop at b)) ≡ nextOf (judgeKind (countFormat p t l) n o (drop (at + 1) b))
-  kind-next o e = ap nextOf (judge-kind p t l n b at more o (ap kindOf (sym here) ∙ e))
+  kind-next : (o : Option Kind) → kindOf x ≡ o → nextOf (judgeKind (countFormat p t l) n o (drop (at + 1) b)) ≡ nextOf (judge (countFormat p t l) n (drop at b))
+  kind-next o e = sym (ap nextOf (judge-kind p t l n b at more o (ap kindOf (sym here) ∙ e)))
 
-  pub clear-next : (k : Kind) (r : ℕ) → kindOf x ≡ some k → numbered r ≡ faultBelow (limitOf p t l k) n k (drop (at + 1) b) → r ≡ 0 → kindNext k ≡ nextOf (judge (countFormat p t l) n (drop at b))
-  clear-next k r e h z = sym (kind-next (some k) e ∙ ap nextOf (verdict-clear p t l k r _ h z))
+  verdict-next : (k : Kind) (r : ℕ) (q : Bool) → pick q (kindNext k) (No r) ≡ nextOf (verdict (countFormat p t l) k (pick q none (some r)))
+  verdict-next k r true = refl
+  verdict-next k r false = refl
 
-  pub fault-next : (k : Kind) (r : ℕ) → kindOf x ≡ some k → numbered r ≡ faultBelow (limitOf p t l k) n k (drop (at + 1) b) → (r ≡ 0 → ⊥) → No r ≡ nextOf (judge (countFormat p t l) n (drop at b))
-  fault-next k r e h z = sym (kind-next (some k) e ∙ ap nextOf (verdict-refused p t l k r _ h z))
+  pub known-next : (k : Kind) (r : ℕ) → kindOf x ≡ some k → numbered r ≡ faultBelow (limitOf p t l k) n k (drop (at + 1) b) → judgedOf r (kindNext k) ≡ nextOf (judge (countFormat p t l) n (drop at b))
+  known-next k r e h = verdict-next k r (eqb r 0) ∙ ap (λ (o : Option ℕ). nextOf (verdict (countFormat p t l) k o)) h ∙ kind-next (some k) e
 
-  pub message-clear : (r : ℕ) → isMessage x ≡ true → numbered r ≡ faultBelow l n sending (drop (at + 1) b) → r ≡ 0 → Step 3 ≡ nextOf (judge (countFormat p t l) n (drop at b))
-  message-clear r e h z = ⊎-elim (λ q. clear-next sending r q h z) (λ q. clear-next receiving r q (h ∙ fault-receive l n b at) z) (message-kind x e)
-
-  pub message-fault : (r : ℕ) → isMessage x ≡ true → numbered r ≡ faultBelow l n sending (drop (at + 1) b) → (r ≡ 0 → ⊥) → No r ≡ nextOf (judge (countFormat p t l) n (drop at b))
-  message-fault r e h z = ⊎-elim (λ q. fault-next sending r q h z) (λ q. fault-next receiving r q (h ∙ fault-receive l n b at) z) (message-kind x e)
+  pub message-next : (r : ℕ) → isMessage x ≡ true → numbered r ≡ faultBelow l n sending (drop (at + 1) b) → judgedOf r (Step 3) ≡ nextOf (judge (countFormat p t l) n (drop at b))
+  message-next r e h = ⊎-elim (λ q. known-next sending r q h) (λ q. known-next receiving r q (h ∙ fault-receive l n b at)) (message-kind x e)
 
   pub strange-next : isMessage x ≡ false → (x ≡ 0x52 → ⊥) → (x ≡ 0x50 → ⊥) → (x ≡ 0x5A → ⊥) → No 22 ≡ nextOf (judge (countFormat p t l) n (drop at b))
-  strange-next e f h k = sym (kind-next none (strange-kind x e f h k))
+  strange-next e f h k = kind-next none (strange-kind x e f h k)
 
 -- a command that stands in a programme, and its length
 record Steps (o : Outcome Kind) (size : ℕ) : Type 0 where

@@ -1,11 +1,9 @@
 -- The code's answers as the definitions have them.
 use Prim.Native.Nat.{ℕ, _+_}
-use mathlib.Core.Bool.{Bool}
-use mathlib.Core.Option.{Option, none, some}
 use mathlib.Core.List.{List}
 use lib.ListN.{length}
 use lib.Dec.{eqb, ltb}
-use Rattle.folds.specs.Folds.{pick, either}
+use Rattle.folds.specs.Folds.{pick}
 use Rattle.folds.specs.Answers.{Answer, value, refused}
 use Rattle.numbers.specs.Number.{numberAt}
 use Rattle.bundle.specs.Bundle.{Bundle, programmeCount}
@@ -37,3 +35,7 @@ kindNext claiming = Claim
 abbrev pub nextOf : Outcome Kind → Next
 nextOf (refuse r) = No r
 nextOf (go k) = kindNext k
+
+-- a command with the number of its fault, or 0
+abbrev pub judgedOf : ℕ → Next → Next
+judgedOf r x = pick (eqb r 0) x (No r)

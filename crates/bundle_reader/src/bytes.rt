@@ -6,7 +6,7 @@ ghost use Rattle.bundle.specs.Format.{opening, running, sending, claiming};
 ghost use Rattle.commands.specs.Commands.{judge};
 ghost use Rattle.bundle.specs.Counts.{faultBelow, countFormat};
 ghost use Rattle.bundle.specs.Kinds.{numbered};
-ghost use Rattle.bundle_reader.specs.Answers.{closedOf, nextOf};
+ghost use Rattle.bundle_reader.specs.Answers.{closedOf, nextOf, judgedOf};
 ghost use Rattle.bundle_reader.specs.ReadIs.{ReadIs};
 use bundle::kinds::is_message;
 
@@ -102,6 +102,16 @@ fn closing(bytes: &[u8], at: usize, opened: usize, commands: usize) -> Reading
     Reading::Read(opened, commands, reader::get32(bytes, at + 1))
 }
 
+// A command with the number of its fault, or 0.
+fn judged(fault: u8, next: Next) -> Next
+    ensures { λ r. ⌜ r ≡ judgedOf fault next ⌝ }
+{
+    if fault != 0 {
+        return Next::No(fault);
+    }
+    next
+}
+
 // The command at `at`, behind so many programmes that are open.
 fn next_at(
     bytes: &[u8],
@@ -119,32 +129,16 @@ fn next_at(
     }
     let c = reader::get8(bytes, at) as u16;
     if is_message(c) {
-        let r = message_at(bytes, at, opened, links);
-        if r != 0 {
-            return Next::No(r);
-        }
-        return Next::Step(3);
+        return judged(message_at(bytes, at, opened, links), Next::Step(3));
     }
     if c == 0x52 {
-        let r = run_at(bytes, at, opened, tasks);
-        if r != 0 {
-            return Next::No(r);
-        }
-        return Next::Step(2);
+        return judged(run_at(bytes, at, opened, tasks), Next::Step(2));
     }
     if c == 0x50 {
-        let r = open_at(bytes, at, opened, processors);
-        if r != 0 {
-            return Next::No(r);
-        }
-        return Next::Open;
+        return judged(open_at(bytes, at, opened, processors), Next::Open);
     }
     if c == 0x5A {
-        let r = claim_at(bytes, at, opened);
-        if r != 0 {
-            return Next::No(r);
-        }
-        return Next::Claim;
+        return judged(claim_at(bytes, at, opened), Next::Claim);
     }
     Next::No(22)
 }
