@@ -1,3 +1,4 @@
+-- `reader::get16` meets its contract.
 use Rattle.numbers.proofs.Laws.{number-lt}
 use Rattle.reader.proofs.Widths.{whole-two}
 use borrow.Author.Needs.{needs}

@@ -1,3 +1,4 @@
+-- `reader::get32` meets its contract.
 use Rattle.reader.proofs.Widths.{whole-four}
 use borrow.Author.Needs.{needs}
 use Rattle.reader.proofs.get32.Statement.{statement}

@@ -1,3 +1,4 @@
+-- `reader::get8` meets its contract.
 use Rattle.reader.proofs.Widths.{number-one, whole-one}
 use borrow.Author.Needs.{needs}
 use denote.Ref.{now}

@@ -1,3 +1,4 @@
+-- `reader::number_at` meets its contract.
 use Prim.Native.Nat.{ℕ}
 use Rattle.numbers.specs.Number.{numberAt}
 use Rattle.reader.proofs.Widths.{is-four, number-one}

@@ -1,4 +1,4 @@
--- `bundle::reader::claim_at` meets its contract.
+-- `bundle_reader::bytes::claim_at` meets its contract.
 use Rattle.bundle.proofs.Faults.{fault-claim}
 use borrow.Author.Needs.{needs}
 use borrow.Author.Tests.{eq-eqb, le-ltb, lt-ltb, ne-eqb}

@@ -1,4 +1,4 @@
--- `bundle::reader::closing` meets its contract.
+-- `bundle_reader::bytes::closing` meets its contract.
 use Rattle.bundle_reader.specs.Answers.{closedOf}
 use borrow.Author.Needs.{needs}
 use borrow.Author.Tests.{le-ltb, lt-ltb}

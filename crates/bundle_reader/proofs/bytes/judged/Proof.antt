@@ -1,3 +1,4 @@
+-- `bundle_reader::bytes::judged` meets its contract.
 use borrow.Author.Tests.{eq-eqb, ne-eqb}
 use Rattle.bundle_reader.proofs.bytes.judged.Statement.{statement}
 use Rattle.bundle_reader.proofs.bytes.judged.Tie as tie

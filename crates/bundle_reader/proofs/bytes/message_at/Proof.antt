@@ -1,4 +1,4 @@
--- `bundle::reader::message_at` meets its contract.
+-- `bundle_reader::bytes::message_at` meets its contract.
 use Rattle.bundle.proofs.Faults.{fault-send}
 use borrow.Author.Needs.{needs}
 use borrow.Author.Tests.{eq-eqb, le-leb, le-ltb, lt-leb, lt-ltb, ne-eqb}

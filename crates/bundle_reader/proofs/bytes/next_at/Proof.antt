@@ -1,3 +1,4 @@
+-- `bundle_reader::bytes::next_at` meets its contract.
 use Rattle.commands.proofs.Going.{judge-end}
 use Rattle.bundle.specs.Counts.{countFormat}
 use Rattle.bundle.specs.Format.{claiming, kindOf, opening, running}

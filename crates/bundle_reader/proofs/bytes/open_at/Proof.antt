@@ -1,4 +1,4 @@
--- `bundle::reader::open_at` meets its contract.
+-- `bundle_reader::bytes::open_at` meets its contract.
 use Rattle.bundle.proofs.Faults.{fault-open}
 use borrow.Author.Needs.{needs}
 use borrow.Author.Tests.{eq-eqb, le-leb, le-ltb, lt-leb, lt-ltb, ne-eqb}

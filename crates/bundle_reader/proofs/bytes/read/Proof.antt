@@ -1,3 +1,4 @@
+-- `bundle_reader::bytes::read` meets its contract.
 use Prim.Native.Nat.{_-_, _<_}
 use Rattle.bundle_reader.proofs.Scans.{Scan, claim-on, claim-room, open-on, open-room, refused-at, scan-starts, step-on}
 use borrow.Author.Needs.{needs}

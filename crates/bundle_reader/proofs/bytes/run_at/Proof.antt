@@ -1,4 +1,4 @@
--- `bundle::reader::run_at` meets its contract.
+-- `bundle_reader::bytes::run_at` meets its contract.
 use Rattle.bundle.proofs.Faults.{fault-run}
 use borrow.Author.Needs.{needs}
 use borrow.Author.Tests.{eq-eqb, le-leb, le-ltb, lt-leb, lt-ltb, ne-eqb}
