@@ -1,5 +1,7 @@
 // The stepping machine, over a sheet and a bundle that stay in their bytes, with its state in lent words.
 // Every function is safe on any bytes and any words; what it gives is promised for words that keep a state.
+pub mod processors; // processors.rt: a processor as a record, and its step
+
 ghost use mathlib.Core.Path.{_≡_};
 ghost use mathlib.Core.Bool.{not};
 ghost use Prim.Native.Nat.{_+_, _<_};

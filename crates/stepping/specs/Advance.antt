@@ -1,0 +1,21 @@
+-- The machine's processor as the code's record, and what one command makes of it.
+use Prim.Native.Nat.{ℕ, _+_, _<_, max}
+use mathlib.Core.List.{List}
+use lib.ListN.{getD}
+use Rattle.stepping.specs.declared.processors.Processor.{Processor}
+
+-- its numbers fit a word
+abbrev pub Narrow : Processor → Type 0
+Narrow p = (p .clock < 4294967296) × (p .position < 4294967296) × (p .store < 4294967296)
+
+-- and so do those of a command: the time it waits for, what it adds to the clock and to the store
+abbrev pub Slight : ℕ → ℕ → ℕ → Type 0
+Slight wait work need = (wait < 4294967296) × (work < 65536) × (need < 65536)
+
+-- p after such a command
+abbrev pub after : Processor → ℕ → ℕ → ℕ → Processor
+after p wait work need = record { clock = max (p .clock) wait + work; position = p .position + 1; store = p .store + need }
+
+-- processor k of the machine's words
+abbrev pub processorIn : List ℕ → ℕ → Processor
+processorIn w k = record { clock = getD w (64 + k) 0; position = getD w (48 + k) 0; store = getD w (80 + k) 0 }
