@@ -15,31 +15,34 @@ abbrev pub stampIn : ℕ → Option ℕ
 stampIn zero = none
 stampIn (suc x) = some x
 
--- a command less to do, and processor k at an offset, one position on, at a clock and a store
-unfoldable pub movedWords : List ℕ → ℕ → ℕ → ℕ → ℕ → List ℕ
-movedWords w k at clock store =
+-- a command less to do, and processor k at an offset, a clock, a position and a store
+unfoldable pub movedWords : List ℕ → ℕ → ℕ → ℕ → ℕ → ℕ → List ℕ
+movedWords w k at clock position store =
     set
     (set
     (set
     (set (set w 20 ((getD w 20 0 - 1) % 4294967296)) (32 + k) (at % 4294967296))
-    (48 + k) ((getD w (48 + k) 0 + 1) % 4294967296))
+    (48 + k) (position % 4294967296))
     (64 + k) (clock % 4294967296))
     (80 + k) (store % 4294967296)
+
+-- processor k of the words w moved in the words v by a command that waits for a time, takes a time and needs a store
+abbrev pub steppedWords : List ℕ → List ℕ → ℕ → ℕ → ℕ → ℕ → ℕ → List ℕ
+steppedWords w v k at wait work need = movedWords v k at (max (getD w (64 + k) 0) wait + work) (getD w (48 + k) 0 + 1) (getD w (80 + k) 0 + need)
 
 -- processor k after the command at an offset: a run, a send, a receive
 module _ (sheet bundle w : List ℕ) (k at : ℕ) where
   unfoldable pub ranWords : List ℕ
   ranWords =
       let t = getD bundle (at + 1) 0 in
-      movedWords w k (at + 2) (getD w (64 + k) 0 + numberAt 2 sheet (7 + 5 * t)) (getD w (80 + k) 0 + numberAt 2 sheet (9 + 5 * t))
+      steppedWords w w k (at + 2) 0 (numberAt 2 sheet (7 + 5 * t)) (numberAt 2 sheet (9 + 5 * t))
 
   unfoldable pub sentWords : List ℕ
   sentWords =
       let l = numberAt 2 bundle (at + 1) in
-      let clock = getD w (64 + k) 0 in
-      movedWords (set w (96 + l) ((clock + numberAt 2 sheet (9 + 5 * getD w 18 0 + 7 * l) + 1) % 4294967296)) k (at + 3) clock (getD w (80 + k) 0)
+      steppedWords w (set w (96 + l) ((getD w (64 + k) 0 + numberAt 2 sheet (9 + 5 * getD w 18 0 + 7 * l) + 1) % 4294967296)) k (at + 3) 0 0 0
 
   unfoldable pub gotWords : List ℕ
   gotWords =
       let l = numberAt 2 bundle (at + 1) in
-      movedWords w k (at + 3) (max (getD w (64 + k) 0) (getD w (96 + l) 0 - 1)) (getD w (80 + k) 0 + numberAt 2 sheet (11 + 5 * getD w 18 0 + 7 * l))
+      steppedWords w w k (at + 3) (getD w (96 + l) 0 - 1) 0 (numberAt 2 sheet (11 + 5 * getD w 18 0 + 7 * l))

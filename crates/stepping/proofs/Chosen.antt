@@ -102,9 +102,9 @@ module _ (sheet bundle w : List ℕ) (k : ℕ) where
           let size = numberAt 2 sheet (9 + 5 * t) in
           let wk : work ≡ workOf s t = h .fields .work t (z .1) in
           let st : size ≡ storeOf s t = h .fields .store t (z .1) in
-          let v = movedWords w k (at + 2) (getD w (64 + k) 0 + work) (getD w (80 + k) 0 + size) in
+          let v = movedWords w k (at + 2) (max (getD w (64 + k) 0) 0 + work) (getD w (48 + k) 0 + 1) (getD w (80 + k) 0 + size) in
           let low : Low w v k (left b σ each - 1) (getD w (32 + k) 0 + 2) (processorOf σ k .position + 1) (max (processorOf σ k .clock) 0 + workOf s t) (processorOf σ k .store + storeOf s t) =
-          low-at (moved-low w k (at + 2) (getD w (64 + k) 0 + work) (getD w (80 + k) 0 + size) (h .long) near) todo-fits
+          low-at (moved-low w k (at + 2) (max (getD w (64 + k) 0) 0 + work) (getD w (48 + k) 0 + 1) (getD w (80 + k) 0 + size) (h .long) near) todo-fits
           (omega (arith, lies-le (taskCount s) (linkCount s) bundle y, fits (suc k)))
           (omega (arith, h .position k below, r .0)) (omega (arith, h .clock k below, r .1, small (7 + 5 * t))) (omega (arith, h .store k below, r .2, small (9 + 5 * t)))
           in
@@ -113,7 +113,7 @@ module _ (sheet bundle w : List ℕ) (k : ℕ) where
           let less : left b (moved s σ k (run t) 0) each + 1 ≡ left b σ each = left-moved s b σ k (run t) 0 (h .processors) c each in
           goes s b sheet bundle v σ k (moved s σ k (run t) 0) (move-step s b σ k (run t) 0 c refl)
           (keeps-moved s b sheet bundle w σ h k below (run t) c 0 y wf sf (omega (arith, r .0)) v low
-          (λ m i. ap stampIn (moved-high w k (at + 2) (getD w (64 + k) 0 + work) (getD w (80 + k) 0 + size) (h .long) near (96 + m) (omega arith)) ∙ h .stamp m i)
+          (λ m i. ap stampIn (moved-high w k (at + 2) (max (getD w (64 + k) 0) 0 + work) (getD w (48 + k) 0 + 1) (getD w (80 + k) 0 + size) (h .long) near (96 + m) (omega arith)) ∙ h .stamp m i)
           (λ m x i. omega (arith, h .roomy m x i)))
 
       -- a send
@@ -132,16 +132,15 @@ module _ (sheet bundle w : List ℕ) (k : ℕ) where
           let co : cost ≡ costOf s m = ap (λ (i : ℕ). numberAt 2 sheet (9 + 5 * i + 7 * m)) (h .tasks) ∙ h .fields .cost m (z .1) in
           let x = (getD w (64 + k) 0 + cost + 1) % 4294967296 in
           let u = set w (96 + m) x in
-          let v = movedWords u k (at + 3) (getD w (64 + k) 0) (getD w (80 + k) 0) in
+          let v = movedWords u k (at + 3) (max (getD w (64 + k) 0) 0 + 0) (getD w (48 + k) 0 + 1) (getD w (80 + k) 0 + 0) in
           let lu : 1120 ≤ length u = simp length-set (h .long) in
           let nk = near in
-          let pu : getD u (48 + k) 0 ≡ getD w (48 + k) 0 = getD-set-other w (96 + m) (48 + k) x 0 (λ i. omega arith) in
           let du : getD u 20 0 ≡ getD w 20 0 = getD-set-other w (96 + m) 20 x 0 (λ i. omega arith) in
           let small-cost = small (9 + 5 * getD w 18 0 + 7 * m) in
           let low : Low w v k (left b σ each - 1) (getD w (32 + k) 0 + 3) (processorOf σ k .position + 1) (max (processorOf σ k .clock) 0 + 0) (processorOf σ k .store + 0) =
           low-stamped m x
-          (low-at (moved-low u k (at + 3) (getD w (64 + k) 0) (getD w (80 + k) 0) lu nk) (ap (λ (i : ℕ). (i - 1) % 4294967296) du ∙ todo-fits)
-          (omega (arith, lies-le (taskCount s) (linkCount s) bundle y, fits (suc k))) (omega (arith, h .position k below, r .0, pu))
+          (low-at (moved-low u k (at + 3) (max (getD w (64 + k) 0) 0 + 0) (getD w (48 + k) 0 + 1) (getD w (80 + k) 0 + 0) lu nk) (ap (λ (i : ℕ). (i - 1) % 4294967296) du ∙ todo-fits)
+          (omega (arith, lies-le (taskCount s) (linkCount s) bundle y, fits (suc k))) (omega (arith, h .position k below, r .0))
           (omega (arith, h .clock k below, r .1)) (omega (arith, h .store k below, r .2)))
           in
           let less : left b (moved s σ k (send m) 0) each + 1 ≡ left b σ each = left-moved s b σ k (send m) 0 (h .processors) c each in
@@ -153,7 +152,7 @@ module _ (sheet bundle w : List ℕ) (k : ℕ) where
           let theirs : (i : ℕ) → (i ≡ m → ⊥) → stampOf (moved s σ k (send m) 0) i ≡ stampOf σ i =
           λ i d. getD-set-other (σ .stamps) m i (some (processorOf σ k .clock + costOf s m)) none d
           in
-          let high : (i : ℕ) → 96 ≤ i → getD v i 0 ≡ getD u i 0 = moved-high u k (at + 3) (getD w (64 + k) 0) (getD w (80 + k) 0) lu nk in
+          let high : (i : ℕ) → 96 ≤ i → getD v i 0 ≡ getD u i 0 = moved-high u k (at + 3) (max (getD w (64 + k) 0) 0 + 0) (getD w (48 + k) 0 + 1) (getD w (80 + k) 0 + 0) lu nk in
           goes s b sheet bundle v σ k (moved s σ k (send m) 0) (move-step s b σ k (send m) 0 c refl)
           (keeps-moved s b sheet bundle w σ h k below (send m) c 0 y (omega arith) (omega arith) (omega (arith, r .0)) v low
           (λ i l.
@@ -201,10 +200,10 @@ module _ (sheet bundle w : List ℕ) (k : ℕ) where
               let size = numberAt 2 sheet (11 + 5 * getD w 18 0 + 7 * m) in
               let si : size ≡ bytesOf s m = ap (λ (j : ℕ). numberAt 2 sheet (11 + 5 * j + 7 * m)) (h .tasks) ∙ h .fields .bytes m (z .1) in
               let small-size = small (11 + 5 * getD w 18 0 + 7 * m) in
-              let v = movedWords w k (at + 3) (max (getD w (64 + k) 0) (getD w (96 + m) 0 - 1)) (getD w (80 + k) 0 + size) in
+              let v = movedWords w k (at + 3) (max (getD w (64 + k) 0) (getD w (96 + m) 0 - 1) + 0) (getD w (48 + k) 0 + 1) (getD w (80 + k) 0 + size) in
               let late = h .roomy m x got in
               let low : Low w v k (left b σ each - 1) (getD w (32 + k) 0 + 3) (processorOf σ k .position + 1) (max (processorOf σ k .clock) x + 0) (processorOf σ k .store + bytesOf s m) =
-              low-at (moved-low w k (at + 3) (max (getD w (64 + k) 0) (getD w (96 + m) 0 - 1)) (getD w (80 + k) 0 + size) (h .long) near) todo-fits
+              low-at (moved-low w k (at + 3) (max (getD w (64 + k) 0) (getD w (96 + m) 0 - 1) + 0) (getD w (48 + k) 0 + 1) (getD w (80 + k) 0 + size) (h .long) near) todo-fits
               (omega (arith, lies-le (taskCount s) (linkCount s) bundle y, fits (suc k))) (omega (arith, h .position k below, r .0))
               (omega (arith, h .clock k below, r .1, e, late)) (omega (arith, h .store k below, r .2, si, small-size))
               in
@@ -212,20 +211,20 @@ module _ (sheet bundle w : List ℕ) (k : ℕ) where
               let sf : bytesOf s m < 65536 = omega (arith, si, small-size) in
               goes s b sheet bundle v σ k (moved s σ k (receive m) x) (move-step s b σ k (receive m) x c got)
               (keeps-moved s b sheet bundle w σ h k below (receive m) c x y (omega arith) sf late v low
-              (λ j l. ap stampIn (moved-high w k (at + 3) (max (getD w (64 + k) 0) (getD w (96 + m) 0 - 1)) (getD w (80 + k) 0 + size) (h .long) near (96 + j) (omega arith)) ∙ h .stamp j l)
+              (λ j l. ap stampIn (moved-high w k (at + 3) (max (getD w (64 + k) 0) (getD w (96 + m) 0 - 1) + 0) (getD w (48 + k) 0 + 1) (getD w (80 + k) 0 + size) (h .long) near (96 + j) (omega arith)) ∙ h .stamp j l)
               (λ j x f. omega (arith, h .roomy j x f)))
 
     ran-long : length (ranWords sheet bundle w k at) ≡ length w
     unfolding ranWords
-    ran-long = length-moved w k (at + 2) _ _
+    ran-long = length-moved w k (at + 2) _ _ _
 
     sent-long : length (sentWords sheet bundle w k at) ≡ length w
     unfolding sentWords
-    sent-long = length-moved (set w (96 + numberAt 2 bundle (at + 1)) _) k (at + 3) _ _ ∙ length-set w (96 + numberAt 2 bundle (at + 1)) _
+    sent-long = length-moved (set w (96 + numberAt 2 bundle (at + 1)) _) k (at + 3) _ _ _ ∙ length-set w (96 + numberAt 2 bundle (at + 1)) _
 
     got-long : (f : Bool) → length (pick f (gotWords sheet bundle w k at) w) ≡ length w
     unfolding gotWords
-    got-long true = length-moved w k (at + 3) _ _
+    got-long true = length-moved w k (at + 3) _ _ _
     got-long false = refl
 
     pub ran : getD bundle at 0 ≡ 0x52 → (v : List ℕ) → v ≡ ranWords sheet bundle w k at → StepIs sheet bundle w v k true

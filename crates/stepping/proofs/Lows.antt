@@ -28,8 +28,8 @@ pub record Low (w v : List ℕ) (k n o p c x : ℕ) : Type 0 where
   pub store : getD v (80 + k) 0 ≡ x
   pub other : (i : ℕ) → i < 96 → Away k i → getD v i 0 ≡ getD w i 0
 
-module _ (w : List ℕ) (k o c x : ℕ) (long : 1120 ≤ length w) (small : k < 16) where
-  away : (i : ℕ) → Away k i → getD (movedWords w k o c x) i 0 ≡ getD w i 0
+module _ (w : List ℕ) (k o c p x : ℕ) (long : 1120 ≤ length w) (small : k < 16) where
+  away : (i : ℕ) → Away k i → getD (movedWords w k o c p x) i 0 ≡ getD w i 0
   unfolding movedWords
   away i h =
       let a = h .todo in
@@ -39,12 +39,12 @@ module _ (w : List ℕ) (k o c x : ℕ) (long : 1120 ≤ length w) (small : k < 
       let f = h .store in
       simp getD-set-other
 
-  pub moved-high : (i : ℕ) → 96 ≤ i → getD (movedWords w k o c x) i 0 ≡ getD w i 0
+  pub moved-high : (i : ℕ) → 96 ≤ i → getD (movedWords w k o c p x) i 0 ≡ getD w i 0
   moved-high i h =
       away i
       (record { todo = λ q. omega arith; at = λ q. omega arith; position = λ q. omega arith; clock = λ q. omega arith; store = λ q. omega arith })
 
-  pub moved-low : Low w (movedWords w k o c x) k ((getD w 20 0 - 1) % 4294967296) (o % 4294967296) ((getD w (48 + k) 0 + 1) % 4294967296) (c % 4294967296) (x % 4294967296)
+  pub moved-low : Low w (movedWords w k o c p x) k ((getD w 20 0 - 1) % 4294967296) (o % 4294967296) (p % 4294967296) (c % 4294967296) (x % 4294967296)
   unfolding movedWords
   moved-low =
       let a : 32 + k ≡ 48 + k → ⊥ = λ q. omega arith in
@@ -59,7 +59,7 @@ module _ (w : List ℕ) (k o c x : ℕ) (long : 1120 ≤ length w) (small : k < 
       let e2 : 20 ≡ 80 + k → ⊥ = λ q. omega arith in
       let u = set w 20 ((getD w 20 0 - 1) % 4294967296) in
       let u2 = set u (32 + k) (o % 4294967296) in
-      let u3 = set u2 (48 + k) ((getD w (48 + k) 0 + 1) % 4294967296) in
+      let u3 = set u2 (48 + k) (p % 4294967296) in
       let u4 = set u3 (64 + k) (c % 4294967296) in
       record {
         long = simp length-set;
@@ -71,9 +71,9 @@ module _ (w : List ℕ) (k o c x : ℕ) (long : 1120 ≤ length w) (small : k < 
         other = λ i h n. away i n;
       }
 
-pub length-moved : (w : List ℕ) (k o c x : ℕ) → length (movedWords w k o c x) ≡ length w
+pub length-moved : (w : List ℕ) (k o c p x : ℕ) → length (movedWords w k o c p x) ≡ length w
 unfolding movedWords
-length-moved w k o c x = simp length-set
+length-moved w k o c p x = simp length-set
 
 -- the same numbers by other words
 pub low-at : {w v : List ℕ} {k n o p c x n′ o′ p′ c′ x′ : ℕ} → Low w v k n o p c x → n ≡ n′ → o ≡ o′ → p ≡ p′ → c ≡ c′ → x ≡ x′ → Low w v k n′ o′ p′ c′ x′

@@ -11,19 +11,31 @@ ghost use Rattle.folds.specs.Folds.{pick, bit};
 ghost use Rattle.numbers.specs.Number.{numberAt};
 ghost use Rattle.state.specs.Words.{movedWords, ranWords, sentWords, gotWords};
 ghost use Rattle.state.specs.Keeps.{StepIs, RunIs};
+ghost use Rattle.stepping.specs.Advance.{Narrow, processorIn};
 
-// Processor k goes on to the offset `at`, one position further.
-fn move_on(w: &mut [u32], k: usize, at: usize, clock: usize, store: usize)
+// Processor k of the words.
+fn processor(w: &[u32], k: usize) -> processors::Processor
     requires { ⌜ k < 4294967296 ⌝ }
-    ensures { λ _. ⌜ now (w .exit) ≡ movedWords (now (w .entry)) k at clock store ⌝ }
+    ensures { λ r. ⌜ (r ≡ processorIn (now (w .entry)) k) × Narrow r ⌝ }
+{
+    processors::Processor {
+        clock: words::word(w, 64 + k),
+        position: words::word(w, 48 + k),
+        store: words::word(w, 80 + k),
+    }
+}
+
+// Processor k goes on to the offset `at`, and is p there.
+fn move_on(w: &mut [u32], k: usize, at: usize, p: processors::Processor)
+    requires { ⌜ k < 4294967296 ⌝ }
+    ensures { λ _. ⌜ now (w .exit) ≡ movedWords (now (w .entry)) k at (p .clock) (p .position) (p .store) ⌝ }
 {
     let todo = words::minus(words::word(w, 20), 1);
-    let position = words::word(w, 48 + k) + 1;
     words::put(w, 20, todo);
     words::put(w, 32 + k, at);
-    words::put(w, 48 + k, position);
-    words::put(w, 64 + k, clock);
-    words::put(w, 80 + k, store);
+    words::put(w, 48 + k, p.position);
+    words::put(w, 64 + k, p.clock);
+    words::put(w, 80 + k, p.store);
 }
 
 // Processor k runs the task of its command at `at`.
@@ -32,9 +44,10 @@ fn run_at(sheet: &[u8], bundle: &[u8], w: &mut [u32], k: usize, at: usize)
     ensures { λ _. ⌜ now (w .exit) ≡ ranWords (now (sheet .entry)) (now (bundle .entry)) (now (w .entry)) k at ⌝ }
 {
     let t = words::byte(bundle, at + 1);
-    let clock = words::word(w, 64 + k) + words::pair(sheet, 7 + 5 * t);
-    let store = words::word(w, 80 + k) + words::pair(sheet, 9 + 5 * t);
-    move_on(w, k, at + 2, clock, store);
+    let work = words::pair(sheet, 7 + 5 * t);
+    let need = words::pair(sheet, 9 + 5 * t);
+    let p = processors::stepped(processor(w, k), 0, work, need);
+    move_on(w, k, at + 2, p);
 }
 
 // Processor k sends the message of its command at `at`.
@@ -43,11 +56,11 @@ fn send_at(sheet: &[u8], bundle: &[u8], w: &mut [u32], k: usize, at: usize)
     ensures { λ _. ⌜ now (w .exit) ≡ sentWords (now (sheet .entry)) (now (bundle .entry)) (now (w .entry)) k at ⌝ }
 {
     let l = words::pair(bundle, at + 1);
-    let clock = words::word(w, 64 + k);
-    let store = words::word(w, 80 + k);
+    let p = processor(w, k);
     let cost = words::pair(sheet, 9 + 5 * words::word(w, 18) + 7 * l);
-    words::put(w, 96 + l, clock + cost + 1);
-    move_on(w, k, at + 3, clock, store);
+    words::put(w, 96 + l, p.clock + cost + 1);
+    let q = processors::stepped(p, 0, 0, 0);
+    move_on(w, k, at + 3, q);
 }
 
 // Processor k receives the message of its command at `at`, if it was sent.
@@ -60,9 +73,9 @@ fn receive_at(sheet: &[u8], bundle: &[u8], w: &mut [u32], k: usize, at: usize) -
     if stamp == 0 {
         return false;
     }
-    let clock = words::later(words::word(w, 64 + k), stamp - 1);
-    let store = words::word(w, 80 + k) + words::pair(sheet, 11 + 5 * words::word(w, 18) + 7 * l);
-    move_on(w, k, at + 3, clock, store);
+    let need = words::pair(sheet, 11 + 5 * words::word(w, 18) + 7 * l);
+    let p = processors::stepped(processor(w, k), stamp - 1, 0, need);
+    move_on(w, k, at + 3, p);
     true
 }
 

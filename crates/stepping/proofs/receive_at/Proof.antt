@@ -1,8 +1,8 @@
 use Rattle.state.specs.Words.{gotWords}
-use borrow.Author.Needs.{needs}
 use denote.Ref.{now}
 use mathlib.Core.Path.{refl}
 use Rattle.stepping.proofs.Lows.{sent, unsent}
+use borrow.Author.Needs.{needs}
 use Rattle.stepping.proofs.receive_at.Statement.{statement}
 use Rattle.stepping.proofs.receive_at.Tie as tie
 
@@ -11,7 +11,7 @@ returns c = (unsent (now (c .before .before .before .before .before .before .bef
 
 returns-2 : tie.Need-returns-2
 unfolding gotWords
-returns-2 c = (sent (now (c .before .before .before .before .before .before .before .before .before .before .before .before .before .before .before .before .before .before .before .args .w)) _ _ _ (c .before .before .before .before .before .before .before .before .before .before .before .before .before .before .before .pair .ensures .0) (c .before .before .before .before .before .before .before .before .before .before .before .before .before .word .ensures .0) (c .before .before .before .before .before .before .before .before .before .before .before .before .if1 .left), simp (c .before .before .move-on .ensures, c .before .before .before .before .pair2 .ensures .0, c .before .before .before .before .before .word4 .ensures .0, c .before .before .before .before .before .before .before .word3 .ensures .0, c .before .before .before .before .before .before .before .before .before .later .ensures, c .before .before .before .before .before .before .before .before .before .before .word2 .ensures .0, c .before .before .before .before .before .before .before .before .before .before .before .before .before .word .ensures .0, c .before .before .before .before .before .before .before .before .before .before .before .before .before .before .before .pair .ensures .0))
+returns-2 c = (sent (now (c .before .before .before .before .before .before .before .before .before .before .before .before .before .before .before .before .before .args .w)) _ _ _ (c .before .before .before .before .before .before .before .before .before .before .before .before .before .pair .ensures .0) (c .before .before .before .before .before .before .before .before .before .before .before .word .ensures .0) (c .before .before .before .before .before .before .before .before .before .before .if1 .left), simp (c .before .before .move-on .ensures, c .before .before .before .before .stepped .ensures, c .before .before .before .before .before .processor .ensures .0, c .before .before .before .before .before .before .before .pair2 .ensures .0, c .before .before .before .before .before .before .before .before .word2 .ensures .0, c .before .before .before .before .before .before .before .before .before .before .before .word .ensures .0, c .before .before .before .before .before .before .before .before .before .before .before .before .before .pair .ensures .0))
 
 pub receive-at-spec : {M : Type 1} → statement M
 receive-at-spec =
@@ -23,19 +23,15 @@ receive-at-spec =
     (λ c κs. search needs)
     (λ c. search needs)
     returns
-    (λ c. search needs)
-    (λ c κs. search needs)
-    (λ c. search needs)
-    (λ c κs. search needs)
-    (λ c. search needs)
-    (λ c κs. search needs)
     (λ c κs. search needs)
     (λ c. search needs)
     (λ c. search needs)
     (λ c. search needs)
     (λ c. search needs)
     (λ c κs. search needs)
+    (λ c κs. search needs)
     (λ c. search needs)
+    (λ c κs. search needs)
     (λ c. search needs)
     (λ c κs. search needs)
     (λ c. search needs)

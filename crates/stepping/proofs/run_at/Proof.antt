@@ -1,11 +1,11 @@
-use borrow.Author.Needs.{needs}
 use Rattle.state.specs.Words.{ranWords}
+use borrow.Author.Needs.{needs}
 use Rattle.stepping.proofs.run_at.Statement.{statement}
 use Rattle.stepping.proofs.run_at.Tie as tie
 
 returns : tie.Need-returns
 unfolding ranWords
-returns c = simp (c .before .before .move-on .ensures, c .before .before .before .before .pair2 .ensures .0, c .before .before .before .before .before .word2 .ensures .0, c .before .before .before .before .before .before .before .pair .ensures .0, c .before .before .before .before .before .before .before .before .word .ensures .0, c .before .before .before .before .before .before .before .before .before .before .byte .ensures .0)
+returns c = simp (c .before .before .move-on .ensures, c .before .before .before .before .stepped .ensures, c .before .before .before .before .before .processor .ensures .0, c .before .before .before .before .before .before .before .pair2 .ensures .0, c .before .before .before .before .before .before .before .before .pair .ensures .0, c .before .before .before .before .before .before .before .before .before .byte .ensures .0)
 
 pub run-at-spec : {M : Type 1} → statement M
 run-at-spec =
@@ -14,17 +14,13 @@ run-at-spec =
     (λ c. search needs)
     (λ c κs. search needs)
     (λ c. search needs)
-    (λ c κs. search needs)
-    (λ c. search needs)
     (λ c. search needs)
     (λ c κs. search needs)
     (λ c. search needs)
     (λ c. search needs)
     (λ c κs. search needs)
-    (λ c. search needs)
-    (λ c. search needs)
     (λ c κs. search needs)
-    (λ c. search needs)
+    (λ c κs. search needs)
     (λ c. search needs)
     (λ c κs. search needs)
     (λ c. search needs)
