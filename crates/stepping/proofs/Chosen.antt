@@ -47,17 +47,22 @@ module _ (s : Sheet) (b : Bundle) (sheet bundle w : List ℕ) (σ : State) (k : 
   no-wait c e f = rw (e, f)
 
 module _ (sheet bundle w : List ℕ) (k : ℕ) where
-  pub no-programme : getD w 17 0 ≤ k → StepIs sheet bundle w w k false
+  -- no such programme in any state that the words keep
+  none-of : ((s : Sheet) (b : Bundle) (σ : State) → Keeps s b sheet bundle w σ → programmeCount b ≤ k) → StepIs sheet bundle w w k false
   unfolding next
-  no-programme e =
-      record {
-        long = refl;
-        same = λ q. refl;
-        agrees = λ s b σ h. stays s b sheet bundle w σ k h (no-next s b sheet bundle w σ k (none-at s b σ (omega (arith, h .count))));
-      }
+  none-of f = record { long = refl; same = λ q. refl; agrees = λ s b σ h. stays s b sheet bundle w σ k h (no-next s b sheet bundle w σ k (none-at s b σ (f s b σ h))) }
     where
       none-at : (s : Sheet) (b : Bundle) (σ : State) → programmeCount b ≤ k → next b σ k ≡ none
       none-at s b σ l = ⊎-elim (λ i. absurd (omega arith)) (λ q. rw q) (programme-or b k)
+
+  pub no-programme : getD w 17 0 ≤ k → StepIs sheet bundle w w k false
+  no-programme e = none-of (λ s b σ h. omega (arith, h .count))
+
+  pub too-short : length w < 1120 → StepIs sheet bundle w w k false
+  too-short e = none-of (λ s b σ h. omega (arith, h .long))
+
+  pub too-large : 16 ≤ k → StepIs sheet bundle w w k false
+  too-large e = none-of (λ s b σ h. omega (arith, h .few))
 
   pub no-command : k < getD w 17 0 → getD w (k + 1) 0 ≤ getD w (32 + k) 0 → StepIs sheet bundle w w k false
   no-command l e =

@@ -1,7 +1,7 @@
 -- The machine's processor as the code's record, and what one command makes of it.
-use Prim.Native.Nat.{ℕ, _+_, _<_, max}
+use Prim.Native.Nat.{ℕ, _+_, _≤_, _<_, max}
 use mathlib.Core.List.{List}
-use lib.ListN.{getD}
+use lib.ListN.{length, getD}
 use Rattle.stepping.specs.declared.processors.Processor.{Processor}
 
 -- its numbers fit a word
@@ -19,3 +19,7 @@ after p wait work need = record { clock = max (p .clock) wait + work; position =
 -- processor k of the machine's words
 abbrev pub processorIn : List ℕ → ℕ → Processor
 processorIn w k = record { clock = getD w (64 + k) 0; position = getD w (48 + k) 0; store = getD w (80 + k) 0 }
+
+-- words with all of processor k's
+abbrev pub Roomy : List ℕ → ℕ → Type 0
+Roomy w k = (k < 16) × (1120 ≤ length w)

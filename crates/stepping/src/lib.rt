@@ -4,60 +4,79 @@ pub mod processors; // processors.rt: a processor as a record, and its step
 
 ghost use mathlib.Core.Path.{_≡_};
 ghost use mathlib.Core.Bool.{not};
-ghost use Prim.Native.Nat.{_+_, _<_};
-ghost use lib.ListN.{getD};
+ghost use Prim.Native.Nat.{_+_, _%_, _<_};
+ghost use lib.ListN.{length, getD, set};
 ghost use lib.Dec.{eqb};
 ghost use Rattle.folds.specs.Folds.{pick, bit};
 ghost use Rattle.numbers.specs.Number.{numberAt};
 ghost use Rattle.state.specs.Words.{movedWords, ranWords, sentWords, gotWords};
 ghost use Rattle.state.specs.Keeps.{StepIs, RunIs};
-ghost use Rattle.stepping.specs.Advance.{Narrow, processorIn};
+ghost use Rattle.stepping.specs.Advance.{Narrow, Roomy, processorIn};
+
+// The two bytes at i, lowest first, with one test where both are there.
+fn pair(b: &[u8], i: usize) -> usize
+    requires { ⌜ i < 1099511627776 ⌝ }
+    ensures { λ r. ⌜ (r ≡ numberAt 2 (now (b .entry)) i) × (r < 65536) ⌝ }
+{
+    if i + 1 < b.len() {
+        return numbers::get16(b, i) as usize;
+    }
+    words::pair(b, i)
+}
+
+// Puts the low 32 bits of x at i.
+fn put(w: &mut [u32], i: usize, x: usize)
+    requires { ⌜ i < length (now w) ⌝ }
+    ensures { λ _. ⌜ now (w .exit) ≡ set (now (w .entry)) i (x % 4294967296) ⌝ }
+{
+    w[i] = workspace::narrow(x % 4294967296);
+}
 
 // Processor k of the words.
 fn processor(w: &[u32], k: usize) -> processors::Processor
-    requires { ⌜ k < 4294967296 ⌝ }
+    requires { ⌜ Roomy (now w) k ⌝ }
     ensures { λ r. ⌜ (r ≡ processorIn (now (w .entry)) k) × Narrow r ⌝ }
 {
     processors::Processor {
-        clock: words::word(w, 64 + k),
-        position: words::word(w, 48 + k),
-        store: words::word(w, 80 + k),
+        clock: workspace::word(w, 64 + k),
+        position: workspace::word(w, 48 + k),
+        store: workspace::word(w, 80 + k),
     }
 }
 
 // Processor k goes on to the offset `at`, and is p there.
 fn move_on(w: &mut [u32], k: usize, at: usize, p: processors::Processor)
-    requires { ⌜ k < 4294967296 ⌝ }
+    requires { ⌜ Roomy (now w) k ⌝ }
     ensures { λ _. ⌜ now (w .exit) ≡ movedWords (now (w .entry)) k at (p .clock) (p .position) (p .store) ⌝ }
 {
-    let todo = words::minus(words::word(w, 20), 1);
-    words::put(w, 20, todo);
-    words::put(w, 32 + k, at);
-    words::put(w, 48 + k, p.position);
-    words::put(w, 64 + k, p.clock);
-    words::put(w, 80 + k, p.store);
+    let todo = words::minus(workspace::word(w, 20), 1);
+    put(w, 20, todo);
+    put(w, 32 + k, at);
+    put(w, 48 + k, p.position);
+    put(w, 64 + k, p.clock);
+    put(w, 80 + k, p.store);
 }
 
 // Processor k runs the task of its command at `at`.
 fn run_at(sheet: &[u8], bundle: &[u8], w: &mut [u32], k: usize, at: usize)
-    requires { ⌜ (k < 4294967296) × (at < 4294967296) ⌝ }
+    requires { ⌜ Roomy (now w) k × (at < 4294967296) ⌝ }
     ensures { λ _. ⌜ now (w .exit) ≡ ranWords (now (sheet .entry)) (now (bundle .entry)) (now (w .entry)) k at ⌝ }
 {
     let t = words::byte(bundle, at + 1);
-    let work = words::pair(sheet, 7 + 5 * t);
-    let need = words::pair(sheet, 9 + 5 * t);
+    let work = pair(sheet, 7 + 5 * t);
+    let need = pair(sheet, 9 + 5 * t);
     let p = processors::stepped(processor(w, k), 0, work, need);
     move_on(w, k, at + 2, p);
 }
 
 // Processor k sends the message of its command at `at`.
 fn send_at(sheet: &[u8], bundle: &[u8], w: &mut [u32], k: usize, at: usize)
-    requires { ⌜ (k < 4294967296) × (at < 4294967296) ⌝ }
+    requires { ⌜ Roomy (now w) k × (at < 4294967296) ⌝ }
     ensures { λ _. ⌜ now (w .exit) ≡ sentWords (now (sheet .entry)) (now (bundle .entry)) (now (w .entry)) k at ⌝ }
 {
-    let l = words::pair(bundle, at + 1);
+    let l = pair(bundle, at + 1);
     let p = processor(w, k);
-    let cost = words::pair(sheet, 9 + 5 * words::word(w, 18) + 7 * l);
+    let cost = pair(sheet, 9 + 5 * workspace::word(w, 18) + 7 * l);
     words::put(w, 96 + l, p.clock + cost + 1);
     let q = processors::stepped(p, 0, 0, 0);
     move_on(w, k, at + 3, q);
@@ -65,29 +84,30 @@ fn send_at(sheet: &[u8], bundle: &[u8], w: &mut [u32], k: usize, at: usize)
 
 // Processor k receives the message of its command at `at`, if it was sent.
 fn receive_at(sheet: &[u8], bundle: &[u8], w: &mut [u32], k: usize, at: usize) -> bool
-    requires { ⌜ (k < 4294967296) × (at < 4294967296) ⌝ }
+    requires { ⌜ Roomy (now w) k × (at < 4294967296) ⌝ }
     ensures { λ r. ⌜ (r ≡ not (eqb (getD (now (w .entry)) (96 + numberAt 2 (now (bundle .entry)) (at + 1)) 0) 0)) × (now (w .exit) ≡ pick r (gotWords (now (sheet .entry)) (now (bundle .entry)) (now (w .entry)) k at) (now (w .entry))) ⌝ }
 {
-    let l = words::pair(bundle, at + 1);
+    let l = pair(bundle, at + 1);
     let stamp = words::word(w, 96 + l);
     if stamp == 0 {
         return false;
     }
-    let need = words::pair(sheet, 11 + 5 * words::word(w, 18) + 7 * l);
+    let need = pair(sheet, 11 + 5 * workspace::word(w, 18) + 7 * l);
     let p = processors::stepped(processor(w, k), stamp - 1, 0, need);
     move_on(w, k, at + 3, p);
     true
 }
 
-// One command of processor k, in constant time. False, and nothing changed, where it cannot step.
-pub fn step(sheet: &[u8], bundle: &[u8], w: &mut [u32], k: usize) -> bool
+// One command of processor k, of words that are long enough.
+fn command(sheet: &[u8], bundle: &[u8], w: &mut [u32], k: usize) -> bool
+    requires { ⌜ Roomy (now w) k ⌝ }
     ensures { λ r. ⌜ StepIs (now (sheet .entry)) (now (bundle .entry)) (now (w .entry)) (now (w .exit)) k r ⌝ }
 {
-    if words::word(w, 17) <= k {
+    if workspace::word(w, 17) <= k {
         return false;
     }
-    let at = words::word(w, 32 + k);
-    if words::word(w, k + 1) <= at {
+    let at = workspace::word(w, 32 + k);
+    if workspace::word(w, k + 1) <= at {
         return false;
     }
     let c = words::byte(bundle, at);
@@ -100,6 +120,19 @@ pub fn step(sheet: &[u8], bundle: &[u8], w: &mut [u32], k: usize) -> bool
         return true;
     }
     receive_at(sheet, bundle, w, k, at)
+}
+
+// One command of processor k, in constant time. False, and nothing changed, where it cannot step.
+pub fn step(sheet: &[u8], bundle: &[u8], w: &mut [u32], k: usize) -> bool
+    ensures { λ r. ⌜ StepIs (now (sheet .entry)) (now (bundle .entry)) (now (w .entry)) (now (w .exit)) k r ⌝ }
+{
+    if w.len() < 1120 {
+        return false;
+    }
+    if 16 <= k {
+        return false;
+    }
+    command(sheet, bundle, w, k)
 }
 
 // 1 for true, 0 for false.
