@@ -9,8 +9,8 @@ abbrev pub Narrow : Processor → Type 0
 Narrow p = (p .clock < 4294967296) × (p .position < 4294967296) × (p .store < 4294967296)
 
 -- and so do those of a command: the time it waits for, what it adds to the clock and to the store
-abbrev pub Slight : ℕ → ℕ → ℕ → Type 0
-Slight wait work need = (wait < 4294967296) × (work < 65536) × (need < 65536)
+abbrev pub Small : ℕ → ℕ → ℕ → Type 0
+Small wait work need = (wait < 4294967296) × (work < 65536) × (need < 65536)
 
 -- p after such a command
 abbrev pub after : Processor → ℕ → ℕ → ℕ → Processor

@@ -24,7 +24,7 @@ fn pair(b: &[u8], i: usize) -> usize
     words::pair(b, i)
 }
 
-// Puts the low 32 bits of x at i.
+// Puts the low 32 bits of x at i, a word that is there.
 fn put(w: &mut [u32], i: usize, x: usize)
     requires { ⌜ i < length (now w) ⌝ }
     ensures { λ _. ⌜ now (w .exit) ≡ set (now (w .entry)) i (x % 4294967296) ⌝ }
@@ -123,6 +123,7 @@ fn command(sheet: &[u8], bundle: &[u8], w: &mut [u32], k: usize) -> bool
 }
 
 // One command of processor k, in constant time. False, and nothing changed, where it cannot step.
+// A state has 1,120 words and at most 16 processors; tested here once, so that no word is tested below.
 pub fn step(sheet: &[u8], bundle: &[u8], w: &mut [u32], k: usize) -> bool
     ensures { λ r. ⌜ StepIs (now (sheet .entry)) (now (bundle .entry)) (now (w .entry)) (now (w .exit)) k r ⌝ }
 {

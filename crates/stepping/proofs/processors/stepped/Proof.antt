@@ -41,7 +41,7 @@ use denote.Triple.Table.{entered, cited}
 use denote.Triple.Walked.{says, needs, Stays, stay-none, walkOf, goes-none, Walks, ends-at, walked, walk-meets}
 use denote.Exit.{yes}
 use Rattle.stepping.specs.declared.processors.Processor.{Processor}
-use Rattle.stepping.specs.Advance.{Narrow, Slight, after}
+use Rattle.stepping.specs.Advance.{Narrow, Small, after}
 use Rattle.stepping.proofs.processors.Processor as T
 use Rattle.stepping.proofs.processors.Processor.Laws as T′
 use Rattle.stepping.proofs.processors.advance as advance
@@ -106,7 +106,7 @@ module _ {M : Type 1} (𝓤 : URA M) (H : Heap 𝓤) (A : Atoms 𝓤) (W : Given
   abbrev to-advance : ℕ → ℕ → GName → Advance 𝓤 H A at-mem run .Ghost
   to-advance ν l δ = (((ν ∷ [], tt), (fullShare, tt), tt, lent l δ, (vptr l 0 ∷ [], vals)), tt)
 
-  goes : Narrow h × Slight m n p → (ν l : ℕ) (δ : GName) → ent 𝓤 (sep 𝓤 (A .lft (ν ∷ []) fullShare) (sem 𝓤 H A (MutRef (named 0) (ν ∷ []) R .own (lent l δ .0) (vptr l 0 ∷ [])))) (Advance 𝓤 H A at-mem run .pre (to-advance ν l δ))
+  goes : Narrow h × Small m n p → (ν l : ℕ) (δ : GName) → ent 𝓤 (sep 𝓤 (A .lft (ν ∷ []) fullShare) (sem 𝓤 H A (MutRef (named 0) (ν ∷ []) R .own (lent l δ .0) (vptr l 0 ∷ [])))) (Advance 𝓤 H A at-mem run .pre (to-advance ν l δ))
   goes ok ν l δ =
       qed W (‵ (flft (ν ∷ []) fullShare) ∷ ‵ (MutRef (named 0) (ν ∷ []) R .own (lent l δ .0) (vptr l 0 ∷ [])) ∷ []) ∵ says ! ok $ nothing ! $ move ! (1 ∷ 0 ∷ []) $ join ! $ frame ! $ nothing ! $
       owned ! usize (Is usize) (uint-makes 𝓤 H A W w64) p _ (refl, p-fits) $ fjoin ! $ owned ! usize (Is usize) (uint-makes 𝓤 H A W w64) n _ (refl, n-fits) $ fjoin ! $
@@ -120,7 +120,7 @@ module _ {M : Type 1} (𝓤 : URA M) (H : Heap 𝓤) (A : Atoms 𝓤) (W : Given
       owned ! usize (Is usize) (uint-makes 𝓤 H A W w64) m _ (refl, m-fits) $ fjoin ! $ owned ! R (Is R) (LL.makes T.the-type T′.the-plain 𝓤 H A) h _ was $ fjoin ! $ nothing ! $ done !
 
   module _ (C : Calls 𝓤 H) (Λ : Loops 𝓤 H) (fm : FmC 𝓤 H (W .laws) C) (known : Triple 𝓤 (C #advance) (Advance 𝓤 H A at-mem run)) where
-    walk : Narrow h × Slight m n p → ent 𝓤 (onEntry 𝓤 H A stepped.signature tt tt x at) (WpFn 𝓤 H C Λ code.function (T′.lowered h ∷ vint w64 m ∷ vint w64 n ∷ vint w64 p ∷ []) Post)
+    walk : Narrow h × Small m n p → ent 𝓤 (onEntry 𝓤 H A stepped.signature tt tt x at) (WpFn 𝓤 H C Λ code.function (T′.lowered h ∷ vint w64 m ∷ vint w64 n ∷ vint w64 p ∷ []) Post)
     walk ok =
         qed W (‵ ftrue ∷ ‵ (owns (R ∷ usize ∷ usize ∷ usize ∷ []) x at) ∷ []) ∵ enter ! C Λ code.function (T′.lowered h ∷ vint w64 m ∷ vint w64 n ∷ vint w64 p ∷ []) _ $
         alloc1 ! (λ l₀. alloc1 ! (λ l₁. alloc1 ! (λ l₂. alloc1 ! (λ l₃. alloc1 ! (λ l₄. alloc1 ! (λ l₅. alloc1 ! (λ l₆. alloc1 ! (λ l₇. alloc0 ! $ params1 ! $
@@ -155,7 +155,7 @@ module _ {M : Type 1} (𝓤 : URA M) (H : Heap 𝓤) (A : Atoms 𝓤) (W : Given
   stepped-walks : (C : Calls 𝓤 H) (Λ : Loops 𝓤 H) → FmC 𝓤 H (W .laws) C → Triple 𝓤 (C #advance) (Advance 𝓤 H A at-mem run) → Walks 𝓤 H A stepped.ended stayed (WpFn 𝓤 H C Λ code.function) (stepped.clauses 𝓤 H A at-mem run)
   stepped-walks C Λ fm known = walked 𝓤 H A stepped.ended stayed (stepped.clauses 𝓤 H A at-mem run) (WpFn 𝓤 H C Λ code.function) (λ κs. (LL.vals T.the-type T′.the-laws, (uint-vals w64, (uint-vals w64, (uint-vals w64, tt)))))
       (λ κs. (LL.tells T.the-type T′.the-laws, (uint-tells w64, (uint-tells w64, (uint-tells w64, tt)))))
-      (λ κs qs bounds a _ are. needs 𝓤 (Narrow (a .0) × Slight (a .1 .0) (a .1 .1 .0) (a .1 .1 .1 .0)) _
+      (λ κs qs bounds a _ are. needs 𝓤 (Narrow (a .0) × Small (a .1 .0) (a .1 .1 .0) (a .1 .1 .1 .0)) _
       (walk 𝓤 H A W at-mem run (a .0) (a .1 .0) (a .1 .1 .0) (a .1 .1 .1 .0) (are .0) (are .1 .0 .1) (are .1 .1 .0 .1) (are .1 .1 .1 .0 .1) C Λ fm known))
 
 stepped-meets : {M : Type 1} (𝓤 : URA M) (H : Heap 𝓤) (A : Atoms 𝓤) → Given 𝓤 H A → (at-mem : Memory → SProp 𝓤) (run : Routine → Fun 𝓤) (𝓣 : Tables 𝓤 H) → Triple 𝓤 (𝓣 .C #advance) (Advance 𝓤 H A at-mem run)
