@@ -3,6 +3,7 @@
 pub mod bundles;
 pub mod damage;
 pub mod random;
+pub mod shapes;
 pub mod sheets;
 
 pub use random::Random;

@@ -1,0 +1,130 @@
+//! Each call of the product beside the rewrite's, from bytes to lent buffers that are made once.
+
+use crate::cases::{Case, Input, MOST_BYTES};
+use crate::steps::{ProductSteps, RewriteSteps};
+use crate::timing::{in_turns, Calls, Pair};
+use reference::interface;
+use reference::machine::Machine;
+use reference::sheet::{Sheet, MOST_LINKS, MOST_TASKS};
+use reference::Refusal;
+use std::hint::black_box;
+
+/// Times one call on all inputs of a case.
+pub type Measure = fn(&Case) -> Pair;
+
+/// The name of each call, and how it is measured.
+pub const CALLS: [(&str, Measure); 8] = [
+    ("reading", reading),
+    ("levels", levels),
+    ("plan", plan),
+    ("check", check),
+    ("one step", one_step),
+    ("listing", listing),
+    ("start", start),
+    ("run", run),
+];
+
+/// Times a call of the product and one of the rewrite on each input.
+fn both(case: &Case, mut product: impl FnMut(&Input), mut rewrite: impl FnMut(&Input)) -> Pair {
+    let inputs = &case.inputs;
+    in_turns(
+        Calls { inputs: inputs.len(), call: |i: usize| product(&inputs[i]) },
+        Calls { inputs: inputs.len(), call: |i: usize| rewrite(&inputs[i]) },
+    )
+}
+
+fn reading(case: &Case) -> Pair {
+    let mut work = area();
+    let (mut tasks, mut links, mut board) = ([0; 2 * MOST_TASKS], [0; 4 * MOST_LINKS], [0; 4]);
+    let (mut own_tasks, mut own_links) = (tasks, links);
+    both(
+        case,
+        |i| succeeds(product::read_sheet(&i.sheet, &mut work, &mut tasks, &mut links, &mut board)),
+        |i| passes(interface::read_sheet(&i.sheet, &mut own_tasks, &mut own_links)),
+    )
+}
+
+fn levels(case: &Case) -> Pair {
+    let (mut work, mut out, mut own) = (area(), [0; MOST_TASKS], [0; MOST_TASKS]);
+    both(
+        case,
+        |i| succeeds(product::levels(&i.sheet, &mut work, &mut out)),
+        |i| passes(interface::levels(&i.sheet, &mut own)),
+    )
+}
+
+pub fn plan(case: &Case) -> Pair {
+    let (mut work, mut out, mut own) = (area(), [0; MOST_BYTES], [0; MOST_BYTES]);
+    both(
+        case,
+        |i| succeeds(product::plan(&i.sheet, &mut work, &mut out)),
+        |i| passes(interface::plan(&i.sheet, &mut own)),
+    )
+}
+
+pub fn check(case: &Case) -> Pair {
+    let mut work = area();
+    both(
+        case,
+        |i| succeeds(product::check(&i.sheet, &i.bundle, &mut work)),
+        |i| passes(interface::check(&i.sheet, &i.bundle)),
+    )
+}
+
+fn one_step(case: &Case) -> Pair {
+    let sheets: Vec<Sheet> =
+        case.inputs.iter().map(|i| Sheet::read(&i.sheet).expect("a valid sheet")).collect();
+    in_turns(ProductSteps::new(case), RewriteSteps::new(case, &sheets))
+}
+
+fn listing(case: &Case) -> Pair {
+    let (mut work, mut out, mut own) = (area(), [0; MOST_BYTES], [0; MOST_BYTES]);
+    both(
+        case,
+        |i| succeeds(product::listing(&i.sheet, &mut work, &mut out)),
+        |i| passes(interface::listing(&i.sheet, &mut own)),
+    )
+}
+
+fn start(case: &Case) -> Pair {
+    let (mut work, mut state) = (area(), area());
+    both(
+        case,
+        |i| succeeds(product::start(&i.sheet, &i.bundle, &mut work, &mut state)),
+        |i| run_through(i, &[]),
+    )
+}
+
+fn run(case: &Case) -> Pair {
+    let (mut work, mut state) = (area(), area());
+    both(
+        case,
+        |i| succeeds(product::run(&i.sheet, &i.bundle, &i.choices, &mut work, &mut state)),
+        |i| run_through(i, &i.choices),
+    )
+}
+
+/// The rewrite's machine from the bytes, and what these choices make of it.
+fn run_through(input: &Input, choices: &[u8]) {
+    let sheet = Sheet::read(&input.sheet).expect("a valid sheet");
+    let mut machine = Machine::start(&sheet, &input.bundle).expect("a plan's bundle");
+    for &choice in choices {
+        machine.step(choice.into());
+    }
+    black_box(&machine);
+}
+
+/// A work area or an area for a machine's state.
+pub fn area() -> Vec<u32> {
+    vec![0; product::work_length()]
+}
+
+/// The rewrite gave a result.
+fn passes<T>(answer: Result<T, Refusal>) {
+    assert!(black_box(answer).is_ok());
+}
+
+/// The product gave a result.
+pub fn succeeds(answer: product::Answer) {
+    assert_eq!(black_box(answer).0, 0);
+}

@@ -1,0 +1,71 @@
+//! The cases that are measured: sheets of one shape, their planned bundles, and runs to their ends.
+
+use inputs::shapes::{self, LARGEST};
+use inputs::{sheets, Random};
+use reference::interface;
+use reference::machine::Machine;
+use reference::sheet::Sheet;
+use reference::trials;
+
+/// How many sheets a case has, but for K1.
+const SHEETS: usize = 8;
+/// Longer than any bundle or listing of a plan.
+pub const MOST_BYTES: usize = 8192;
+
+/// A sheet with a plan.
+pub struct Input {
+    pub sheet: Vec<u8>,
+    pub bundle: Vec<u8>,
+    /// Choices that all step, and run the bundle to its end.
+    pub choices: Vec<u8>,
+}
+
+impl Input {
+    /// The input of a sheet, if it has a plan.
+    fn new(sheet: Vec<u8>) -> Option<Input> {
+        let mut bundle = vec![0; MOST_BYTES];
+        let length = interface::plan(&sheet, &mut bundle).ok()?;
+        bundle.truncate(length);
+        let choices = run_out(&sheet, &bundle);
+        Some(Input { sheet, bundle, choices })
+    }
+}
+
+/// Sheets that are measured together.
+pub struct Case {
+    pub name: String,
+    pub inputs: Vec<Input>,
+}
+
+impl Case {
+    /// The first made-up sheets that have a plan.
+    fn made(name: impl Into<String>, make: impl Fn(&mut Random) -> sheets::Sheet) -> Case {
+        let sheets = (1..).map(|seed| make(&mut Random::new(seed)).encode());
+        Case { name: name.into(), inputs: sheets.filter_map(Input::new).take(SHEETS).collect() }
+    }
+}
+
+/// Each shape of the largest sheet, the typical sheet and K1.
+pub fn all() -> Vec<Case> {
+    let largest = LARGEST.map(|shape| Case::made(shape.name(), |random| shape.sheet(random)));
+    let typical = Case::made("typical", shapes::typical);
+    let k1 = Input::new(trials::k1_sheet()).expect("K1 has a plan");
+    largest.into_iter().chain([typical, Case { name: "K1".into(), inputs: vec![k1] }]).collect()
+}
+
+/// So many tasks with four links a task, of the random shape on 16 processors.
+pub fn of_size(tasks: usize) -> Case {
+    Case::made(tasks.to_string(), |random| shapes::any_links(random, tasks, 4 * tasks, 16))
+}
+
+/// The choices that step when each processor is chosen in turn until all is done.
+fn run_out(sheet: &[u8], bundle: &[u8]) -> Vec<u8> {
+    let sheet = Sheet::read(sheet).expect("a valid sheet");
+    let mut machine = Machine::start(&sheet, bundle).expect("a plan's bundle");
+    let programmes = machine.processors().len() as u8;
+    let mut choices = Vec::new();
+    while machine.left() > 0 {
+        choices.extend((0..programmes).filter(|&k| machine.step(k.into()).stepped()));
+    }
+    choices
+}
