@@ -2,12 +2,11 @@
 
 use crate::refusal::{Refusal, LOOP};
 use crate::sheet::{Link, Sheet, MOST_TASKS};
-use std::{array, mem};
+use std::mem;
 
-/// The links into and out of each task, and the tasks in an order that follows the links.
+/// The links out of each task, and the tasks in an order that follows the links.
 #[derive(Clone, Debug)]
 pub struct Graph {
-    incoming: Lists,
     outgoing: Lists,
     order: Vec<u8>,
 }
@@ -15,11 +14,10 @@ pub struct Graph {
 impl Graph {
     /// The graph of these links over this many tasks (10).
     pub fn new(tasks: usize, links: &[Link]) -> Result<Graph, Refusal> {
-        let incoming = Lists::new(links, |link| link.target);
         let outgoing = Lists::new(links, |link| link.source);
 
         // Each task is taken once all its predecessors are; those that stay lie on a circle or behind one.
-        let mut missing: [u16; MOST_TASKS] = array::from_fn(|task| incoming.at(task).len() as u16);
+        let mut missing = counts(links, |link| link.target);
         let mut order = Vec::with_capacity(tasks);
         order.extend((0..tasks).filter(|&task| missing[task] == 0).map(|task| task as u8));
         let mut taken = 0;
@@ -39,12 +37,7 @@ impl Graph {
                 .expect("a task that was never taken has an untaken predecessor");
             return Err(Refusal::new(LOOP, lowest));
         }
-        Ok(Graph { incoming, outgoing, order })
-    }
-
-    /// The links into a task, in rising number.
-    pub fn incoming(&self, task: usize) -> &[u16] {
-        self.incoming.at(task)
+        Ok(Graph { outgoing, order })
     }
 
     /// The links out of a task, in rising number.
@@ -83,9 +76,18 @@ fn leads_back(task: usize, outgoing: &Lists, links: &[Link]) -> bool {
     reached[task]
 }
 
+/// How many links have each task at one of their ends.
+pub fn counts(links: &[Link], end: impl Fn(&Link) -> u8) -> [u16; MOST_TASKS] {
+    let mut counts = [0; MOST_TASKS];
+    for link in links {
+        counts[usize::from(end(link))] += 1;
+    }
+    counts
+}
+
 /// A list of link numbers for each task, all in one table.
 #[derive(Clone, Debug)]
-struct Lists {
+pub struct Lists {
     /// Where the list of each task starts, and where the last one ends.
     starts: [u16; MOST_TASKS + 1],
     links: Vec<u16>,
@@ -93,11 +95,8 @@ struct Lists {
 
 impl Lists {
     /// The links by the task at one of their ends, each list in rising number.
-    fn new(links: &[Link], end: impl Fn(&Link) -> u8) -> Lists {
-        let mut nexts = [0u16; MOST_TASKS];
-        for link in links {
-            nexts[usize::from(end(link))] += 1;
-        }
+    pub fn new(links: &[Link], end: impl Fn(&Link) -> u8) -> Lists {
+        let mut nexts = counts(links, &end);
         let mut starts = [0; MOST_TASKS + 1];
         let mut sum = 0;
         for (start, next) in starts.iter_mut().zip(&mut nexts) {
@@ -114,7 +113,8 @@ impl Lists {
         Lists { starts, links: table }
     }
 
-    fn at(&self, task: usize) -> &[u16] {
+    /// The links of a task.
+    pub fn at(&self, task: usize) -> &[u16] {
         &self.links[self.starts[task].into()..self.starts[task + 1].into()]
     }
 }

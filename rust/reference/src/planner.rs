@@ -1,7 +1,8 @@
 //! The planner: places the tasks turn by turn, by the guard and the four steps (11), and writes the bundle.
 
-use crate::bundle::{write_claim, Command};
-use crate::graph;
+use crate::bundle::write_claim;
+use crate::command_bytes::{CLAIM_LENGTH, OPEN, RECEIVE, RUN, SEND};
+use crate::graph::{self, Lists};
 use crate::processor_set::ProcessorSet;
 use crate::refusal::{Refusal, NO_STORE};
 use crate::sheet::{Sheet, MOST_PROCESSORS, MOST_TASKS};
@@ -60,33 +61,65 @@ pub fn plan_with(sheet: &Sheet, see: impl FnMut(Turn)) -> Result<Plan, Refusal> 
 impl Plan {
     /// The bundle of the plan.
     pub fn to_bundle(&self, sheet: &Sheet) -> Vec<u8> {
-        let commands = sheet.tasks.len() + 2 * sheet.links.len();
-        let mut bundle = Vec::with_capacity(2 * self.programmes.len() + 3 * commands + 5);
+        let incoming = Lists::new(&sheet.links, |link| link.target);
+        let mut bundle = Writer::new(sheet, self.programmes.len());
         for (number, programme) in (0..).zip(&self.programmes) {
-            Command::Open(number).write(&mut bundle);
+            bundle.put([OPEN, number, 0], 2);
             for &task in programme {
-                self.write_task(sheet, task, &mut bundle);
+                self.write_task(sheet, incoming.at(task.into()), task, &mut bundle);
             }
         }
-        write_claim(self.claim, &mut bundle);
-        bundle
+        bundle.end(self.claim)
     }
 
     /// The receives of a task's messages, its run, and the sends of its messages.
-    fn write_task(&self, sheet: &Sheet, task: u8, bundle: &mut Vec<u8>) {
+    fn write_task(&self, sheet: &Sheet, incoming: &[u16], task: u8, bundle: &mut Writer) {
         let processor = |task: u8| self.placements[usize::from(task)].processor;
         let here = processor(task);
-        for &link in sheet.graph.incoming(task.into()) {
-            if processor(sheet.links[usize::from(link)].source) != here {
-                Command::Receive(link).write(bundle);
-            }
+        for &link in incoming {
+            let source = sheet.links[usize::from(link)].source;
+            bundle.put_message(RECEIVE, link, processor(source) != here);
         }
-        Command::Run(task.into()).write(bundle);
+        bundle.put([RUN, task, 0], 2);
         for &link in sheet.graph.outgoing(task.into()) {
-            if processor(sheet.links[usize::from(link)].target) != here {
-                Command::Send(link).write(bundle);
-            }
+            let target = sheet.links[usize::from(link)].target;
+            bundle.put_message(SEND, link, processor(target) != here);
         }
+    }
+}
+
+/// A bundle being written.
+struct Writer {
+    /// Room for every command that there can be, and for the claim.
+    bytes: Vec<u8>,
+    length: usize,
+}
+
+impl Writer {
+    fn new(sheet: &Sheet, programmes: usize) -> Self {
+        let most = 2 * (programmes + sheet.tasks.len()) + 3 * 2 * sheet.links.len();
+        Writer { bytes: vec![0; most + CLAIM_LENGTH], length: 0 }
+    }
+
+    /// Puts so many of these bytes at the end; the others are written over.
+    fn put(&mut self, command: [u8; 3], count: usize) {
+        self.bytes[self.length..][..3].copy_from_slice(&command);
+        self.length += count;
+    }
+
+    /// Puts the command of a message at the end if there is one. No branch depends on it, since
+    /// whether two tasks share a processor cannot be foretold.
+    fn put_message(&mut self, command: u8, link: u16, needed: bool) {
+        let [low, high] = link.to_le_bytes();
+        self.put([command, low, high], 3 * usize::from(needed));
+    }
+
+    /// The whole bundle with this claim.
+    fn end(self, claim: u32) -> Vec<u8> {
+        let mut bundle = self.bytes;
+        bundle.truncate(self.length);
+        write_claim(claim, &mut bundle);
+        bundle
     }
 }
 
@@ -120,8 +153,10 @@ impl<'a> Board<'a> {
     fn new(sheet: &'a Sheet, guarded: bool) -> Self {
         let tasks = sheet.tasks.len();
         let levels = graph::levels(sheet);
-        let inputs: Vec<Inputs> = (0..tasks)
-            .map(|task| Inputs { missing: sheet.graph.incoming(task).len(), ..Inputs::default() })
+        let predecessors = graph::counts(&sheet.links, |link| link.target);
+        let inputs: Vec<Inputs> = predecessors[..tasks]
+            .iter()
+            .map(|&missing| Inputs { missing, ..Inputs::default() })
             .collect();
         // Without predecessors the arrival is 0 and the priority is the level.
         let ready = (0..tasks)
@@ -155,7 +190,9 @@ impl<'a> Board<'a> {
             self.place(task, k, starts[k], needs[k]);
             see(turn);
         }
-        let mut programmes = vec![Vec::new(); self.open];
+        let most = self.placed.len();
+        let mut programmes: Vec<Vec<u8>> =
+            (0..self.open).map(|_| Vec::with_capacity(most)).collect();
         for &task in &self.placed {
             let processor = self.placements[usize::from(task)].processor;
             programmes[usize::from(processor)].push(task);
@@ -274,7 +311,7 @@ fn least(processors: ProcessorSet, starts: &Row) -> Option<usize> {
 #[derive(Clone, Default)]
 struct Inputs {
     /// How many predecessors are not placed.
-    missing: usize,
+    missing: u16,
     /// The processors that hold a placed one.
     holders: ProcessorSet,
     /// The latest finish on each processor.
