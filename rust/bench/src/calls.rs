@@ -8,6 +8,7 @@ use reference::machine::Machine;
 use reference::sheet::{Sheet, MOST_LINKS, MOST_TASKS};
 use reference::Refusal;
 use std::hint::black_box;
+use zeldrupa::raw as product;
 
 /// Times one call on all inputs of a case.
 pub type Measure = fn(&Case) -> Pair;

@@ -7,6 +7,7 @@ use reference::machine::Machine;
 use reference::sheet::Sheet;
 use std::hint::black_box;
 use std::time::{Duration, Instant};
+use zeldrupa::raw as product;
 
 /// How many steps are timed together at least: as many machines are started as this takes.
 const LEAST_STEPS: usize = 256;

@@ -3,8 +3,8 @@
 use crate::lent::{Area, Element, Output};
 use crate::tally::{Function, Tally};
 use inputs::Random;
-use product::Answer;
 use reference::refusal::{room, Refusal, SHORT_WORK_AREA};
+use zeldrupa::raw::{self as product, Answer};
 
 /// The most words that an area has beyond the fixed length.
 const LONGEST_EXTRA: usize = 4096;

@@ -9,6 +9,7 @@ use reference::graph;
 use reference::sheet::Sheet;
 use std::array;
 use std::cell::Cell;
+use zeldrupa::raw as product;
 
 impl Comparison {
     /// Reads a sheet.

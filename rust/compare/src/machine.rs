@@ -3,11 +3,11 @@
 use crate::comparison::{Call, Comparison, Difference, Hex, Input, Outcome};
 use crate::tally::Function;
 use inputs::Random;
-use product::Answer;
 use reference::interface;
 use reference::machine::Machine;
 use reference::refusal::{Refusal, SHORT_WORK_AREA};
 use reference::sheet::Sheet;
+use zeldrupa::raw::{self as product, Answer};
 
 /// The longest list of choices.
 const MOST_CHOICES: usize = 6000;

@@ -5,6 +5,7 @@ use crate::tally::Function;
 use reference::listing;
 use reference::planner::plan_with;
 use reference::sheet::Sheet;
+use zeldrupa::raw as product;
 
 impl Comparison {
     /// Plans a sheet, and lists its plan or its refusal.

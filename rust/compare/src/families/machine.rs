@@ -3,6 +3,7 @@
 use super::{faulty_sheet, mostly_small, planned, trial_files};
 use crate::comparison::{Comparison, Outcome};
 use inputs::{bundles, damage, sheets, Random};
+use zeldrupa::raw as product;
 
 /// Checks a pair, and mostly runs it on the machine too.
 fn pair(c: &mut Comparison, sheet: &[u8], bundle: &[u8]) -> Outcome {

@@ -1,7 +1,19 @@
-//! The proved product from Rust: safe functions over its C interface.
+//! The functions of the library as they are, for any bytes and any lent buffers.
 //!
 //! Each lends its slices to the C function of the same name and gives the answer's number and
-//! place. The number is 0 for a result; what the place then is stands at each function.
+//! place. The number is 0 for a result; what the place then is stands at each function. A work area
+//! or a state has at least [`work_length`] words; all is safe at any length.
+//!
+//! ```
+//! use zeldrupa::raw;
+//!
+//! let mut work = vec![0; raw::work_length()];
+//! let mut bundle = [0; 64];
+//! let sheet = b"\x4D\x01\0\0\0\0\x54\x07\0\0\0\x51";
+//! assert_eq!(raw::plan(sheet, &mut work, &mut bundle), (0, 9));
+//! assert_eq!(bundle[..9], [0x50, 0, 0x52, 0, 0x5A, 7, 0, 0, 0]);
+//! assert_eq!(raw::plan(sheet, &mut work, &mut bundle[..8]), (12, 9));
+//! ```
 
 #[macro_use]
 mod calls;

@@ -1,0 +1,46 @@
+//! The proved planner for boards of small processors, from Rust.
+//!
+//! A [`WorkArea`] has every call: it reads and writes a [`Sheet`] of tasks and a [`Bundle`] of
+//! programmes, plans, checks, lists, and starts a [`Machine`]. Each answer is the static library's
+//! own; a [`Refusal`] has document 01's number, place and word.
+//!
+//! ```
+//! use zeldrupa::{Link, Refusal, Task, WorkArea};
+//!
+//! # fn main() -> Result<(), Refusal> {
+//! let mut work = WorkArea::new();
+//! let tasks = [Task { work: 2, store: 10 }, Task { work: 3, store: 10 }];
+//! let links = [Link { source: 0, target: 1, cost: 1, bytes: 4 }];
+//! let sheet = work.write_sheet(3, 100, &tasks, &links)?;
+//! assert_eq!(work.levels(&sheet)?, [6, 3]);
+//!
+//! let bundle = work.plan(&sheet)?;
+//! assert_eq!(bundle.claim(), 5);
+//! work.check(&sheet, &bundle)?;
+//!
+//! let mut machine = work.start(&sheet, &bundle)?;
+//! while machine.left() > 0 {
+//!     assert!(machine.step(0));
+//! }
+//! assert_eq!(machine.latest_clock(), 5);
+//! # Ok(())
+//! # }
+//! ```
+//!
+//! Nothing is proved of this crate itself: it lends buffers and names what comes back. [`raw`] has
+//! the library's functions as they are.
+
+#![deny(missing_docs)]
+
+mod bundle;
+mod machine;
+pub mod raw;
+mod refusal;
+mod sheet;
+mod work_area;
+
+pub use bundle::{Bundle, Command};
+pub use machine::{Machine, Processor};
+pub use refusal::Refusal;
+pub use sheet::{Link, Sheet, Task};
+pub use work_area::WorkArea;

@@ -1,0 +1,74 @@
+//! A refusal: document 01's number and place, and its word for it.
+
+use std::error::Error;
+use std::fmt::{self, Display, Formatter};
+
+/// Why there is no result.
+///
+/// ```
+/// use zeldrupa::WorkArea;
+///
+/// let refusal = WorkArea::new().read_sheet(&[0x4D, 17, 0, 0, 0, 0]).unwrap_err();
+/// assert_eq!((refusal.number(), refusal.place()), (6, 0));
+/// assert_eq!(refusal.to_string(), "refused: range (6), place 0");
+/// ```
+#[derive(Clone, Copy, Debug, PartialEq, Eq, Hash)]
+pub struct Refusal {
+    number: u8,
+    place: u64,
+}
+
+impl Refusal {
+    /// The refusal of an answer, if it is one.
+    pub(crate) fn of((number, place): crate::raw::Answer) -> Result<u64, Refusal> {
+        match number {
+            0 => Ok(place),
+            _ => Err(Refusal { number, place }),
+        }
+    }
+
+    /// Its number in document 01: 1 to 13, or 21 to 30.
+    pub fn number(self) -> u8 {
+        self.number
+    }
+
+    /// Its place: an offset, a task, a link, a processor, a length or a clock, by its number.
+    pub fn place(self) -> u64 {
+        self.place
+    }
+
+    /// Document 01's word for it.
+    pub fn word(self) -> &'static str {
+        match self.number {
+            1 => "cut sheet",
+            2 | 22 => "strange command",
+            3 | 23 => "out of turn",
+            4 | 24 => "tail",
+            5 => "over-full",
+            6 => "range",
+            7 => "loose link",
+            8 => "doubled link",
+            9 => "bare sheet",
+            10 => "loop",
+            11 => "no store",
+            12 => "short output",
+            13 => "short work area",
+            21 => "cut bundle",
+            25 => "unknown number",
+            26 => "run count",
+            27 => "message",
+            28 => "over store",
+            29 => "stuck",
+            30 => "wrong claim",
+            _ => "unknown refusal",
+        }
+    }
+}
+
+impl Display for Refusal {
+    fn fmt(&self, f: &mut Formatter) -> fmt::Result {
+        write!(f, "refused: {} ({}), place {}", self.word(), self.number, self.place)
+    }
+}
+
+impl Error for Refusal {}

@@ -1,0 +1,201 @@
+//! The work area, lent to every call: reading, writing, levels, planning, checking and listing.
+
+use crate::bundle::{from_values, to_values};
+use crate::{raw, Bundle, Command, Link, Machine, Refusal, Sheet, Task};
+
+/// The most tasks and links of a sheet.
+const MOST_TASKS: usize = 256;
+const MOST_LINKS: usize = 1024;
+/// The number of a refusal whose place is the length of output that is needed.
+const SHORT_OUTPUT: u8 = 12;
+
+/// The memory that the calls work in, made once and lent to each.
+#[derive(Clone, Debug)]
+pub struct WorkArea {
+    words: Vec<u32>,
+    /// Two values for each task, and four for each link, that a sheet can have.
+    tasks: Vec<u16>,
+    links: Vec<u16>,
+    /// What other calls write to, as long as any has needed so far.
+    bytes: Vec<u8>,
+    commands: Vec<u16>,
+    levels: Vec<u32>,
+}
+
+impl WorkArea {
+    /// A work area of the fixed length.
+    pub fn new() -> Self {
+        WorkArea {
+            words: vec![0; raw::work_length()],
+            tasks: vec![0; 2 * MOST_TASKS],
+            links: vec![0; 4 * MOST_LINKS],
+            bytes: Vec::new(),
+            commands: Vec::new(),
+            levels: Vec::new(),
+        }
+    }
+
+    /// Reads a task sheet (1 to 10).
+    pub fn read_sheet(&mut self, bytes: &[u8]) -> Result<Sheet, Refusal> {
+        let (tasks, links, mut board) = (&mut self.tasks, &mut self.links, [0; 4]);
+        Refusal::of(raw::read_sheet(bytes, &mut self.words, tasks, links, &mut board))?;
+        let [processors, limit, task_count, link_count] = board;
+        let tasks = self.tasks.chunks_exact(2).take(task_count as usize);
+        let links = self.links.chunks_exact(4).take(link_count as usize);
+        Ok(Sheet {
+            bytes: bytes.to_vec(),
+            processors: processors as u8,
+            limit,
+            tasks: tasks.map(|task| Task { work: task[0], store: task[1] }).collect(),
+            links: links
+                .map(|link| Link {
+                    source: link[0] as u8,
+                    target: link[1] as u8,
+                    cost: link[2],
+                    bytes: link[3],
+                })
+                .collect(),
+        })
+    }
+
+    /// Writes the sheet of these values, refused as its bytes would be (1 to 10).
+    pub fn write_sheet(
+        &mut self,
+        processors: u8,
+        limit: u32,
+        tasks: &[Task],
+        links: &[Link],
+    ) -> Result<Sheet, Refusal> {
+        let task_values: Vec<u16> = tasks.iter().flat_map(|task| [task.work, task.store]).collect();
+        let link_values: Vec<u16> = links
+            .iter()
+            .flat_map(|link| [link.source.into(), link.target.into(), link.cost, link.bytes])
+            .collect();
+        let words = &mut self.words;
+        let bytes = filled(&mut self.bytes, |out| {
+            raw::write_sheet(processors, limit, &task_values, &link_values, words, out)
+        })?;
+        let (tasks, links) = (tasks.to_vec(), links.to_vec());
+        Ok(Sheet { bytes: bytes.to_vec(), processors, limit, tasks, links })
+    }
+
+    /// The b-level of each task, in number order (1 to 10).
+    pub fn levels(&mut self, sheet: impl AsRef<[u8]>) -> Result<Vec<u32>, Refusal> {
+        let words = &mut self.words;
+        let levels = filled(&mut self.levels, |out| raw::levels(sheet.as_ref(), words, out))?;
+        Ok(levels.to_vec())
+    }
+
+    /// Plans a sheet (11). What it gives, [`WorkArea::check`] accepts.
+    ///
+    /// ```
+    /// # use zeldrupa::WorkArea;
+    /// let mut work = WorkArea::new();
+    /// let sheet = work.read_sheet(include_bytes!("../../../examples/k5.sheet")).unwrap();
+    /// let refusal = work.plan(&sheet).unwrap_err();
+    /// assert_eq!((refusal.number(), refusal.place(), refusal.word()), (11, 4, "no store"));
+    /// ```
+    pub fn plan(&mut self, sheet: &Sheet) -> Result<Bundle, Refusal> {
+        let words = &mut self.words;
+        let bytes = filled(&mut self.bytes, |out| raw::plan(sheet.bytes(), words, out))?;
+        let bytes = bytes.to_vec();
+        self.read_bundle(sheet, &bytes)
+    }
+
+    /// The lines of a sheet's plan, or of its refusal.
+    ///
+    /// ```
+    /// # use zeldrupa::WorkArea;
+    /// let mut work = WorkArea::new();
+    /// let listing = work.listing(include_bytes!("../../../examples/k1.sheet"));
+    /// assert_eq!(listing, "PLAN 2 5\n0 1 0 1\n1 0 2 5\n2 1 3 5\n3 0 0 2\n");
+    /// assert_eq!(work.listing([]), "REFUSED 1 0\n");
+    /// ```
+    pub fn listing(&mut self, sheet: impl AsRef<[u8]>) -> String {
+        let words = &mut self.words;
+        let listing = filled(&mut self.bytes, |out| raw::listing(sheet.as_ref(), words, out));
+        let listing = listing.expect("every other refusal is a listing").to_vec();
+        String::from_utf8(listing).expect("a listing is text")
+    }
+
+    /// Reads a programme bundle for a sheet (21 to 25).
+    pub fn read_bundle(&mut self, sheet: &Sheet, bytes: &[u8]) -> Result<Bundle, Refusal> {
+        let (words, mut claim) = (&mut self.words, 0);
+        let values = filled(&mut self.commands, |out| {
+            raw::read_bundle(sheet.bytes(), bytes, words, out, &mut claim)
+        })?;
+        Ok(Bundle { bytes: bytes.to_vec(), programmes: from_values(values), claim })
+    }
+
+    /// Writes the bundle of these programmes for a sheet, refused as its bytes would be (21 to 25).
+    ///
+    /// ```
+    /// use zeldrupa::{Command, WorkArea};
+    ///
+    /// # fn main() -> Result<(), zeldrupa::Refusal> {
+    /// let mut work = WorkArea::new();
+    /// let sheet = work.read_sheet(include_bytes!("../../../examples/k5.sheet"))?;
+    /// let programmes = [vec![0, 1], vec![2, 3, 4]]
+    ///     .map(|tasks| tasks.into_iter().map(Command::Run).collect::<Vec<_>>());
+    /// let bundle = work.write_bundle(&sheet, &programmes, 3)?;
+    /// assert_eq!(bundle.bytes(), include_bytes!("../../../examples/k5.bundle"));
+    /// work.check(&sheet, &bundle)
+    /// # }
+    /// ```
+    pub fn write_bundle(
+        &mut self,
+        sheet: &Sheet,
+        programmes: &[Vec<Command>],
+        claim: u32,
+    ) -> Result<Bundle, Refusal> {
+        let (words, values) = (&mut self.words, to_values(programmes));
+        let bytes = filled(&mut self.bytes, |out| {
+            raw::write_bundle(sheet.bytes(), &values, claim, words, out)
+        })?;
+        Ok(Bundle { bytes: bytes.to_vec(), programmes: programmes.to_vec(), claim })
+    }
+
+    /// Checks a bundle for a sheet, each a value or any bytes (1 to 10, 21 to 30).
+    pub fn check(
+        &mut self,
+        sheet: impl AsRef<[u8]>,
+        bundle: impl AsRef<[u8]>,
+    ) -> Result<(), Refusal> {
+        Refusal::of(raw::check(sheet.as_ref(), bundle.as_ref(), &mut self.words)).map(|_| ())
+    }
+
+    /// Starts the machine: every programme at its first command, clocks and stores in use 0, nothing
+    /// sent (26 to 28).
+    pub fn start<'a>(
+        &mut self,
+        sheet: &'a Sheet,
+        bundle: &'a Bundle,
+    ) -> Result<Machine<'a>, Refusal> {
+        Machine::start(&mut self.words, sheet, bundle)
+    }
+
+    /// The words to lend.
+    pub(crate) fn words(&mut self) -> &mut [u32] {
+        &mut self.words
+    }
+}
+
+impl Default for WorkArea {
+    fn default() -> Self {
+        Self::new()
+    }
+}
+
+/// The result of a call that writes to a lent buffer, made as long as the call says that it needs.
+fn filled<T: Copy + Default>(
+    buffer: &mut Vec<T>,
+    mut call: impl FnMut(&mut [T]) -> raw::Answer,
+) -> Result<&[T], Refusal> {
+    let mut answer = call(buffer);
+    if answer.0 == SHORT_OUTPUT {
+        buffer.resize(usize::try_from(answer.1).expect("a length"), T::default());
+        answer = call(buffer);
+    }
+    let length = Refusal::of(answer)?;
+    Ok(&buffer[..length as usize])
+}

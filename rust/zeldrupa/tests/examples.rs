@@ -1,0 +1,94 @@
+//! The example files through the types of this crate.
+
+use std::collections::BTreeMap;
+use std::fs;
+use zeldrupa::{Machine, Refusal, Sheet, WorkArea};
+
+/// The example files by name, the figures among them.
+fn files() -> BTreeMap<String, Vec<u8>> {
+    let root = concat!(env!("CARGO_MANIFEST_DIR"), "/../../examples");
+    let folders = [root.to_string(), format!("{root}/figures")];
+    let entries = folders.iter().flat_map(|folder| fs::read_dir(folder).unwrap());
+    let paths = entries.map(|entry| entry.unwrap().path()).filter(|path| path.is_file());
+    paths
+        .map(|path| (path.file_name().unwrap().to_str().unwrap().into(), fs::read(&path).unwrap()))
+        .collect()
+}
+
+fn number_and_place<T>(answer: Result<T, Refusal>) -> Option<(u8, u64)> {
+    answer.err().map(|refusal| (refusal.number(), refusal.place()))
+}
+
+/// Chooses each processor in turn until nobody can step.
+fn run_out(machine: &mut Machine) {
+    let programmes = machine.processors().count() as u64;
+    while (0..programmes).filter(|&k| machine.step(k)).count() > 0 {}
+}
+
+fn valid_sheets(work: &mut WorkArea) -> Vec<(String, Sheet)> {
+    let files = files().into_iter().filter(|(name, _)| name.ends_with(".sheet"));
+    let sheets = files.filter_map(|(name, bytes)| Some((name, work.read_sheet(&bytes).ok()?)));
+    sheets.collect()
+}
+
+#[test]
+fn what_is_written_is_what_was_read() {
+    let mut work = WorkArea::new();
+    let sheets = valid_sheets(&mut work);
+    assert!(sheets.len() >= 20);
+    for (name, sheet) in sheets {
+        let again =
+            work.write_sheet(sheet.processors(), sheet.limit(), sheet.tasks(), sheet.links());
+        assert_eq!(again.as_ref(), Ok(&sheet), "{name}");
+        let Ok(bundle) = work.plan(&sheet) else { continue };
+        let again = work.write_bundle(&sheet, bundle.programmes(), bundle.claim());
+        assert_eq!(again.as_ref(), Ok(&bundle), "{name}");
+    }
+}
+
+#[test]
+fn plans_are_accepted_and_run_to_their_claims() {
+    let (mut work, files) = (WorkArea::new(), files());
+    for (name, sheet) in valid_sheets(&mut work) {
+        let Ok(bundle) = work.plan(&sheet) else {
+            assert_eq!(work.listing(&sheet), "REFUSED 11 4\n", "{name}");
+            continue;
+        };
+        // The bundles of K5, K6 and the figure are by hand.
+        if ["k1", "k2", "k3", "k4"].iter().any(|trial| name.starts_with(trial)) {
+            assert_eq!(bundle.bytes(), files[&name.replace(".sheet", ".bundle")], "{name}");
+        }
+        assert_eq!(work.check(&sheet, &bundle), Ok(()), "{name}");
+        let mut machine = work.start(&sheet, &bundle).unwrap();
+        run_out(&mut machine);
+        assert_eq!((machine.left(), machine.latest_clock()), (0, bundle.claim()), "{name}");
+    }
+}
+
+#[test]
+fn refusals_have_number_place_and_word() {
+    let (mut work, files) = (WorkArea::new(), files());
+    let k1 = &files["k1.sheet"];
+    let loops = work.read_sheet(&files["k8-circle.sheet"]).unwrap_err();
+    assert_eq!((loops.number(), loops.place(), loops.word()), (10, 1, "loop"));
+    assert_eq!(number_and_place(work.read_sheet(&k1[..47])), Some((1, 47)));
+    let claim = work.check(k1, &files["k7.bundle"]).unwrap_err();
+    assert_eq!(claim.to_string(), "refused: wrong claim (30), place 5");
+    assert_eq!(number_and_place(work.check(k1, [])), Some((21, 0)));
+    let sheet = work.read_sheet(k1).unwrap();
+    assert_eq!(number_and_place(work.read_bundle(&sheet, &[0x50, 1])), Some((23, 0)));
+    let seventeen = vec![Vec::new(); 17];
+    assert_eq!(number_and_place(work.write_bundle(&sheet, &seventeen, 0)), Some((23, 6)));
+}
+
+#[test]
+fn a_stuck_bundle_starts_and_stops() {
+    let (mut work, files) = (WorkArea::new(), files());
+    let sheet = work.read_sheet(&files["k6.sheet"]).unwrap();
+    let bundle = work.read_bundle(&sheet, &files["k6.bundle"]).unwrap();
+    assert_eq!(number_and_place(work.check(&sheet, &bundle)), Some((29, 0)));
+    let mut machine = work.start(&sheet, &bundle).unwrap();
+    run_out(&mut machine);
+    assert_eq!((machine.left(), machine.stamp(0), machine.processor(2)), (8, None, None));
+    assert_eq!(machine.run(&mut work, &[0, 1, 255]), 0);
+}
