@@ -39,6 +39,11 @@ mod refusal;
 mod sheet;
 mod work_area;
 
+/// The example of the repository's README.md, as a test.
+#[cfg(doctest)]
+#[doc = include_str!("../../../README.md")]
+struct Readme;
+
 pub use bundle::{Bundle, Command};
 pub use machine::{Machine, Processor};
 pub use refusal::Refusal;

@@ -1,0 +1,120 @@
+/* The functions of the static library libzeldrupa.a: planner, checker and stepping machine.
+ *
+ * docs/INTERFACE.md has each of them in full. Of all of them it holds that:
+ * - A slice is a pointer and then its length in elements. The memory has to be valid, no two lent parts may
+ *   overlap, and no pointer may be null. Any bytes, values and lengths are safe.
+ * - A work area, and the area of a machine's state, has at least ZELDRUPA_WORK_LENGTH words. What a work area
+ *   holds before does not matter; it is all zero afterwards.
+ * - The result is 0, or the number of a refusal, which changes no output and no state. *place receives the
+ *   length of the result, or the refusal's place.
+ */
+#ifndef ZELDRUPA_H
+#define ZELDRUPA_H
+
+#include <stddef.h>
+#include <stdint.h>
+
+#ifdef __cplusplus
+extern "C" {
+#endif
+
+/* The fixed length of work areas and states, in words of 32 bits. */
+#define ZELDRUPA_WORK_LENGTH 22528
+
+/* The numbers of the refusals; the place is an offset where nothing else is said. */
+enum zeldrupa_refusal {
+    ZELDRUPA_CUT_SHEET = 1,
+    ZELDRUPA_STRANGE_IN_SHEET = 2,
+    ZELDRUPA_SHEET_OUT_OF_TURN = 3,
+    ZELDRUPA_SHEET_TAIL = 4,
+    ZELDRUPA_OVER_FULL = 5,
+    ZELDRUPA_RANGE = 6,
+    ZELDRUPA_LOOSE_LINK = 7,
+    ZELDRUPA_DOUBLED_LINK = 8,
+    ZELDRUPA_BARE_SHEET = 9,
+    ZELDRUPA_LOOP = 10,            /* the lowest task on a circle */
+    ZELDRUPA_NO_STORE = 11,        /* that task */
+    ZELDRUPA_SHORT_OUTPUT = 12,    /* the length needed */
+    ZELDRUPA_SHORT_WORK_AREA = 13, /* ZELDRUPA_WORK_LENGTH */
+    ZELDRUPA_CUT_BUNDLE = 21,
+    ZELDRUPA_STRANGE_IN_BUNDLE = 22,
+    ZELDRUPA_BUNDLE_OUT_OF_TURN = 23,
+    ZELDRUPA_BUNDLE_TAIL = 24,
+    ZELDRUPA_UNKNOWN_NUMBER = 25,
+    ZELDRUPA_RUN_COUNT = 26,       /* the lowest task */
+    ZELDRUPA_MESSAGE = 27,         /* the lowest link */
+    ZELDRUPA_OVER_STORE = 28,      /* the lowest processor */
+    ZELDRUPA_STUCK = 29,           /* the lowest unfinished processor */
+    ZELDRUPA_WRONG_CLAIM = 30      /* the latest clock */
+};
+
+/* Reads a sheet: two values a task (work, store), four a link (source, target, cost, bytes), and the board
+ * (processors, store limit, number of tasks, number of links). *place is 0. */
+uint8_t zeldrupa_read_sheet(const uint8_t *sheet, size_t sheet_length, uint32_t *work, size_t work_length,
+                            uint16_t *tasks, size_t tasks_length, uint16_t *links, size_t links_length,
+                            uint32_t board[4], uint64_t *place);
+
+/* Writes the sheet of such values. *place is the number of bytes. */
+uint8_t zeldrupa_write_sheet(uint8_t processors, uint32_t limit, const uint16_t *tasks, size_t tasks_length,
+                             const uint16_t *links, size_t links_length, uint32_t *work, size_t work_length,
+                             uint8_t *out, size_t out_length, uint64_t *place);
+
+/* Writes the b-level of each task. *place is the number of tasks. */
+uint8_t zeldrupa_levels(const uint8_t *sheet, size_t sheet_length, uint32_t *work, size_t work_length,
+                        uint32_t *out, size_t out_length, uint64_t *place);
+
+/* Reads a bundle for a sheet: two values a command (its byte, its operand), and the claim. *place is the
+ * number of values. */
+uint8_t zeldrupa_read_bundle(const uint8_t *sheet, size_t sheet_length, const uint8_t *bundle,
+                             size_t bundle_length, uint32_t *work, size_t work_length, uint16_t *commands,
+                             size_t commands_length, uint32_t *claim, uint64_t *place);
+
+/* Writes the bundle of such values. *place is the number of bytes. */
+uint8_t zeldrupa_write_bundle(const uint8_t *sheet, size_t sheet_length, const uint16_t *commands,
+                              size_t commands_length, uint32_t claim, uint32_t *work, size_t work_length,
+                              uint8_t *out, size_t out_length, uint64_t *place);
+
+/* Checks a bundle for a sheet: 0 if it is accepted. */
+uint8_t zeldrupa_check(const uint8_t *sheet, size_t sheet_length, const uint8_t *bundle, size_t bundle_length,
+                       uint32_t *work, size_t work_length, uint64_t *place);
+
+/* Plans a sheet and writes the bundle, which zeldrupa_check accepts. *place is the number of bytes. */
+uint8_t zeldrupa_plan(const uint8_t *sheet, size_t sheet_length, uint32_t *work, size_t work_length,
+                      uint8_t *out, size_t out_length, uint64_t *place);
+
+/* Writes the listing of a sheet's plan, or of its refusal. *place is the number of bytes. */
+uint8_t zeldrupa_listing(const uint8_t *sheet, size_t sheet_length, uint32_t *work, size_t work_length,
+                         uint8_t *out, size_t out_length, uint64_t *place);
+
+/* Starts the machine, whose state is kept in `state` from then on: lend it to the calls below, with the same
+ * sheet and bundle, and let nobody else write it. *place is 0. */
+uint8_t zeldrupa_start(const uint8_t *sheet, size_t sheet_length, const uint8_t *bundle, size_t bundle_length,
+                       uint32_t *work, size_t work_length, uint32_t *state, size_t state_length,
+                       uint64_t *place);
+
+/* Does one command of the chosen processor. *place is 1 if it stepped, 0 if it could not or names no
+ * programme. */
+uint8_t zeldrupa_step(const uint8_t *sheet, size_t sheet_length, const uint8_t *bundle, size_t bundle_length,
+                      uint32_t *state, size_t state_length, uint64_t choice, uint64_t *place);
+
+/* Starts the machine and makes these choices. *place is how many of them stepped. */
+uint8_t zeldrupa_run(const uint8_t *sheet, size_t sheet_length, const uint8_t *bundle, size_t bundle_length,
+                     const uint8_t *choices, size_t choices_length, uint32_t *work, size_t work_length,
+                     uint32_t *state, size_t state_length, uint64_t *place);
+
+/* *place is the number of commands still to do. */
+uint8_t zeldrupa_left(const uint8_t *bundle, size_t bundle_length, const uint32_t *state, size_t state_length,
+                      uint64_t *place);
+
+/* Gives clock, position and store in use of processor k, each 0 where it has no programme. *place is 0. */
+uint8_t zeldrupa_processor(const uint8_t *bundle, size_t bundle_length, const uint32_t *state,
+                           size_t state_length, uint64_t k, uint32_t processor[3], uint64_t *place);
+
+/* *place is one more than the stamp of the link's message, or 0 while it is not sent. */
+uint8_t zeldrupa_stamp(const uint32_t *state, size_t state_length, uint64_t link, uint64_t *place);
+
+#ifdef __cplusplus
+}
+#endif
+
+#endif

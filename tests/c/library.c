@@ -1,0 +1,133 @@
+/* The library from C: each of its functions on the trial sheet K1, and refusals with number and place. */
+
+#include <stdio.h>
+#include <string.h>
+
+#include "zeldrupa.h"
+
+static uint32_t work[ZELDRUPA_WORK_LENGTH];
+static uint32_t state[ZELDRUPA_WORK_LENGTH];
+static uint8_t sheet[8512];
+static uint8_t bundle[8192];
+static size_t sheet_length;
+static size_t bundle_length;
+static int failures;
+
+#define WORK work, ZELDRUPA_WORK_LENGTH
+#define STATE state, ZELDRUPA_WORK_LENGTH
+#define SHEET sheet, sheet_length
+#define BUNDLE bundle, bundle_length
+#define LENT(values) values, sizeof(values) / sizeof((values)[0])
+
+static void expect(int holds, const char *what)
+{
+    if (!holds) {
+        printf("%s\n", what);
+        failures++;
+    }
+}
+
+#define EXPECT(holds) expect(holds, #holds)
+
+/* An answer's number and place are these. */
+#define ANSWERS(call, number, the_place)                                                            \
+    do {                                                                                            \
+        uint64_t place = UINT64_MAX;                                                                \
+        uint8_t answer = (call);                                                                    \
+        if (answer != (number) || place != (the_place)) {                                           \
+            printf("%s: %u, place %llu\n", #call, answer, (unsigned long long)place);               \
+            failures++;                                                                             \
+        }                                                                                           \
+    } while (0)
+
+static size_t read_file(const char *folder, const char *name, uint8_t *bytes, size_t most)
+{
+    char path[1024];
+    snprintf(path, sizeof path, "%s/%s", folder, name);
+    FILE *file = fopen(path, "rb");
+    if (file == NULL) {
+        perror(path);
+        failures++;
+        return 0;
+    }
+    size_t length = fread(bytes, 1, most, file);
+    fclose(file);
+    return length;
+}
+
+static void formats(void)
+{
+    static uint16_t tasks[512], links[4096], commands[4096];
+    uint32_t board[4], levels[256], claim;
+    uint8_t out[8512];
+    ANSWERS(zeldrupa_read_sheet(SHEET, WORK, LENT(tasks), LENT(links), board, &place), 0, 0);
+    EXPECT(board[0] == 3 && board[1] == 100 && board[2] == 4 && board[3] == 3);
+    EXPECT(tasks[2] == 3 && tasks[3] == 10 && links[4] == 3 && links[5] == 1 && links[6] == 2 && links[7] == 4);
+    ANSWERS(zeldrupa_write_sheet(3, 100, tasks, 8, links, 12, WORK, LENT(out), &place), 0, 48);
+    EXPECT(memcmp(out, sheet, 48) == 0);
+    ANSWERS(zeldrupa_levels(SHEET, WORK, LENT(levels), &place), 0, 4);
+    EXPECT(levels[0] == 5 && levels[1] == 3 && levels[2] == 2 && levels[3] == 7);
+    ANSWERS(zeldrupa_read_bundle(SHEET, BUNDLE, WORK, LENT(commands), &claim, &place), 0, 20);
+    EXPECT(claim == 5 && commands[0] == 0x50 && commands[1] == 0 && commands[2] == 0x52 && commands[3] == 3);
+    ANSWERS(zeldrupa_write_bundle(SHEET, commands, 20, claim, WORK, LENT(out), &place), 0, 29);
+    EXPECT(memcmp(out, bundle, 29) == 0);
+}
+
+static void planner(void)
+{
+    static const char lines[] = "PLAN 2 5\n0 1 0 1\n1 0 2 5\n2 1 3 5\n3 0 0 2\n";
+    uint8_t out[8192];
+    memset(out, 0xAA, sizeof out);
+    ANSWERS(zeldrupa_plan(SHEET, WORK, LENT(out), &place), 0, bundle_length);
+    EXPECT(memcmp(out, bundle, bundle_length) == 0 && out[bundle_length] == 0xAA);
+    ANSWERS(zeldrupa_check(SHEET, BUNDLE, WORK, &place), 0, 0);
+    ANSWERS(zeldrupa_listing(SHEET, WORK, LENT(out), &place), 0, sizeof lines - 1);
+    EXPECT(memcmp(out, lines, sizeof lines - 1) == 0);
+}
+
+static void machine(void)
+{
+    static const uint8_t choices[] = {1, 1, 0, 0, 0, 0, 1, 1, 1, 255};
+    uint32_t processor[3];
+    ANSWERS(zeldrupa_start(SHEET, BUNDLE, WORK, STATE, &place), 0, 0);
+    ANSWERS(zeldrupa_left(BUNDLE, STATE, &place), 0, 8);
+    ANSWERS(zeldrupa_stamp(STATE, 2, &place), 0, 0);
+    for (size_t i = 0; i < 8; i++) {
+        ANSWERS(zeldrupa_step(SHEET, BUNDLE, STATE, choices[i], &place), 0, 1);
+    }
+    ANSWERS(zeldrupa_step(SHEET, BUNDLE, STATE, 1, &place), 0, 0);
+    ANSWERS(zeldrupa_left(BUNDLE, STATE, &place), 0, 0);
+    ANSWERS(zeldrupa_processor(BUNDLE, STATE, 1, processor, &place), 0, 0);
+    EXPECT(processor[0] == 5 && processor[1] == 4 && processor[2] == 24);
+    ANSWERS(zeldrupa_stamp(STATE, 2, &place), 0, 3);
+    ANSWERS(zeldrupa_run(SHEET, BUNDLE, LENT(choices), WORK, STATE, &place), 0, 8);
+    ANSWERS(zeldrupa_left(BUNDLE, STATE, &place), 0, 0);
+}
+
+static void refusals(void)
+{
+    uint8_t out[64], claiming_6[64];
+    memcpy(claiming_6, bundle, bundle_length);
+    claiming_6[25] = 6;
+    ANSWERS(zeldrupa_check(SHEET, claiming_6, bundle_length, WORK, &place), ZELDRUPA_WRONG_CLAIM, 5);
+    ANSWERS(zeldrupa_plan(sheet, 47, WORK, LENT(out), &place), ZELDRUPA_CUT_SHEET, 47);
+    ANSWERS(zeldrupa_plan(SHEET, WORK, out, 28, &place), ZELDRUPA_SHORT_OUTPUT, 29);
+    ANSWERS(zeldrupa_plan(SHEET, work, ZELDRUPA_WORK_LENGTH - 1, LENT(out), &place), ZELDRUPA_SHORT_WORK_AREA,
+            ZELDRUPA_WORK_LENGTH);
+}
+
+int main(int count, char **arguments)
+{
+    const char *folder = count > 1 ? arguments[1] : "examples";
+    sheet_length = read_file(folder, "k1.sheet", sheet, sizeof sheet);
+    bundle_length = read_file(folder, "k1.bundle", bundle, sizeof bundle);
+    EXPECT(sheet_length == 48 && bundle_length == 29);
+    if (failures == 0) {
+        formats();
+        planner();
+        machine();
+        refusals();
+    }
+    printf("C: %d failures\n", failures);
+    return failures != 0;
+}
