@@ -20,11 +20,11 @@ pub fn check(sheet: &Sheet, bundle: &[u8]) -> Result<(), Refusal> {
 
 /// Steps until nobody can: each processor as far as it goes, and again when its message is sent.
 fn run_out(machine: &mut Machine, links: usize) {
-    let mut waiting = vec![None; links];
-    let mut able: Vec<usize> = (0..machine.processors().len()).rev().collect();
+    let mut waiting: Vec<Option<u8>> = vec![None; links];
+    let mut able: Vec<u8> = (0..machine.processors().len() as u8).rev().collect();
     while let Some(processor) = able.pop() {
         loop {
-            match machine.step(processor as u64) {
+            match machine.step(processor.into()) {
                 Step::Ran(_) | Step::Received(_) => (),
                 Step::Sent(link) => able.extend(waiting[usize::from(link)].take()),
                 Step::Waits(link) => {

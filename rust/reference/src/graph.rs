@@ -14,7 +14,7 @@ pub struct Graph {
 impl Graph {
     /// The graph of these links over this many tasks (10).
     pub fn new(tasks: usize, links: &[Link]) -> Result<Graph, Refusal> {
-        let outgoing = Lists::new(links, |link| link.source);
+        let outgoing = Lists::new(tasks, links, |link| link.source);
 
         // Each task is taken once all its predecessors are; those that stay lie on a circle or behind one.
         let mut missing = counts(links, |link| link.target);
@@ -89,21 +89,21 @@ pub fn counts(links: &[Link], end: impl Fn(&Link) -> u8) -> [u16; MOST_TASKS] {
 #[derive(Clone, Debug)]
 pub struct Lists {
     /// Where the list of each task starts, and where the last one ends.
-    starts: [u16; MOST_TASKS + 1],
+    starts: Vec<u16>,
     links: Vec<u16>,
 }
 
 impl Lists {
     /// The links by the task at one of their ends, each list in rising number.
-    pub fn new(links: &[Link], end: impl Fn(&Link) -> u8) -> Lists {
+    pub fn new(tasks: usize, links: &[Link], end: impl Fn(&Link) -> u8) -> Lists {
         let mut nexts = counts(links, &end);
-        let mut starts = [0; MOST_TASKS + 1];
+        let mut starts = Vec::with_capacity(tasks + 1);
         let mut sum = 0;
-        for (start, next) in starts.iter_mut().zip(&mut nexts) {
-            *start = sum;
+        for next in &mut nexts[..tasks] {
+            starts.push(sum);
             sum += mem::replace(next, sum);
         }
-        starts[MOST_TASKS] = sum;
+        starts.push(sum);
         let mut table = vec![0; links.len()];
         for (number, link) in (0u16..).zip(links) {
             let next = &mut nexts[usize::from(end(link))];

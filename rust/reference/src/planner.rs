@@ -61,7 +61,7 @@ pub fn plan_with(sheet: &Sheet, see: impl FnMut(Turn)) -> Result<Plan, Refusal> 
 impl Plan {
     /// The bundle of the plan.
     pub fn to_bundle(&self, sheet: &Sheet) -> Vec<u8> {
-        let incoming = Lists::new(&sheet.links, |link| link.target);
+        let incoming = Lists::new(sheet.tasks.len(), &sheet.links, |link| link.target);
         let mut bundle = Writer::new(sheet, self.programmes.len());
         for (number, programme) in (0..).zip(&self.programmes) {
             bundle.put([OPEN, number, 0], 2);
@@ -314,8 +314,6 @@ struct Inputs {
     missing: u16,
     /// The processors that hold a placed one.
     holders: ProcessorSet,
-    /// The latest finish on each processor.
-    finish_on: Row,
     bytes_from: Row,
     bytes: u32,
     /// The latest message, its processor, and the latest message from any other.
@@ -329,7 +327,6 @@ impl Inputs {
     fn add(&mut self, k: usize, finish: u32, cost: u32, bytes: u32) {
         self.missing -= 1;
         self.holders.insert(k);
-        self.finish_on[k] = self.finish_on[k].max(finish);
         self.bytes_from[k] += bytes;
         self.bytes += bytes;
         let message = finish + cost;
@@ -341,10 +338,11 @@ impl Inputs {
         }
     }
 
-    /// The start on processor k, by its end and the placed predecessors.
+    /// The start on processor k, by its end and the placed predecessors; those on k have finished
+    /// by its end.
     fn start(&self, k: usize, end: u32) -> u32 {
         let message = if k == self.arrival_from { self.other_arrival } else { self.arrival };
-        end.max(self.finish_on[k]).max(message)
+        end.max(message)
     }
 }
 
