@@ -6,6 +6,7 @@ use crate::timing::Job;
 use reference::machine::Machine;
 use reference::sheet::Sheet;
 use std::hint::black_box;
+use std::ops::Range;
 use std::time::{Duration, Instant};
 use zeldrupa::raw as product;
 
@@ -14,12 +15,13 @@ const LEAST_STEPS: usize = 256;
 
 /// How many machines each input of a case gets.
 fn machines(case: &Case) -> usize {
-    LEAST_STEPS.div_ceil(steps(case))
+    let steps: usize = case.inputs.iter().map(|input| input.choices.len()).sum();
+    LEAST_STEPS.div_ceil(steps)
 }
 
-/// The steps of all runs of a case.
-fn steps(case: &Case) -> usize {
-    case.inputs.iter().map(|input| input.choices.len()).sum()
+/// The machines of these inputs, of which each has so many.
+fn of(inputs: Range<usize>, count: usize) -> Range<usize> {
+    inputs.start * count..inputs.end * count
 }
 
 /// Times the rounds one by one, since each needs fresh machines.
@@ -31,8 +33,8 @@ fn time(rounds: usize, mut round: impl FnMut() -> Duration) -> Duration {
 struct ProductMachine<'a> {
     input: &'a Input,
     state: Vec<u32>,
-    /// The words that a run to its end changes, as they are in the fresh state. To put them back is
-    /// as good as a start, and leaves caches as a start of a small area would.
+    /// The words that a run to its end changes, as they are in the fresh state: to put them back is a
+    /// start that leaves the caches alone.
     fresh: Vec<(usize, u32)>,
 }
 
@@ -66,7 +68,8 @@ impl<'a> ProductMachine<'a> {
 /// The product's machines of a case.
 pub struct ProductSteps<'a> {
     machines: Vec<ProductMachine<'a>>,
-    calls: usize,
+    /// How many of them each input has.
+    count: usize,
 }
 
 impl<'a> ProductSteps<'a> {
@@ -74,20 +77,25 @@ impl<'a> ProductSteps<'a> {
         let count = machines(case);
         let inputs = case.inputs.iter().flat_map(|input| vec![input; count]);
         let machines = inputs.map(ProductMachine::new).collect();
-        ProductSteps { machines, calls: count * steps(case) }
+        ProductSteps { machines, count }
     }
 }
 
 impl Job for ProductSteps<'_> {
-    fn calls(&self) -> usize {
-        self.calls
+    fn inputs(&self) -> usize {
+        self.machines.len() / self.count
     }
 
-    fn time(&mut self, rounds: usize) -> Duration {
+    fn calls(&self, inputs: Range<usize>) -> usize {
+        self.machines[of(inputs, self.count)].iter().map(|m| m.input.choices.len()).sum()
+    }
+
+    fn time(&mut self, inputs: Range<usize>, rounds: usize) -> Duration {
+        let machines = &mut self.machines[of(inputs, self.count)];
         time(rounds, || {
-            self.machines.iter_mut().for_each(ProductMachine::restart);
+            machines.iter_mut().for_each(ProductMachine::restart);
             let start = Instant::now();
-            self.machines.iter_mut().for_each(ProductMachine::run);
+            machines.iter_mut().for_each(ProductMachine::run);
             start.elapsed()
         })
     }
@@ -123,7 +131,8 @@ impl<'a> RewriteMachine<'a> {
 /// The rewrite's machines of a case.
 pub struct RewriteSteps<'a> {
     machines: Vec<RewriteMachine<'a>>,
-    calls: usize,
+    /// How many of them each input has.
+    count: usize,
 }
 
 impl<'a> RewriteSteps<'a> {
@@ -131,20 +140,25 @@ impl<'a> RewriteSteps<'a> {
         let count = machines(case);
         let inputs = case.inputs.iter().zip(sheets).flat_map(|pair| vec![pair; count]);
         let machines = inputs.map(|(input, sheet)| RewriteMachine::new(input, sheet)).collect();
-        RewriteSteps { machines, calls: count * steps(case) }
+        RewriteSteps { machines, count }
     }
 }
 
 impl Job for RewriteSteps<'_> {
-    fn calls(&self) -> usize {
-        self.calls
+    fn inputs(&self) -> usize {
+        self.machines.len() / self.count
     }
 
-    fn time(&mut self, rounds: usize) -> Duration {
+    fn calls(&self, inputs: Range<usize>) -> usize {
+        self.machines[of(inputs, self.count)].iter().map(|m| m.input.choices.len()).sum()
+    }
+
+    fn time(&mut self, inputs: Range<usize>, rounds: usize) -> Duration {
+        let machines = &mut self.machines[of(inputs, self.count)];
         time(rounds, || {
-            self.machines.iter_mut().for_each(RewriteMachine::restart);
+            machines.iter_mut().for_each(RewriteMachine::restart);
             let start = Instant::now();
-            self.machines.iter_mut().for_each(RewriteMachine::run);
+            machines.iter_mut().for_each(RewriteMachine::run);
             start.elapsed()
         })
     }
