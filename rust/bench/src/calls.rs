@@ -1,7 +1,7 @@
 //! Each call of the product beside the rewrite's, from bytes to lent buffers that are made once.
 
 use crate::cases::{Case, Input, MOST_BYTES};
-use crate::steps::{ProductSteps, RewriteSteps};
+use crate::steps::{product_steps, rewrite_steps};
 use crate::timing::{in_turns, Calls, Pair};
 use reference::interface;
 use reference::machine::Machine;
@@ -75,7 +75,7 @@ pub fn check(case: &Case) -> Pair {
 fn one_step(case: &Case) -> Pair {
     let sheets: Vec<Sheet> =
         case.inputs.iter().map(|i| Sheet::read(&i.sheet).expect("a valid sheet")).collect();
-    in_turns(ProductSteps::new(case), RewriteSteps::new(case, &sheets))
+    in_turns(product_steps(case), rewrite_steps(case, &sheets))
 }
 
 fn listing(case: &Case) -> Pair {

@@ -13,6 +13,14 @@ use std::process::ExitCode;
 use std::{env, fs};
 use timing::Pair;
 
+/// How it is measured.
+const HEAD: &str = "\
+Microseconds a call, bytes to bytes; ratio of the medians, product to rewrite.
+The largest sheets have 256 tasks, 1,024 links and 16 processors, the typical ones 40, 80 and 8.
+Lent buffers are made once, outside the timing, and not cleared between calls. Within the times are
+that the product clears its work area in each call, and that the rewrite allocates its tables.
+";
+
 fn main() -> ExitCode {
     match env::args().nth(1).as_deref() {
         None => all_calls(),
@@ -28,10 +36,7 @@ fn main() -> ExitCode {
 /// A row for each case and call, and again those in which the product is slower.
 fn all_calls() {
     println!("Product and rewrite on {}, both built for release, in turns.", processor());
-    println!("Microseconds a call, bytes to bytes; ratio of the medians, product to rewrite.");
-    println!("The largest sheets have 256 tasks, 1,024 links and 16 processors, the typical ones 40, 80 and 8.");
-    println!("Buffers are made once, outside the timing, and not cleared between calls; that the product");
-    println!("clears its work area in each call is within its times.\n");
+    println!("{HEAD}");
     println!("{:<17}{:<10}{:>10}{:>10}{:>10}{:>10}{:>7}", "", "", "product", "", "rewrite", "", "");
     println!(
         "{:<17}{:<10}{:>10}{:>10}{:>10}{:>10}{:>7}",

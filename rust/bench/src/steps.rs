@@ -13,23 +13,72 @@ use zeldrupa::raw as product;
 /// How many steps are timed together at least: as many machines are started as this takes.
 const LEAST_STEPS: usize = 256;
 
-/// How many machines each input of a case gets.
-fn machines(case: &Case) -> usize {
-    let steps: usize = case.inputs.iter().map(|input| input.choices.len()).sum();
-    LEAST_STEPS.div_ceil(steps)
+/// The steps of the product's machines.
+pub fn product_steps(case: &Case) -> impl Job + '_ {
+    Steps::new(case, |input| ProductMachine::new(&case.inputs[input]))
 }
 
-/// The machines of these inputs, of which each has so many.
-fn of(inputs: Range<usize>, count: usize) -> Range<usize> {
-    inputs.start * count..inputs.end * count
+/// The steps of the rewrite's machines for these sheets, as it has read them.
+pub fn rewrite_steps<'a>(case: &'a Case, sheets: &'a [Sheet]) -> impl Job + 'a {
+    Steps::new(case, |input| RewriteMachine::new(&case.inputs[input], &sheets[input]))
 }
 
-/// Times the rounds one by one, since each needs fresh machines.
-fn time(rounds: usize, mut round: impl FnMut() -> Duration) -> Duration {
-    (0..rounds).map(|_| round()).sum()
+/// A machine that can be run to its end again and again.
+trait Runs {
+    /// How many steps a run has.
+    fn steps(&self) -> usize;
+
+    /// Makes the machine fresh.
+    fn restart(&mut self);
+
+    /// Makes every choice of the run, one call each.
+    fn run(&mut self);
 }
 
-/// A machine of the product.
+/// The machines of a case, as many of each input.
+struct Steps<M> {
+    machines: Vec<M>,
+    each: usize,
+}
+
+impl<M> Steps<M> {
+    /// Starts machines by the number of their input.
+    fn new(case: &Case, start: impl Fn(usize) -> M) -> Self {
+        let steps: usize = case.inputs.iter().map(|input| input.choices.len()).sum();
+        let each = LEAST_STEPS.div_ceil(steps);
+        let machines = (0..each * case.inputs.len()).map(|number| start(number / each)).collect();
+        Steps { machines, each }
+    }
+
+    /// The numbers of these inputs' machines.
+    fn of(&self, inputs: Range<usize>) -> Range<usize> {
+        inputs.start * self.each..inputs.end * self.each
+    }
+}
+
+impl<M: Runs> Job for Steps<M> {
+    fn inputs(&self) -> usize {
+        self.machines.len() / self.each
+    }
+
+    fn calls(&self, inputs: Range<usize>) -> usize {
+        self.machines[self.of(inputs)].iter().map(M::steps).sum()
+    }
+
+    fn time(&mut self, inputs: Range<usize>, rounds: usize) -> Duration {
+        let range = self.of(inputs);
+        let machines = &mut self.machines[range];
+        let mut sum = Duration::ZERO;
+        for _ in 0..rounds {
+            machines.iter_mut().for_each(M::restart);
+            let start = Instant::now();
+            machines.iter_mut().for_each(M::run);
+            sum += start.elapsed();
+        }
+        sum
+    }
+}
+
 struct ProductMachine<'a> {
     input: &'a Input,
     state: Vec<u32>,
@@ -50,6 +99,12 @@ impl<'a> ProductMachine<'a> {
         machine.fresh = words.filter(|&(at, word)| word != machine.state[at]).collect();
         machine
     }
+}
+
+impl Runs for ProductMachine<'_> {
+    fn steps(&self) -> usize {
+        self.input.choices.len()
+    }
 
     fn restart(&mut self) {
         for &(at, word) in &self.fresh {
@@ -65,43 +120,6 @@ impl<'a> ProductMachine<'a> {
     }
 }
 
-/// The product's machines of a case.
-pub struct ProductSteps<'a> {
-    machines: Vec<ProductMachine<'a>>,
-    /// How many of them each input has.
-    count: usize,
-}
-
-impl<'a> ProductSteps<'a> {
-    pub fn new(case: &'a Case) -> Self {
-        let count = machines(case);
-        let inputs = case.inputs.iter().flat_map(|input| vec![input; count]);
-        let machines = inputs.map(ProductMachine::new).collect();
-        ProductSteps { machines, count }
-    }
-}
-
-impl Job for ProductSteps<'_> {
-    fn inputs(&self) -> usize {
-        self.machines.len() / self.count
-    }
-
-    fn calls(&self, inputs: Range<usize>) -> usize {
-        self.machines[of(inputs, self.count)].iter().map(|m| m.input.choices.len()).sum()
-    }
-
-    fn time(&mut self, inputs: Range<usize>, rounds: usize) -> Duration {
-        let machines = &mut self.machines[of(inputs, self.count)];
-        time(rounds, || {
-            machines.iter_mut().for_each(ProductMachine::restart);
-            let start = Instant::now();
-            machines.iter_mut().for_each(ProductMachine::run);
-            start.elapsed()
-        })
-    }
-}
-
-/// A machine of the rewrite.
 struct RewriteMachine<'a> {
     input: &'a Input,
     machine: Machine<'a>,
@@ -116,6 +134,12 @@ impl<'a> RewriteMachine<'a> {
         assert_eq!(machine.machine.left(), 0, "the run is whole");
         machine
     }
+}
+
+impl Runs for RewriteMachine<'_> {
+    fn steps(&self) -> usize {
+        self.input.choices.len()
+    }
 
     fn restart(&mut self) {
         self.machine.clone_from(&self.fresh);
@@ -125,41 +149,5 @@ impl<'a> RewriteMachine<'a> {
         for &choice in &self.input.choices {
             black_box(self.machine.step(choice.into()));
         }
-    }
-}
-
-/// The rewrite's machines of a case.
-pub struct RewriteSteps<'a> {
-    machines: Vec<RewriteMachine<'a>>,
-    /// How many of them each input has.
-    count: usize,
-}
-
-impl<'a> RewriteSteps<'a> {
-    pub fn new(case: &'a Case, sheets: &'a [Sheet]) -> Self {
-        let count = machines(case);
-        let inputs = case.inputs.iter().zip(sheets).flat_map(|pair| vec![pair; count]);
-        let machines = inputs.map(|(input, sheet)| RewriteMachine::new(input, sheet)).collect();
-        RewriteSteps { machines, count }
-    }
-}
-
-impl Job for RewriteSteps<'_> {
-    fn inputs(&self) -> usize {
-        self.machines.len() / self.count
-    }
-
-    fn calls(&self, inputs: Range<usize>) -> usize {
-        self.machines[of(inputs, self.count)].iter().map(|m| m.input.choices.len()).sum()
-    }
-
-    fn time(&mut self, inputs: Range<usize>, rounds: usize) -> Duration {
-        let machines = &mut self.machines[of(inputs, self.count)];
-        time(rounds, || {
-            machines.iter_mut().for_each(RewriteMachine::restart);
-            let start = Instant::now();
-            machines.iter_mut().for_each(RewriteMachine::run);
-            start.elapsed()
-        })
     }
 }
