@@ -1,5 +1,6 @@
 pub mod Counts
 pub mod Reaches
+pub mod Choices
 pub mod Words
 pub mod Links
 pub mod Walks

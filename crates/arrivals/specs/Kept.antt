@@ -8,7 +8,7 @@ use lib.Dec.{eqb}
 use Rattle.folds.specs.Folds.{pick, both, sum, greatest}
 use Rattle.sheet.specs.Sheet.{Sheet, taskCount, linkCount, sourceOf, targetOf, costOf, bytesOf}
 use Rattle.sheet.specs.Tables.{sheetIn, Loaded, Ranged}
-use Rattle.planner.specs.Schedule.{Schedule, finishOf, placed, stands}
+use Rattle.planner.specs.Schedule.{Schedule, placeOf, finishOf, placed, stands}
 use Rattle.planner.specs.Placing.{endOf, storeOn}
 use Rattle.schedule.specs.Layout.{scheduleIn}
 use Rattle.chains.specs.Chains.{Chained}
@@ -81,4 +81,5 @@ pub record Kept (w : List ℕ) : Type 0 where
   pub loaded : Loaded w
   pub ranged : Ranged (sheetIn w)
   pub few-opened : scheduleIn w .opened ≤ 16
+  pub standing : (u : ℕ) → placed (scheduleIn w) u ≡ true → placeOf (scheduleIn w) u < scheduleIn w .opened
   pub caches : Caches (sheetIn w) (scheduleIn w) w

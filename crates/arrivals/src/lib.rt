@@ -2,6 +2,7 @@
 ghost use mathlib.Core.Path.{_≡_};
 ghost use Prim.Native.Nat.{ℕ, _+_, _*_, _<_, _≤_};
 ghost use lib.ListN.{getD, length};
+ghost use Rattle.folds.specs.Folds.{pick};
 ghost use Rattle.workspace.specs.Area.{fixed};
 ghost use Rattle.sheet.specs.Sheet.{taskCount, linkCount, sourceOf};
 ghost use Rattle.sheet.specs.Tables.{sheetIn, Loaded};
@@ -24,30 +25,23 @@ pub struct Reach {
     pub other: usize,
 }
 
+// One of two numbers by a test; without a branch, since it cannot be foretold.
+fn chosen(test: bool, x: usize, y: usize) -> usize
+    ensures { λ r. ⌜ r ≡ pick test x y ⌝ }
+{
+    if test { x } else { y }
+}
+
 // A reach y from k besides.
 fn reached(reach: Reach, k: usize, y: usize) -> Reach
     ensures { λ r. ⌜ r ≡ further reach k y ⌝ }
 {
-    if reach.at == k {
-        Reach {
-            at: reach.at,
-            most: if reach.most < y { y } else { reach.most },
-            other: reach.other,
-        }
-    } else {
-        if reach.most < y {
-            Reach {
-                at: k,
-                most: y,
-                other: reach.most,
-            }
-        } else {
-            Reach {
-                at: reach.at,
-                most: reach.most,
-                other: if reach.other < y { y } else { reach.other },
-            }
-        }
+    let most = reach.most;
+    let other = chosen(most < y, most, words::later(reach.other, y));
+    Reach {
+        at: chosen(most < y, k, reach.at),
+        most: words::later(most, y),
+        other: chosen(reach.at == k, reach.other, other),
     }
 }
 

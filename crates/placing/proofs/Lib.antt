@@ -1,4 +1,4 @@
-pub mod Leads
+pub mod Ranks
 pub mod Starts
 pub mod Spent
 pub mod Guards

@@ -1,7 +1,7 @@
 -- The idle test by counts: a processor is spent for t if as many links from it wait as lead from it to successors of t.
 use Prim.Native.Nat.{ℕ, zero, suc, _+_, _*_, _≤_, _<_}
 use mathlib.Core.Bool.{Bool, true, false, not, true≢false}
-use mathlib.Core.Path.{_≡_, refl, ap, sym, _∙_}
+use mathlib.Core.Path.{_≡_, refl, ap, sym, _∙_, subst}
 use mathlib.Core.Logic.{_≢_}
 use mathlib.Core.List.{List}
 use native.Mathlib.Omega.{arith}
@@ -18,8 +18,11 @@ use Rattle.planner.specs.Schedule.{Schedule, placed, stands, placeOf}
 use Rattle.planner.specs.Placing.{followsBy, follows, spentBy, spent}
 use Rattle.planner.proofs.Ready.{ready-free}
 use Rattle.schedule.specs.Layout.{scheduleIn}
-use Rattle.arrivals.specs.Kept.{countedBy, intoFrom, waits, oneBy, known, Closed, Counted, Caches}
-use Rattle.placing.specs.Choosing.{Single, Choosing, dueBy}
+use Rattle.arrivals.proofs.Links.{few-counted}
+use Rattle.arrivals.specs.Kept.{countedBy, into, intoFrom, waits, oneBy, known, Closed, Counted, Caches}
+use Rattle.placing.specs.Choosing.{Single, Choosing, knownInto, dueBy, OnBoard}
+use Rattle.placing.specs.declared.Senders.{Senders}
+use Rattle.placing.specs.declared.Senders.the-variants.{One, All}
 
 -- at most one i below n has p: the number of those with p is 1 or 0
 sum-single : (n : ℕ) (p : ℕ → Bool) → ((i j : ℕ) → i < n → j < n → p i ≡ true → p j ≡ true → i ≡ j) → sum n (λ i. pick (p i) 1 0) ≡ pick (any n p) 1 0
@@ -97,10 +100,10 @@ module _ (s : Sheet) (σ : Schedule) (t k : ℕ) (k-in : k < 16) (free : placed 
   abbrev followed : ℕ → ℕ
   followed l = pick (both (stands σ (sourceOf s l) k) (follows s (targetOf s l) t)) 1 0
 
-  due-is : sum (linkCount s) (dueBy s σ t k) ≡ sum (linkCount s) followed
-  unfolding dueBy
+  due-is : sum (linkCount s) (dueBy s σ t (One k)) ≡ sum (linkCount s) followed
+  unfolding dueBy knownInto
   due-is =
-      sum-cong (linkCount s) (dueBy s σ t k) (λ i. sum (linkCount s) (λ l. part i l)) (λ i h. spread (eqb (sourceOf s i) t) (linkCount s) (countedBy (intoFrom s σ (targetOf s i) k) oneBy (known s σ)))
+      sum-cong (linkCount s) (dueBy s σ t (One k)) (λ i. sum (linkCount s) (λ l. part i l)) (λ i h. spread (eqb (sourceOf s i) t) (linkCount s) (countedBy (intoFrom s σ (targetOf s i) k) oneBy (known s σ)))
       ∙ sum-swap (linkCount s) (linkCount s) (λ i l. part i l)
       ∙ sum-cong (linkCount s) (λ l. sum (linkCount s) (λ i. part i l)) followed (λ l h. column l (stands σ (sourceOf s l) k) refl)
 
@@ -140,13 +143,30 @@ module _ (s : Sheet) (σ : Schedule) (t k : ℕ) (k-in : k < 16) (free : placed 
       go true true true d h g = absurd (true≢false (h refl))
       go true false f false h g = absurd (true≢false (sym (g refl)))
 
-  spent-is : eqb (sum (linkCount s) (dueBy s σ t k)) (sum (linkCount s) waiting) ≡ spent s σ t k
+  spent-is : eqb (sum (linkCount s) (dueBy s σ t (One k))) (sum (linkCount s) waiting) ≡ spent s σ t k
   unfolding spent
   spent-is = rw due-is (all-eqb (linkCount s) followed waiting (spentBy s σ t k) less each)
 
   -- where nothing waits, nothing is due
-  due-none : sum (linkCount s) waiting ≡ 0 → sum (linkCount s) (dueBy s σ t k) ≡ 0
+  due-none : sum (linkCount s) waiting ≡ 0 → sum (linkCount s) (dueBy s σ t (One k)) ≡ 0
   due-none e = omega (arith, due-is, sum-mono (linkCount s) followed waiting less)
+
+-- no processor has more due than all
+one-le-all : (s : Sheet) (σ : Schedule) (t k i : ℕ) → dueBy s σ t (One k) i ≤ dueBy s σ t All i
+unfolding dueBy knownInto countedBy
+one-le-all s σ t k i =
+    less (eqb (sourceOf s i) t)
+    (sum-mono (linkCount s) (countedBy (intoFrom s σ (targetOf s i) k) oneBy (known s σ)) (countedBy (into s (targetOf s i)) oneBy (known s σ))
+    (λ l h. part (eqb (targetOf s l) (targetOf s i)) (stands σ (sourceOf s l) k) (placed σ (sourceOf s l))))
+  where
+    part : (a b d : Bool) → pick (both (both a b) d) 1 0 ≤ pick (both a d) 1 0
+    part true true d = omega arith
+    part true false d = omega arith
+    part false b d = omega arith
+
+    less : (b : Bool) {x y : ℕ} → x ≤ y → pick b x 0 ≤ pick b y 0
+    less true h = h
+    less false h = omega arith
 
 module _ (w : List ℕ) (t k : ℕ) (c : Choosing w t) (k-in : k < 16) {p : ℕ} (ep : p ≡ getD w (13360 + k) 0) where
   abbrev s : Sheet
@@ -158,21 +178,40 @@ module _ (w : List ℕ) (t k : ℕ) (c : Choosing w t) (k-in : k < 16) {p : ℕ}
   waiting-is : p ≡ sum (linkCount s) (countedBy (waits s σ k) oneBy (known s σ))
   waiting-is = ep ∙ c .kept .caches .counted .pending k k-in
 
-  pub spent-kept : {d : ℕ} → d ≡ sum (linkCount s) (dueBy s σ t k) → eqb d p ≡ spent s σ t k
+  pub spent-kept : {d : ℕ} → d ≡ sum (linkCount s) (dueBy s σ t (One k)) → eqb d p ≡ spent s σ t k
   spent-kept q = rw (q, waiting-is) (spent-is s σ t k k-in (ready-free s σ t (c .isReady)) (c .kept .caches .closed) (c .single))
+
+  -- more links wait than are due from all processors
+  pub spent-more : {d : ℕ} → d ≡ sum (linkCount s) (dueBy s σ t All) → d < p → false ≡ spent s σ t k
+  spent-more {d} q l =
+      let e : sum (linkCount s) (dueBy s σ t (One k)) ≢ p = λ x. absurd (omega (arith, sum-mono (linkCount s) (dueBy s σ t (One k)) (dueBy s σ t All) (λ i h. one-le-all s σ t k i), x)) in
+      sym (ne-eqb (sum (linkCount s) (dueBy s σ t (One k))) p e) ∙ spent-kept refl
 
   pub spent-none : p ≡ 0 → true ≡ spent s σ t k
   spent-none e =
       let d = due-none s σ t k k-in (ready-free s σ t (c .isReady)) (c .kept .caches .closed) (c .single) (sym waiting-is ∙ e) in
-      sym (eq-eqb (sum (linkCount s) (dueBy s σ t k)) p (d ∙ sym e)) ∙ spent-kept refl
+      sym (eq-eqb (sum (linkCount s) (dueBy s σ t (One k))) p (d ∙ sym e)) ∙ spent-kept refl
 
 -- a link that does not lead from t counts nothing
-pub due-else : (s : Sheet) (σ : Schedule) (t k l : ℕ) → sourceOf s l ≢ t → dueBy s σ t k l ≡ 0
+pub due-else : (s : Sheet) (σ : Schedule) (t : ℕ) (from : Senders) (l : ℕ) → sourceOf s l ≢ t → dueBy s σ t from l ≡ 0
 unfolding dueBy
-due-else s σ t k l n = rw (ne-eqb (sourceOf s l) t n)
+due-else s σ t from l n = rw (ne-eqb (sourceOf s l) t n)
 
-pub due-own : {s : Sheet} {σ : Schedule} {w : List ℕ} → Ranged s → Counted s σ (known s σ) w → (t k l : ℕ) → k < 16 → l < linkCount s → sourceOf s l ≡ t → {v x : ℕ} → v ≡ targetOf s l → x ≡ getD w (14336 + (16 * v + k)) 0
-    → x ≡ dueBy s σ t k l
+pub due-own : (s : Sheet) (σ : Schedule) (t : ℕ) (from : Senders) (l : ℕ) → sourceOf s l ≡ t → {v x : ℕ} → v ≡ targetOf s l → x ≡ knownInto s σ v from → x ≡ dueBy s σ t from l
 unfolding dueBy
-due-own {s} {σ} {w} ranged d t k l k-in h e {v} {x} ev ex =
-    rw (eq-eqb (sourceOf s l) t e) (ex ∙ ap (λ (u : ℕ). getD w (14336 + (16 * u + k)) 0) ev ∙ d .count (targetOf s l) k (ranged .target l h) k-in)
+due-own s σ t from l e ev ex = rw (eq-eqb (sourceOf s l) t e) (ex ∙ ap (λ (u : ℕ). knownInto s σ u from) ev)
+
+-- the known links into v stand in its words
+module _ {s : Sheet} {σ : Schedule} {w : List ℕ} (ranged : Ranged s) (d : Counted s σ (known s σ) w) (v : ℕ) (h : v < taskCount s) where
+  pub known-one : {from : Senders} {k x : ℕ} → from ≡ One k → OnBoard from → x ≡ getD w (14336 + (16 * v + k)) 0 → (x ≡ knownInto s σ v from) × (x ≤ 1024)
+  unfolding knownInto
+  known-one {from} {k} e on ex =
+      let k-in : k < 16 = subst OnBoard e on in
+      (ex ∙ d .count v k h k-in ∙ ap (knownInto s σ v) (sym e), omega (arith, ex, few-counted ranged d v k h k-in .count))
+
+  pub known-all : {from : Senders} {x : ℕ} → from ≡ All → x ≡ getD w (12304 + v) 0 → (x ≡ knownInto s σ v from) × (x ≤ 1024)
+  unfolding knownInto
+  known-all {from} e ex = (ex ∙ d .seen v h ∙ ap (knownInto s σ v) (sym e), omega (arith, ex, few-counted ranged d v 0 h (omega arith) .seen))
+
+pub on-board : {from : Senders} {k : ℕ} → from ≡ One k → OnBoard from → k < 16
+on-board e on = subst OnBoard e on

@@ -14,7 +14,7 @@ use Rattle.folds.proofs.Laws.{any-ltb, sum-zeros, term-le-greatest, greatest-mo
 use Rattle.sheet.specs.Sheet.{Sheet, taskCount, linkCount, sourceOf, targetOf, costOf, bytesOf, storeOf}
 use Rattle.sheet.specs.Tables.{sheetIn, Ranged}
 use Rattle.planner.specs.Schedule.{Schedule, put, placed, stands, placeOf, finishOf}
-use Rattle.planner.specs.Placing.{comes, endBy, endOf, startBy, startFrom, holdsBy, holdsPredecessor, fits, storeOn}
+use Rattle.planner.specs.Placing.{comes, endBy, endOf, startBy, startFrom, startOn, holdsBy, holdsPredecessor, fits, storeOn}
 use Rattle.planner.proofs.Ready.{ready-free, ready-source}
 use Rattle.schedule.specs.Layout.{scheduleIn}
 use Rattle.schedule.proofs.Rows.{on-long, finish-long}
@@ -119,6 +119,26 @@ module _ {s : Sheet} {σ : Schedule} {w : List ℕ} (ranged : Ranged s) (c : Cac
         is true true false g = absurd (true≢false (sym (g refl)))
         is true false d g = refl
         is false b d g = refl
+
+-- a start fits a word
+pub start-small : (w : List ℕ) (t k : ℕ) → Choosing w t → k < 16 → ((i : ℕ) → getD w i 0 < 4294967296) → startOn (sheetIn w) (scheduleIn w) t k < 4294967296
+unfolding startOn
+start-small w t k c k-in small =
+    let s = sheetIn w in
+    let σ = scheduleIn w in
+    let e = endOf s σ k in
+    let m = getD w (13072 + t) 0 in
+    omega (
+      arith,
+      start-kept (c .kept .ranged) (c .kept .caches) t k (c .task) e (omega arith),
+      c .kept .caches .ends .ends k k-in,
+      small (13328 + k),
+      pick-less (eqb k m) (small (12816 + t)) (small (12560 + t)),
+    )
+  where
+    pick-less : (b : Bool) {x y n : ℕ} → x < n → y < n → pick b x y < n
+    pick-less true h g = h
+    pick-less false h g = g
 
 -- t fits k: what is kept of k's store and of t's links, against the limit and what is on k already
 pub fits-kept : (w : List ℕ) (t k : ℕ) → Choosing w t → k < 16 → {x y z v m : ℕ} → x ≡ getD w (13344 + k) 0 → y ≡ storeOf (sheetIn w) t → z ≡ getD w (12048 + t) 0 → m ≡ sheetIn w .limit

@@ -1,77 +1,72 @@
--- What a search that is done says of the placing steps, and what keeps a processor out of one.
+-- What the greatest key of each placing step gives, and the steps one after the other.
 use Prim.Native.Nat.{ℕ, _+_, _<_, _≤_}
-use mathlib.Core.Path.{_≡_, refl, sym, _∙_}
+use mathlib.Core.Path.{_≡_, refl, ap, ap₂, sym, _∙_}
 use mathlib.Core.Bool.{Bool, true, false, not}
 use mathlib.Core.Option.{Option, none, some}
+use native.Mathlib.Omega.{arith}
 use borrow.Author.Tests.{lt-ltb, le-ltb, le-leb, lt-leb}
-use lib.Dec.{ltb, leb}
-use Rattle.folds.specs.Folds.{both, leading, least, orElse}
+use lib.Dec.{eqb, ltb, leb}
+use Rattle.folds.specs.Folds.{pick, both, greatest, leading, least, orElse}
 use Rattle.folds.proofs.Tests.{both-false}
 use Rattle.sheet.specs.Sheet.{Sheet}
 use Rattle.planner.specs.Schedule.{Schedule}
 use Rattle.planner.specs.Placing.{arrival, endOf, startOn, fits, holdsPredecessor, barred, spent}
 use Rattle.planner.specs.Planner.{mayJoin, join, mayTake, idle, another, lastResort, choice}
-use Rattle.placing.specs.Best.{optionOf, Leading, below, above}
-use Rattle.placing.specs.declared.Best.{Best}
-
-pub best-some : (b : Best) → b .found ≡ true → some (b .at) ≡ optionOf b
-best-some b e = rw e
-
-pub best-no : (b : Best) → b .found ≡ false → none ≡ optionOf b
-best-no b e = rw e
+use Rattle.readiness.specs.Found.{foundOf, Below}
+use Rattle.readiness.specs.declared.Found.{Found}
+use Rattle.placing.specs.Ranks.{lowKey, highKey, processorOf, joinKey, idleKey, lastKey}
+use Rattle.placing.specs.Guards.{Bars}
+use Rattle.placing.proofs.Ranks.{least-by-key, latest-by-key}
 
 module _ (s : Sheet) (σ : Schedule) (t : ℕ) where
   abbrev guard : Schedule → ℕ → ℕ → Bool
   guard = barred s
 
   module _ (k : ℕ) where
-    pub join-holds : holdsPredecessor s σ t k ≡ false → mayJoin s guard σ t k ≡ false
-    unfolding mayJoin
-    join-holds e = rw e
+    pub join-key-is : {x a bars r : ℕ} {held fit able early may : Bool} → k < 16 → Bars s σ t bars → x ≡ startOn s σ t k → a ≡ arrival s σ t → held ≡ holdsPredecessor s σ t k → fit ≡ fits s σ t k
+        → able ≡ both held fit → early ≡ both (not (eqb k bars)) (ltb x a) → may ≡ both able early → r ≡ pick may (lowKey x k) 0 → r ≡ joinKey s σ t k
+    unfolding mayJoin joinKey
+    join-key-is {x} {a} {bars} h b ex ea eh ef eo ee em er =
+        er ∙ ap₂ (λ (m : Bool) (y : ℕ). pick m (lowKey y k) 0) (em ∙ ap₂ both (eo ∙ ap₂ both eh ef) (ee ∙ ap₂ both (ap not (b .is k h)) (ap₂ ltb ex ea))) ex
 
-    pub join-fits : holdsPredecessor s σ t k ≡ true → fits s σ t k ≡ false → mayJoin s guard σ t k ≡ false
-    unfolding mayJoin
-    join-fits e f = rw (e, f)
+    pub idle-late : {x a : ℕ} → x ≡ endOf s σ k → a ≡ arrival s σ t → a < x → 0 ≡ idleKey s σ t k
+    unfolding mayTake idleKey
+    idle-late {x} {a} ex ea l = sym (rw (← ex, ← ea, lt-leb x a l, both-false (fits s σ t k)))
 
-    pub join-early : {x a : ℕ} → x ≡ startOn s σ t k → a ≡ arrival s σ t → a ≤ x → mayJoin s guard σ t k ≡ false
-    unfolding mayJoin
-    join-early {x} {a} ex ea l = rw (← ex, ← ea, le-ltb x a l) (twice (both (holdsPredecessor s σ t k) (fits s σ t k)) (not (barred s σ t k)))
-      where
-        twice : (p q : Bool) → both p (both q false) ≡ false
-        twice true q = both-false q
-        twice false q = refl
+    module _ {x a : ℕ} (ex : x ≡ endOf s σ k) (ea : a ≡ arrival s σ t) (l : x ≤ a) where
+      take-is : mayTake s guard σ t k ≡ both (fits s σ t k) (spent s σ t k)
+      unfolding mayTake
+      take-is = rw (← ex, ← ea, le-leb x a l)
 
-    pub join-barred : holdsPredecessor s σ t k ≡ true → fits s σ t k ≡ true → barred s σ t k ≡ true → mayJoin s guard σ t k ≡ false
-    unfolding mayJoin
-    join-barred e f b = rw (e, f, b)
+      pub idle-waits : spent s σ t k ≡ false → 0 ≡ idleKey s σ t k
+      unfolding idleKey
+      idle-waits e = sym (rw (take-is, e, both-false (fits s σ t k)))
 
-    pub join-may : {x a : ℕ} → holdsPredecessor s σ t k ≡ true → fits s σ t k ≡ true → barred s σ t k ≡ false → x ≡ startOn s σ t k → a ≡ arrival s σ t → x < a → mayJoin s guard σ t k ≡ true
-    unfolding mayJoin
-    join-may {x} {a} e f b ex ea l = rw (e, f, b, ← ex, ← ea, lt-ltb x a l)
+      pub idle-full : spent s σ t k ≡ true → fits s σ t k ≡ false → 0 ≡ idleKey s σ t k
+      unfolding idleKey
+      idle-full e f = sym (rw (take-is, f))
 
-    pub take-late : {x a : ℕ} → x ≡ endOf s σ k → a ≡ arrival s σ t → a < x → mayTake s guard σ t k ≡ false
-    unfolding mayTake
-    take-late {x} {a} ex ea l = rw (← ex, ← ea, lt-leb x a l) (both-false (fits s σ t k))
+      pub idle-may : {r : ℕ} → spent s σ t k ≡ true → fits s σ t k ≡ true → r ≡ highKey x k → r ≡ idleKey s σ t k
+      unfolding idleKey
+      idle-may e f er = er ∙ rw (take-is, f, e, ex)
 
-    pub take-fits : fits s σ t k ≡ false → mayTake s guard σ t k ≡ false
-    unfolding mayTake
-    take-fits f = rw f
+    pub last-key-is : {x r : ℕ} {fit : Bool} → x ≡ startOn s σ t k → fit ≡ fits s σ t k → r ≡ pick fit (lowKey x k) 0 → r ≡ lastKey s σ t k
+    unfolding lastKey
+    last-key-is ex ef er = er ∙ ap₂ (λ (m : Bool) (y : ℕ). pick m (lowKey y k) 0) ef ex
 
-    pub take-is : {x a : ℕ} {b : Bool} → x ≡ endOf s σ k → a ≡ arrival s σ t → x ≤ a → fits s σ t k ≡ true → spent s σ t k ≡ b → mayTake s guard σ t k ≡ b
-    unfolding mayTake
-    take-is {x} {a} ex ea l f e = rw (f, ← ex, ← ea, le-leb x a l, e)
+  -- the greatest key gives the step's processor
+  module _ (few : σ .opened ≤ 16) {g : ℕ} where
+    pub join-is : ((k : ℕ) → k < σ .opened → startOn s σ t k < 4294967296) → g ≡ greatest (σ .opened) (joinKey s σ t) → processorOf g ≡ join s guard σ t
+    unfolding join joinKey
+    join-is small e = least-by-key (σ .opened) few (mayJoin s guard σ t) (startOn s σ t) small e
 
-  pub join-is : {b : Best} → Leading (σ .opened) (mayJoin s guard σ t) below (startOn s σ t) (σ .opened) b → optionOf b ≡ join s guard σ t
-  unfolding join least
-  join-is h = h .is
+    pub idle-is : g ≡ greatest (σ .opened) (idleKey s σ t) → processorOf g ≡ idle s guard σ t
+    unfolding idle idleKey
+    idle-is e = latest-by-key (σ .opened) few (mayTake s guard σ t) (endOf s σ) e
 
-  pub idle-is : {b : Best} → Leading (σ .opened) (mayTake s guard σ t) above (endOf s σ) (σ .opened) b → optionOf b ≡ idle s guard σ t
-  unfolding idle
-  idle-is h = h .is
-
-  pub last-is : {b : Best} → Leading (σ .opened) (fits s σ t) below (startOn s σ t) (σ .opened) b → optionOf b ≡ lastResort s guard σ t
-  unfolding lastResort least
-  last-is h = h .is
+    pub last-is : ((k : ℕ) → k < σ .opened → startOn s σ t k < 4294967296) → g ≡ greatest (σ .opened) (lastKey s σ t) → processorOf g ≡ lastResort s guard σ t
+    unfolding lastResort lastKey
+    last-is small e = least-by-key (σ .opened) few (fits s σ t) (startOn s σ t) small e
 
   pub choice-join : {k : ℕ} → some k ≡ join s guard σ t → some k ≡ choice s guard σ t
   unfolding choice

@@ -11,7 +11,9 @@ use Rattle.planner.specs.Schedule.{Schedule}
 use Rattle.planner.specs.Placing.{ready}
 use Rattle.levelling.specs.Found.{Levelled}
 use Rattle.schedule.specs.Layout.{scheduleIn}
-use Rattle.arrivals.specs.Kept.{countedBy, intoFrom, oneBy, known, Kept}
+use Rattle.placing.specs.declared.Senders.{Senders}
+use Rattle.placing.specs.declared.Senders.the-variants.{One, All}
+use Rattle.arrivals.specs.Kept.{countedBy, into, intoFrom, oneBy, known, Kept}
 
 -- no two links join the same tasks in the same direction
 pub record Single (s : Sheet) : Type 0 where
@@ -24,6 +26,16 @@ pub record Choosing (w : List ℕ) (t : ℕ) : Type 0 where
   pub task : t < taskCount (sheetIn w)
   pub isReady : ready (sheetIn w) (scheduleIn w) t ≡ true
 
--- what link i counts, if it leads from t: the known links from k into its target
-unfoldable pub dueBy : Sheet → Schedule → ℕ → ℕ → ℕ → ℕ
-dueBy s σ t k i = pick (eqb (sourceOf s i) t) (sum (linkCount s) (countedBy (intoFrom s σ (targetOf s i) k) oneBy (known s σ))) 0
+-- the known links into v from one processor, or from all
+unfoldable pub knownInto : Sheet → Schedule → ℕ → Senders → ℕ
+knownInto s σ v (One k) = sum (linkCount s) (countedBy (intoFrom s σ v k) oneBy (known s σ))
+knownInto s σ v All = sum (linkCount s) (countedBy (into s v) oneBy (known s σ))
+
+-- what link i counts, if it leads from t: the known links into its target
+unfoldable pub dueBy : Sheet → Schedule → ℕ → Senders → ℕ → ℕ
+dueBy s σ t from i = pick (eqb (sourceOf s i) t) (knownInto s σ (targetOf s i) from) 0
+
+-- there is such a processor
+abbrev pub OnBoard : Senders → Type 0
+OnBoard (One k) = k < 16
+OnBoard All = Unit {0}

@@ -1,3 +1,3 @@
 pub mod Choosing
-pub mod Best
+pub mod Ranks
 pub mod Guards

@@ -1,20 +1,21 @@
 // Where a task goes: starts, fits and the guard, and the four placing steps.
 ghost use mathlib.Core.Path.{_≡_};
+ghost use mathlib.Core.Option.{none};
 ghost use Prim.Native.Nat.{ℕ, _+_, _*_, _<_, _≤_, max};
 ghost use lib.ListN.{getD};
 ghost use lib.Dec.{eqb};
-ghost use Rattle.folds.specs.Folds.{pick, sum};
+ghost use Rattle.folds.specs.Folds.{pick, both, sum};
 ghost use Rattle.sheet.specs.Sheet.{taskCount, linkCount, workOf};
 ghost use Rattle.sheet.specs.Tables.{sheetIn};
-ghost use Rattle.planner.specs.Placing.{arrival, endOf, startFrom, startOn, startWith, fits, holdsPredecessor, bestStart, barred, spent};
-ghost use Rattle.planner.specs.Planner.{mayJoin, mayTake, another, choice};
+ghost use Rattle.planner.specs.Placing.{arrival, endOf, startFrom, startOn, fits, holdsPredecessor, barred, spent};
+ghost use Rattle.planner.specs.Planner.{join, idle, another, lastResort, choice};
 ghost use Rattle.schedule.specs.Layout.{scheduleIn};
 ghost use Rattle.arrivals.specs.Kept.{Kept};
 ghost use Rattle.readiness.specs.Found.{foundOf, Below};
 ghost use Rattle.readiness.specs.Keyed.{Keyed};
-ghost use Rattle.placing.specs.Choosing.{Choosing, dueBy};
-ghost use Rattle.placing.specs.Best.{gainsBy, below, above, Leading};
-ghost use Rattle.placing.specs.Guards.{raisedBy, Raises, Guards};
+ghost use Rattle.placing.specs.Choosing.{Choosing, knownInto, dueBy, OnBoard};
+ghost use Rattle.placing.specs.Ranks.{lowKey, highKey, processorOf, joinKey, idleKey};
+ghost use Rattle.placing.specs.Guards.{BarsFor, Bars};
 use chains::End;
 use readiness::Found;
 use sheet::tables;
@@ -82,238 +83,194 @@ fn fits_on(w: &[u32], t: usize, k: usize) -> bool
     x + y + z <= tables::limit(w) + v
 }
 
-// The links from k to successors of t.
-fn due_on(w: &[u32], t: usize, k: usize) -> usize
+// From where links are counted: from one processor, or from all.
+pub enum Senders {
+    One(usize),
+    All,
+}
+
+// The known links into v.
+fn known_into(w: &[u32], v: usize, from: Senders) -> usize
+    requires { ⌜ Kept (now w) ⌝ }
+    requires { ⌜ (v < taskCount (sheetIn (now w))) × OnBoard from ⌝ }
+    ensures { λ r. ⌜ (r ≡ knownInto (sheetIn (now (w .entry))) (scheduleIn (now (w .entry))) v from) × (r ≤ 1024) ⌝ }
+{
+    match from {
+        Senders::One(k) => workspace::word(w, 14336 + (16 * v + k)),
+        Senders::All => workspace::word(w, 12304 + v),
+    }
+}
+
+// The known links into the successors of t.
+fn due_from(w: &[u32], t: usize, from: Senders) -> usize
     requires { ⌜ Choosing (now w) t ⌝ }
-    requires { ⌜ k < 16 ⌝ }
-    ensures { λ r. ⌜ r ≡ sum (linkCount (sheetIn (now (w .entry)))) (dueBy (sheetIn (now (w .entry))) (scheduleIn (now (w .entry))) t k) ⌝ }
+    requires { ⌜ OnBoard from ⌝ }
+    ensures { λ r. ⌜ r ≡ sum (linkCount (sheetIn (now (w .entry)))) (dueBy (sheetIn (now (w .entry))) (scheduleIn (now (w .entry))) t from) ⌝ }
 {
     let m = tables::links(w);
     let mut l = chains::first(w, End::Source, t);
     let mut due: usize = 0;
     while l < m {
-        let v = tables::target(w, l);
-        due += workspace::word(w, 14336 + (16 * v + k));
+        due += known_into(w, tables::target(w, l), from);
         l = chains::next(w, End::Source, l);
     }
     due
 }
 
-// Each successor of each task on k is placed or is a successor of t: no other link from k waits.
-fn is_spent(w: &[u32], t: usize, k: usize) -> bool
+// Both hold; without a branch, since neither can be foretold.
+fn are_both(a: bool, b: bool) -> bool
+    ensures { λ r. ⌜ r ≡ both a b ⌝ }
+{
+    if a { b } else { false }
+}
+
+// Each successor of each task on k is placed or is a successor of t: no other link from k waits. Where more wait than
+// are due from all processors (d), the links of t need not be walked.
+fn is_spent(w: &[u32], t: usize, k: usize, d: usize) -> bool
     requires { ⌜ Choosing (now w) t ⌝ }
-    requires { ⌜ k < 16 ⌝ }
+    requires { ⌜ (k < 16) × (d ≡ sum (linkCount (sheetIn (now w))) (dueBy (sheetIn (now w)) (scheduleIn (now w)) t Senders.All)) ⌝ }
     ensures { λ r. ⌜ r ≡ spent (sheetIn (now (w .entry))) (scheduleIn (now (w .entry))) t k ⌝ }
 {
     let p = workspace::word(w, 13360 + k);
-    if p == 0 { true } else { due_on(w, t, k) == p }
-}
-
-// The best of the indices so far, with its value.
-pub struct Best {
-    pub found: bool,
-    pub at: usize,
-    pub value: usize,
-}
-
-// v is less than what was found.
-fn is_less(best: Best, v: usize) -> bool
-    ensures { λ r. ⌜ r ≡ gainsBy below best v ⌝ }
-{
-    if best.found { v < best.value } else { true }
-}
-
-// v is more than what was found.
-fn is_more(best: Best, v: usize) -> bool
-    ensures { λ r. ⌜ r ≡ gainsBy above best v ⌝ }
-{
-    if best.found { best.value < v } else { true }
-}
-
-// Where j ends, if one end is raised to e.
-fn raised(w: &[u32], one: Found, e: usize, j: usize) -> usize
-    requires { ⌜ Kept (now w) ⌝ }
-    requires { ⌜ (e < 8589934592) × (j < 16) ⌝ }
-    requires { ⌜ Raises (sheetIn (now w)) (scheduleIn (now w)) one e ⌝ }
-    ensures { λ r. ⌜ (r ≡ raisedBy (sheetIn (now (w .entry))) (scheduleIn (now (w .entry))) one e j) × (endOf (sheetIn (now (w .entry))) (scheduleIn (now (w .entry))) j ≤ r) × (r < 8589934592) ⌝ }
-{
-    match one {
-        Found::Nothing => end_of(w, j),
-        Found::At(k) => { if j == k { e } else { end_of(w, j) } }
+    if d < p {
+        return false;
+    }
+    if p == 0 {
+        true
+    } else {
+        due_from(w, t, Senders::One(k)) == p
     }
 }
 
-fn start_step(w: &[u32], u: usize, one: Found, e: usize, j: usize, best: Best) -> Best
-    requires { ⌜ Kept (now w) ⌝ }
-    requires { ⌜ (u < taskCount (sheetIn (now w))) × (e < 8589934592) × (j < scheduleIn (now w) .opened) ⌝ }
-    requires { ⌜ Raises (sheetIn (now w)) (scheduleIn (now w)) one e ⌝ }
-    requires { ⌜ Leading (scheduleIn (now w) .opened) (holdsPredecessor (sheetIn (now w)) (scheduleIn (now w)) u) below (startWith (sheetIn (now w)) (scheduleIn (now w)) (raisedBy (sheetIn (now w)) (scheduleIn (now w)) one e) u) j best ⌝ }
-    ensures { λ r. ⌜ Leading (scheduleIn (now (w .entry)) .opened) (holdsPredecessor (sheetIn (now (w .entry))) (scheduleIn (now (w .entry))) u) below (startWith (sheetIn (now (w .entry))) (scheduleIn (now (w .entry))) (raisedBy (sheetIn (now (w .entry))) (scheduleIn (now (w .entry))) one e) u) (j + 1) r ⌝ }
+// The key of k by the least value, then by the lowest number; 0 where the test fails.
+fn low_key(test: bool, value: usize, k: usize) -> usize
+    requires { ⌜ (value < 4294967296) × (k < 16) ⌝ }
+    ensures { λ r. ⌜ r ≡ pick test (lowKey value k) 0 ⌝ }
 {
-    if holds_predecessor(w, u, j) {
-        let x = start_from(w, u, j, raised(w, one, e, j));
-        if is_less(best, x) {
-            return Best {
-                found: true,
-                at: j,
-                value: x,
-            };
+    let key = (4294967296 - value) * 16 + (15 - k);
+    if test { key } else { 0 }
+}
+
+// The key of k by the greatest value, then by the lowest number.
+fn high_key(value: usize, k: usize) -> usize
+    requires { ⌜ (value < 4294967296) × (k < 16) ⌝ }
+    ensures { λ r. ⌜ r ≡ highKey value k ⌝ }
+{
+    (value + 1) * 16 + (15 - k)
+}
+
+// The processor of the greatest key.
+fn processor_of(key: usize) -> Found
+    ensures { λ r. ⌜ (foundOf r ≡ processorOf key) × Below 16 r ⌝ }
+{
+    if key == 0 {
+        return Found::Nothing;
+    }
+    Found::At(15 - key % 16)
+}
+
+// The processor that the guard bars for u's sake, or 16. Before its arrival u can start only where its latest message comes
+// from, so that only there its best start can rise.
+fn bars_for(w: &[u32], t: usize, u: usize) -> usize
+    requires { ⌜ Choosing (now w) t ⌝ }
+    requires { ⌜ u < taskCount (sheetIn (now w)) ⌝ }
+    ensures { λ r. ⌜ BarsFor (sheetIn (now (w .entry))) (scheduleIn (now (w .entry))) t u r ⌝ }
+{
+    let a = readiness::arrival_of(w, u);
+    if a == 0 {
+        return 16;
+    }
+    let k = workspace::word(w, 13072 + u);
+    let best = start_on(w, u, k);
+    let finish = start_on(w, t, k) + tables::work(w, t);
+    if best < a {
+        if best < finish {
+            return k;
         }
     }
-    best
+    16
 }
 
-// The best start of u, if one end is raised to e.
-fn best_start(w: &[u32], u: usize, one: Found, e: usize) -> usize
-    requires { ⌜ Kept (now w) ⌝ }
-    requires { ⌜ (u < taskCount (sheetIn (now w))) × (e < 8589934592) ⌝ }
-    requires { ⌜ Raises (sheetIn (now w)) (scheduleIn (now w)) one e ⌝ }
-    ensures { λ r. ⌜ r ≡ bestStart (sheetIn (now (w .entry))) (scheduleIn (now (w .entry))) (raisedBy (sheetIn (now (w .entry))) (scheduleIn (now (w .entry))) one e) u ⌝ }
-{
-    let n = schedule::opened(w);
-    let mut best = Best {
-        found: false,
-        at: 0,
-        value: 0,
-    };
-    let mut j: usize = 0;
-    while j < n {
-        best = start_step(w, u, one, e, j, best);
-        j += 1;
-    }
-    if best.found { best.value } else { 0 }
-}
-
-// No processor is barred, or those whose end with t on it would raise the best start of u above the one given.
-pub enum Guard {
-    Open,
-    Over(usize, usize),
-}
-
-// The guard of this turn.
-fn guard_of(w: &[u32], q: &[u64], t: usize) -> Guard
+// The processor that the guard bars in this turn, or 16; q holds the keys.
+fn guard_of(w: &[u32], q: &[u64], t: usize) -> usize
     requires { ⌜ Choosing (now w) t ⌝ }
     requires { ⌜ Keyed (sheetIn (now w)) (scheduleIn (now w)) (now q) ⌝ }
-    ensures { λ r. ⌜ Guards (sheetIn (now (w .entry))) (scheduleIn (now (w .entry))) t r ⌝ }
+    ensures { λ r. ⌜ Bars (sheetIn (now (w .entry))) (scheduleIn (now (w .entry))) t r ⌝ }
 {
     match readiness::first_partly(w, q) {
-        Found::Nothing => Guard::Open,
+        Found::Nothing => 16,
         Found::At(u) => {
             if readiness::priority_of(w, t) < readiness::priority_of(w, u) {
-                let best = best_start(w, u, Found::Nothing, 0);
-                if best < readiness::arrival_of(w, u) {
-                    return Guard::Over(u, best);
-                }
+                return bars_for(w, t, u);
             }
-            Guard::Open
+            16
         }
     }
 }
 
-// k is barred; t would start there at x.
-fn is_barred(w: &[u32], t: usize, k: usize, guard: Guard, x: usize) -> bool
+// The key of k in step 1; a is t's arrival, and the guard bars one processor.
+fn join_key(w: &[u32], t: usize, bars: usize, a: usize, k: usize) -> usize
     requires { ⌜ Choosing (now w) t ⌝ }
-    requires { ⌜ (k < 16) × (x ≡ startOn (sheetIn (now w)) (scheduleIn (now w)) t k) × (x < 4294967296) ⌝ }
-    requires { ⌜ Guards (sheetIn (now w)) (scheduleIn (now w)) t guard ⌝ }
-    ensures { λ r. ⌜ r ≡ barred (sheetIn (now (w .entry))) (scheduleIn (now (w .entry))) t k ⌝ }
+    requires { ⌜ (a ≡ arrival (sheetIn (now w)) (scheduleIn (now w)) t) × (k < 16) ⌝ }
+    requires { ⌜ Bars (sheetIn (now w)) (scheduleIn (now w)) t bars ⌝ }
+    ensures { λ r. ⌜ r ≡ joinKey (sheetIn (now (w .entry))) (scheduleIn (now (w .entry))) t k ⌝ }
 {
-    match guard {
-        Guard::Open => false,
-        Guard::Over(u, best) => best < best_start(w, u, Found::At(k), x + tables::work(w, t)),
-    }
-}
-
-// Step 1, with k looked at too; a is t's arrival. The guard is asked last, since it costs most.
-fn join_step(w: &[u32], t: usize, guard: Guard, a: usize, k: usize, best: Best) -> Best
-    requires { ⌜ Choosing (now w) t ⌝ }
-    requires { ⌜ (a ≡ arrival (sheetIn (now w)) (scheduleIn (now w)) t) × (k < scheduleIn (now w) .opened) ⌝ }
-    requires { ⌜ Guards (sheetIn (now w)) (scheduleIn (now w)) t guard ⌝ }
-    requires { ⌜ Leading (scheduleIn (now w) .opened) (mayJoin (sheetIn (now w)) (barred (sheetIn (now w))) (scheduleIn (now w)) t) below (startOn (sheetIn (now w)) (scheduleIn (now w)) t) k best ⌝ }
-    ensures { λ r. ⌜ Leading (scheduleIn (now (w .entry)) .opened) (mayJoin (sheetIn (now (w .entry))) (barred (sheetIn (now (w .entry)))) (scheduleIn (now (w .entry))) t) below (startOn (sheetIn (now (w .entry))) (scheduleIn (now (w .entry))) t) (k + 1) r ⌝ }
-{
-    if holds_predecessor(w, t, k) {
-        let x = start_on(w, t, k);
-        if x < a {
-            if is_less(best, x) {
-                if fits_on(w, t, k) {
-                    if is_barred(w, t, k, guard, x) {
-                        return best;
-                    }
-                    return Best {
-                        found: true,
-                        at: k,
-                        value: x,
-                    };
-                }
-            }
-        }
-    }
-    best
+    let x = start_on(w, t, k);
+    let open = are_both(holds_predecessor(w, t, k), fits_on(w, t, k));
+    let early = are_both(k != bars, x < a);
+    low_key(are_both(open, early), x, k)
 }
 
 // Step 1: join.
-fn join_on(w: &[u32], t: usize, guard: Guard, a: usize) -> Best
+fn join_on(w: &[u32], t: usize, bars: usize, a: usize) -> Found
     requires { ⌜ Choosing (now w) t ⌝ }
     requires { ⌜ a ≡ arrival (sheetIn (now w)) (scheduleIn (now w)) t ⌝ }
-    requires { ⌜ Guards (sheetIn (now w)) (scheduleIn (now w)) t guard ⌝ }
-    ensures { λ r. ⌜ Leading (scheduleIn (now (w .entry)) .opened) (mayJoin (sheetIn (now (w .entry))) (barred (sheetIn (now (w .entry)))) (scheduleIn (now (w .entry))) t) below (startOn (sheetIn (now (w .entry))) (scheduleIn (now (w .entry))) t) (scheduleIn (now (w .entry)) .opened) r ⌝ }
+    requires { ⌜ Bars (sheetIn (now w)) (scheduleIn (now w)) t bars ⌝ }
+    ensures { λ r. ⌜ (foundOf r ≡ join (sheetIn (now (w .entry))) (barred (sheetIn (now (w .entry)))) (scheduleIn (now (w .entry))) t) × Below 16 r ⌝ }
 {
     let n = schedule::opened(w);
-    let mut best = Best {
-        found: false,
-        at: 0,
-        value: 0,
-    };
+    let mut best: usize = 0;
     let mut k: usize = 0;
     while k < n {
-        best = join_step(w, t, guard, a, k, best);
+        best = words::later(best, join_key(w, t, bars, a, k));
         k += 1;
     }
-    best
+    processor_of(best)
 }
 
-// Step 2, with k looked at too.
-fn idle_step(w: &[u32], t: usize, a: usize, k: usize, best: Best) -> Best
+// The key of k in step 2; a is t's arrival and d what is due from all processors.
+fn idle_key(w: &[u32], t: usize, a: usize, d: usize, k: usize) -> usize
     requires { ⌜ Choosing (now w) t ⌝ }
-    requires { ⌜ (a ≡ arrival (sheetIn (now w)) (scheduleIn (now w)) t) × (k < scheduleIn (now w) .opened) ⌝ }
-    requires { ⌜ Leading (scheduleIn (now w) .opened) (mayTake (sheetIn (now w)) (barred (sheetIn (now w))) (scheduleIn (now w)) t) above (endOf (sheetIn (now w)) (scheduleIn (now w))) k best ⌝ }
-    ensures { λ r. ⌜ Leading (scheduleIn (now (w .entry)) .opened) (mayTake (sheetIn (now (w .entry))) (barred (sheetIn (now (w .entry)))) (scheduleIn (now (w .entry))) t) above (endOf (sheetIn (now (w .entry))) (scheduleIn (now (w .entry)))) (k + 1) r ⌝ }
+    requires { ⌜ (a ≡ arrival (sheetIn (now w)) (scheduleIn (now w)) t) × (k < 16) ⌝ }
+    requires { ⌜ d ≡ sum (linkCount (sheetIn (now w))) (dueBy (sheetIn (now w)) (scheduleIn (now w)) t Senders.All) ⌝ }
+    ensures { λ r. ⌜ r ≡ idleKey (sheetIn (now (w .entry))) (scheduleIn (now (w .entry))) t k ⌝ }
 {
     let e = end_of(w, k);
     if e <= a {
-        if is_more(best, e) {
+        if is_spent(w, t, k, d) {
             if fits_on(w, t, k) {
-                if is_spent(w, t, k) {
-                    return Best {
-                        found: true,
-                        at: k,
-                        value: e,
-                    };
-                }
+                return high_key(e, k);
             }
         }
     }
-    best
+    0
 }
 
 // Step 2: idle.
-fn idle_on(w: &[u32], t: usize, a: usize) -> Best
+fn idle_on(w: &[u32], t: usize, a: usize) -> Found
     requires { ⌜ Choosing (now w) t ⌝ }
     requires { ⌜ a ≡ arrival (sheetIn (now w)) (scheduleIn (now w)) t ⌝ }
-    ensures { λ r. ⌜ Leading (scheduleIn (now (w .entry)) .opened) (mayTake (sheetIn (now (w .entry))) (barred (sheetIn (now (w .entry)))) (scheduleIn (now (w .entry))) t) above (endOf (sheetIn (now (w .entry))) (scheduleIn (now (w .entry)))) (scheduleIn (now (w .entry)) .opened) r ⌝ }
+    ensures { λ r. ⌜ (foundOf r ≡ idle (sheetIn (now (w .entry))) (barred (sheetIn (now (w .entry)))) (scheduleIn (now (w .entry))) t) × Below 16 r ⌝ }
 {
     let n = schedule::opened(w);
-    let mut best = Best {
-        found: false,
-        at: 0,
-        value: 0,
-    };
+    let d = due_from(w, t, Senders::All);
+    let mut best: usize = 0;
     let mut k: usize = 0;
     while k < n {
-        best = idle_step(w, t, a, k, best);
+        best = words::later(best, idle_key(w, t, a, d, k));
         k += 1;
     }
-    best
+    processor_of(best)
 }
 
 // Step 3: the next processor.
@@ -330,43 +287,35 @@ fn another_one(w: &[u32], t: usize) -> Found
     Found::Nothing
 }
 
-// Step 4, with k looked at too.
-fn last_step(w: &[u32], t: usize, k: usize, best: Best) -> Best
-    requires { ⌜ Choosing (now w) t ⌝ }
-    requires { ⌜ k < scheduleIn (now w) .opened ⌝ }
-    requires { ⌜ Leading (scheduleIn (now w) .opened) (fits (sheetIn (now w)) (scheduleIn (now w)) t) below (startOn (sheetIn (now w)) (scheduleIn (now w)) t) k best ⌝ }
-    ensures { λ r. ⌜ Leading (scheduleIn (now (w .entry)) .opened) (fits (sheetIn (now (w .entry))) (scheduleIn (now (w .entry))) t) below (startOn (sheetIn (now (w .entry))) (scheduleIn (now (w .entry))) t) (k + 1) r ⌝ }
-{
-    let x = start_on(w, t, k);
-    if is_less(best, x) {
-        if fits_on(w, t, k) {
-            return Best {
-                found: true,
-                at: k,
-                value: x,
-            };
-        }
-    }
-    best
-}
-
 // Step 4: last resort.
-fn last_on(w: &[u32], t: usize) -> Best
+fn last_on(w: &[u32], t: usize) -> Found
     requires { ⌜ Choosing (now w) t ⌝ }
-    ensures { λ r. ⌜ Leading (scheduleIn (now (w .entry)) .opened) (fits (sheetIn (now (w .entry))) (scheduleIn (now (w .entry))) t) below (startOn (sheetIn (now (w .entry))) (scheduleIn (now (w .entry))) t) (scheduleIn (now (w .entry)) .opened) r ⌝ }
+    ensures { λ r. ⌜ (foundOf r ≡ lastResort (sheetIn (now (w .entry))) (barred (sheetIn (now (w .entry)))) (scheduleIn (now (w .entry))) t) × Below 16 r ⌝ }
 {
     let n = schedule::opened(w);
-    let mut best = Best {
-        found: false,
-        at: 0,
-        value: 0,
-    };
+    let mut best: usize = 0;
     let mut k: usize = 0;
     while k < n {
-        best = last_step(w, t, k, best);
+        best = words::later(best, low_key(fits_on(w, t, k), start_on(w, t, k), k));
         k += 1;
     }
-    best
+    processor_of(best)
+}
+
+// Steps 2 to 4, where nothing is joined.
+fn without_join(w: &[u32], t: usize, a: usize) -> Found
+    requires { ⌜ Choosing (now w) t ⌝ }
+    requires { ⌜ a ≡ arrival (sheetIn (now w)) (scheduleIn (now w)) t ⌝ }
+    requires { ⌜ none ≡ join (sheetIn (now w)) (barred (sheetIn (now w))) (scheduleIn (now w)) t ⌝ }
+    ensures { λ r. ⌜ (foundOf r ≡ choice (sheetIn (now (w .entry))) (barred (sheetIn (now (w .entry)))) (scheduleIn (now (w .entry))) t) × Below 16 r ⌝ }
+{
+    match idle_on(w, t, a) {
+        Found::At(k) => Found::At(k),
+        Found::Nothing => match another_one(w, t) {
+            Found::At(k) => Found::At(k),
+            Found::Nothing => last_on(w, t),
+        },
+    }
 }
 
 // The processor for t; q holds the keys.
@@ -375,25 +324,9 @@ pub fn choice_of(w: &[u32], q: &[u64], t: usize) -> Found
     requires { ⌜ Keyed (sheetIn (now w)) (scheduleIn (now w)) (now q) ⌝ }
     ensures { λ r. ⌜ (foundOf r ≡ choice (sheetIn (now (w .entry))) (barred (sheetIn (now (w .entry)))) (scheduleIn (now (w .entry))) t) × Below 16 r ⌝ }
 {
-    let guard = guard_of(w, q, t);
     let a = readiness::arrival_of(w, t);
-    let j = join_on(w, t, guard, a);
-    if j.found {
-        return Found::At(j.at);
-    }
-    let i = idle_on(w, t, a);
-    if i.found {
-        return Found::At(i.at);
-    }
-    match another_one(w, t) {
+    match join_on(w, t, guard_of(w, q, t), a) {
         Found::At(k) => Found::At(k),
-        Found::Nothing => {
-            let l = last_on(w, t);
-            if l.found {
-                Found::At(l.at)
-            } else {
-                Found::Nothing
-            }
-        }
+        Found::Nothing => without_join(w, t, a),
     }
 }

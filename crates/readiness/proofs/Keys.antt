@@ -1,5 +1,5 @@
 -- The task with the greatest key is the one that goes first.
-use Prim.Native.Nat.{ℕ, zero, suc, _+_, _*_, _-_, _%_, _≤_, _<_, max}
+use Prim.Native.Nat.{ℕ, zero, suc, _+_, _*_, _-_, _%_, _≤_, _<_}
 use mathlib.Core.Bool.{Bool, true, false}
 use mathlib.Core.Option.{Option, none, some}
 use mathlib.Core.Path.{_≡_, refl, ap, sym, _∙_}
@@ -9,11 +9,12 @@ use native.Mathlib.Decide.{decLt, ℕ-discrete}
 use borrow.Author.Tests.{eq-eqb, ne-eqb, lt-ltb, le-ltb}
 use lib.Dec.{eqb, ltb}
 use lib.ListN.{getD}
-use Rattle.folds.specs.Folds.{pick, both, either, greatest, prefer, leading}
+use Rattle.folds.specs.Folds.{pick, both, either, greatest, leading}
 use Rattle.folds.proofs.Tests.{pick-le}
 use Rattle.folds.proofs.Laws.{greatest-le, greatest-cong, greatest-skip}
 use Rattle.keys.specs.Keys.{keyBy}
 use Rattle.keys.proofs.Blocks.{most-of-half}
+use Rattle.keys.proofs.Leading.{leader}
 use Rattle.sheet.specs.Sheet.{Sheet, taskCount, linkCount, workOf, sourceOf, targetOf, costOf}
 use Rattle.sheet.specs.Tables.{Ranged}
 use Rattle.graph.specs.Graph.{levelBy, levelWithin, level}
@@ -70,46 +71,21 @@ module _ (s : Sheet) (ranged : Ranged s) where
         go u v f (no a) (yes b) (no d) = rw (le-ltb (priority s σ j) (priority s σ t) (omega arith), eq-eqb (priority s σ j) (priority s σ t) b, le-ltb (level s j) (level s t) (omega arith)) (sym (le-ltb (keyOf s σ j) (keyOf s σ t) (omega arith)))
         go u v f (no a) (no b) d = rw (le-ltb (priority s σ j) (priority s σ t) (omega arith), ne-eqb (priority s σ j) (priority s σ t) b) (sym (le-ltb (keyOf s σ j) (keyOf s σ t) (omega arith)))
 
-    -- of the tasks below n that p asks for, the leading one has the greatest key
-    module _ (p : ℕ → Bool) where
-      abbrev keyIf : ℕ → ℕ
-      keyIf t = pick (p t) (keyOf s σ t) 0
+    -- the task of a key
+    task-key : (t : ℕ) → t < taskCount s → taskOf (keyOf s σ t) ≡ some t
+    unfolding keyOf
+    task-key t h = task-of-more (keyOf s σ t) (omega arith) ∙ ap some (omega (arith, ranged .few-tasks))
 
-      abbrev Leads : ℕ → Option ℕ → ℕ → Type 0
-      Leads n none g = g ≡ 0
-      Leads n (some j) g = (g ≡ keyOf s σ j) × (j < n)
+    key-more : (t : ℕ) → 0 < keyOf s σ t
+    unfolding keyOf
+    key-more t = omega arith
 
-      key-more : (t : ℕ) → 0 < keyOf s σ t
-      unfolding keyOf
-      key-more t = omega arith
-
-      leads-step : (n : ℕ) (o : Option ℕ) (g : ℕ) → n < taskCount s → (b : Bool) → p n ≡ b → Leads n o g → Leads (suc n) (pick (p n) (prefer (ahead s σ) n o) o) (max g (keyIf n))
-      leads-step n none g f false e h = rw e (omega arith)
-      leads-step n (some j) g f false e h = rw e (let x = h .0 in (omega arith, omega (arith, h .1)))
-      leads-step n none g f true e h = rw e (omega arith, omega arith)
-      leads-step n (some j) g f true e h =
-          rw (e, ahead-key n j (h .1) f (decLt (priority s σ j) (priority s σ n)) (ℕ-discrete (priority s σ j) (priority s σ n)) (decLt (level s j) (level s n)))
-          (go (decLt (keyOf s σ j) (keyOf s σ n)))
-        where
-          go : Dec (keyOf s σ j < keyOf s σ n) → Leads (suc n) (pick (ltb (keyOf s σ j) (keyOf s σ n)) (some n) (some j)) (max g (keyOf s σ n))
-          go (yes d) = rw (lt-ltb (keyOf s σ j) (keyOf s σ n) d) (let x = h .0 in (omega arith, omega arith))
-          go (no d) = rw (le-ltb (keyOf s σ j) (keyOf s σ n) (omega arith)) (let x = h .0 in (omega arith, omega (arith, h .1)))
-
-      leads : (n : ℕ) → n ≤ taskCount s → Leads n (leading n p (ahead s σ)) (greatest n keyIf)
-      unfolding leading greatest
-      leads zero h = refl
-      leads (suc n) h = leads-step n (leading n p (ahead s σ)) (greatest n keyIf) (omega arith) (p n) refl (leads n (omega arith))
-
-      -- the task of the greatest key is the leading one
-      pub leader : {g : ℕ} → g ≡ greatest (taskCount s) keyIf → taskOf g ≡ leading (taskCount s) p (ahead s σ)
-      unfolding keyOf
-      leader {g} e = go (leading (taskCount s) p (ahead s σ)) (leads (taskCount s) (omega arith))
-        where
-          go : (o : Option ℕ) → Leads (taskCount s) o (greatest (taskCount s) keyIf) → taskOf g ≡ o
-          go none h = ap taskOf (e ∙ h)
-          go (some j) h =
-              let x : g ≡ (priority s σ j * 33554432 + level s j + 1) * 256 + (255 - j) = e ∙ h .0 in
-              task-of-more g (omega arith) ∙ ap some (omega (arith, h .1, ranged .few-tasks))
+    -- of the tasks that p asks for, the leading one has the greatest key
+    pub first-by-key : (p : ℕ → Bool) {g : ℕ} → g ≡ greatest (taskCount s) (λ t. pick (p t) (keyOf s σ t) 0) → taskOf g ≡ leading (taskCount s) p (ahead s σ)
+    first-by-key p =
+        leader (taskCount s) p (ahead s σ) (keyOf s σ)
+        (λ a b h k. ahead-key a b h k (decLt (priority s σ b) (priority s σ a)) (ℕ-discrete (priority s σ b) (priority s σ a)) (decLt (level s b) (level s a)))
+        (λ t h. key-more t) taskOf refl task-key
 
 -- half a table of keys
 module _ {s : Sheet} {σ : Schedule} {q : List ℕ} (ranged : Ranged s) (k : Keyed s σ q) where
@@ -135,11 +111,11 @@ module _ {s : Sheet} {σ : Schedule} {q : List ℕ} (ranged : Ranged s) (k : Key
   pub first-ready-is : (r : Found) {g : ℕ} → foundOf r ≡ taskOf g → g ≡ greatest 16 (keyBy q 512) → (foundOf r ≡ firstReady s σ) × Below (taskCount s) r
   unfolding firstReady readyKey
   first-ready-is r e m =
-      let d = e ∙ leader s ranged σ (ready s σ) (m ∙ half 0 (readyKey s σ) (omega arith) (λ u h. zero-add u ∙ k .keys .fresh u h .ready) (λ u h l. zero-add u ∙ k .keys .blank u h l .ready)) in
+      let d = e ∙ first-by-key s ranged σ (ready s σ) (m ∙ half 0 (readyKey s σ) (omega arith) (λ u h. zero-add u ∙ k .keys .fresh u h .ready) (λ u h l. zero-add u ∙ k .keys .blank u h l .ready)) in
       (d, below r (ready s σ) d)
 
   pub first-partly-is : (r : Found) {g : ℕ} → foundOf r ≡ taskOf g → g ≡ greatest 16 (keyBy q 528) → (foundOf r ≡ firstPartlyReady s σ) × Below (taskCount s) r
   unfolding firstPartlyReady partlyKey
   first-partly-is r e m =
-      let d = e ∙ leader s ranged σ (partlyReady s σ) (m ∙ half 1 (partlyKey s σ) (omega arith) (λ u h. k .keys .fresh u h .partly) (λ u h l. k .keys .blank u h l .partly)) in
+      let d = e ∙ first-by-key s ranged σ (partlyReady s σ) (m ∙ half 1 (partlyKey s σ) (omega arith) (λ u h. k .keys .fresh u h .partly) (λ u h l. k .keys .blank u h l .partly)) in
       (d, below r (partlyReady s σ) d)

@@ -1,6 +1,7 @@
 -- Before the first turn: the schedule emptied (w₁), what is kept beside it cleared (w₂), chains out (w₃) and in (w₄), links gathered (w₅).
 use Prim.Native.Nat.{ℕ, _+_, _*_, _≤_, _<_}
 use mathlib.Core.Path.{_≡_, refl, ap, ap₂, sym, _∙_, subst}
+use mathlib.Core.Bool.{true}
 use mathlib.Core.List.{List}
 use native.Mathlib.Omega.{arith}
 use lib.ListN.{length, getD}
@@ -9,7 +10,8 @@ use Rattle.folds.proofs.Lists.{getD-replicate}
 use Rattle.sheet.specs.Sheet.{Sheet, taskCount, linkCount}
 use Rattle.sheet.specs.Tables.{sheetIn, Loaded}
 use Rattle.sheet.proofs.Rows.{ranged}
-use Rattle.planner.specs.Schedule.{Schedule, nowhere, empty, placeOf}
+use Rattle.planner.specs.Schedule.{Schedule, nowhere, empty, placeOf, placed}
+use borrow.Author.Tests.{ltb-true}
 use Rattle.planner.specs.Placing.{barred}
 use Rattle.planner.specs.Planner.{turns, plannedBy, planned}
 use Rattle.levelling.specs.Found.{Levelled}
@@ -107,6 +109,10 @@ module _ {w w₁ : List ℕ} (loaded : Loaded w) (levelled : Levelled (sheetIn w
           unfolding placeOf
           empty₅ u = ap (λ (σ : Schedule). getD (σ .on) u nowhere) schedule₅ ∙ getD-replicate (taskCount s) u nowhere
 
+          standing₅ : (u : ℕ) → placed (scheduleIn w₅) u ≡ true → placeOf (scheduleIn w₅) u < scheduleIn w₅ .opened
+          unfolding placed
+          standing₅ u e = absurd (omega (arith, empty₅ u, ltb-true (placeOf (scheduleIn w₅) u) 16 e))
+
           nought₅ : (i : ℕ) → 12304 ≤ i → i < 22528 → getD w₅ i 0 ≡ 0
           nought₅ i h l = o₅ .high i h ∙ nought₄ i (omega arith) l
 
@@ -133,6 +139,7 @@ module _ {w w₁ : List ℕ} (loaded : Loaded w) (levelled : Levelled (sheetIn w
                       loaded = loaded₅;
                       ranged = ranged w₅ loaded₅;
                       few-opened = rw schedule₅ (omega arith);
+                      standing = standing₅;
                       caches = subst (λ (x : Sheet). Caches x (scheduleIn w₅) w₅) (sym sheet₅) caches₅;
                     };
                 levelled = subst (λ (x : Sheet). Levelled x w₅) (sym sheet₅) (levelled-frame (ranged w loaded .few-tasks) low₅ levelled);

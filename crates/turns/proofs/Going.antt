@@ -4,12 +4,13 @@ use mathlib.Core.Bool.{true}
 use mathlib.Core.Path.{_≡_, refl, ap, sym, _∙_, subst}
 use mathlib.Core.List.{List}
 use native.Mathlib.Omega.{arith}
+use native.Mathlib.Decide.{ℕ-discrete}
 use lib.ListN.{length, getD}
 use Rattle.workspace.specs.Area.{fixed}
 use Rattle.sheet.specs.Sheet.{Sheet, taskCount, workOf}
 use Rattle.sheet.specs.Tables.{sheetIn, Loaded, Ranged}
 use Rattle.sheet.proofs.Rows.{ranged}
-use Rattle.planner.specs.Schedule.{Schedule, put}
+use Rattle.planner.specs.Schedule.{Schedule, placeOf, placed, put}
 use Rattle.planner.specs.Placing.{ready, endOf, startOn}
 use Rattle.levelling.specs.Found.{Levelled}
 use Rattle.schedule.specs.Layout.{scheduleIn, putWords}
@@ -162,6 +163,13 @@ module _ {w w₁ : List ℕ} {j t k a f p o : ℕ} (u : Putting w j t k a f p o)
               closed = placing.closed-put s σ t k a f (u .can);
             }
 
+        standing₄ : (v : ℕ) → placed σ′ v ≡ true → placeOf σ′ v < σ′ .opened
+        standing₄ v e = go (ℕ-discrete v t)
+          where
+            go : Dec (v ≡ t) → placeOf σ′ v < σ′ .opened
+            go (yes d) = omega (arith, ap (placeOf σ′) d, placing.place-same s σ t k a f (u .can))
+            go (no d) = omega (arith, placing.place-other s σ t k a f (u .can) v d, u .going .kept .standing v (sym (placing.placed-other s σ t k a f (u .can) v d) ∙ e))
+
         low₄ : (i : ℕ) → i < 8192 → getD w₄ i 0 ≡ getD w i 0
         low₄ i h = b₄ .low i (omega arith) ∙ low₃ i h
 
@@ -176,6 +184,7 @@ module _ {w w₁ : List ℕ} {j t k a f p o : ℕ} (u : Putting w j t k a f p o)
                     loaded = beside-loaded loaded₃ b₄;
                     ranged = ranged w₄ (beside-loaded loaded₃ b₄);
                     few-opened = rw schedule₄ (omega (arith, u .going .kept .few-opened, u .can .on));
+                    standing = rw schedule₄ standing₄;
                     caches = subst (λ (x : Sheet). Caches x (scheduleIn w₄) w₄) (sym sheet₄) (subst (λ (τ : Schedule). Caches s τ w₄) (sym schedule₄) caches₄);
                   };
               levelled = subst (λ (x : Sheet). Levelled x w₄) (sym sheet₄) (levelled-frame (range .few-tasks) low₄ (u .going .levelled));

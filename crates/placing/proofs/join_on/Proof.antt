@@ -1,32 +1,37 @@
-use Rattle.placing.specs.Best.{Leading, below}
 use Prim.Native.Nat.{_-_, _≤_}
+use mathlib.Core.Path.{_≡_, _∙_, refl, sym}
 use native.Mathlib.Omega.{arith}
-use Rattle.planner.specs.Placing.{barred, startOn}
-use Rattle.placing.proofs.Leads.{leads-at, leads-none}
-use Rattle.planner.specs.Planner.{mayJoin}
-use borrow.Author.Needs.{needs}
+use denote.Ref.{now}
+use Rattle.folds.specs.Folds.{greatest}
+use Rattle.folds.proofs.Loops.{greatest-at, greatest-more, greatest-zero}
+use Rattle.placing.specs.Ranks.{joinKey}
+use Rattle.placing.proofs.Starts.{start-small}
+use Rattle.placing.proofs.Steps.{join-is}
 use Rattle.schedule.specs.Layout.{scheduleIn}
 use Rattle.sheet.specs.Tables.{sheetIn}
+use borrow.Author.Needs.{needs}
 use Rattle.placing.proofs.join_on.Statement.{statement}
 use Rattle.placing.proofs.join_on.Tie as tie
 
 abbrev Inv-loop : tie.InvT-loop
-Inv-loop w t guard a n best₀ k₀ best k = (k ≤ n) × Leading (scheduleIn w .opened) (mayJoin (sheetIn w) (barred (sheetIn w)) (scheduleIn w) t) below (startOn (sheetIn w) (scheduleIn w) t) k best
+Inv-loop w t bars a n best₀ k₀ best k = (k ≤ n) × (best ≡ greatest k (joinKey (sheetIn w) (scheduleIn w) t))
 
 abbrev μ-loop : tie.MeasureT-loop
-μ-loop w t guard a n best₀ k₀ best k = n - k
+μ-loop w t bars a n best₀ k₀ best k = n - k
 
 loop-holds : tie.Need-loop-holds Inv-loop μ-loop
-loop-holds c = (search needs, leads-none)
+loop-holds c = (omega arith, sym (greatest-zero _))
 
-join-step-requires : tie.Need-join-step-requires Inv-loop μ-loop
-join-step-requires c κs = (c .before .before .before .before .pre .0, ((c .before .before .before .before .pre .1 .0, omega (arith, c .loop-test .taken, c .before .before .opened .ensures .0)), (c .before .before .before .before .pre .1 .1, c .before .loop .inv .1)))
+join-key-requires : tie.Need-join-key-requires Inv-loop μ-loop
+join-key-requires c κs = let a = c .before .before .before .before in (a .pre .0, ((a .pre .1 .0, omega (arith, c .loop-test .taken, c .before .before .opened .ensures .1)), a .pre .1 .1))
 
 loop-again : tie.Need-loop-again Inv-loop μ-loop
-loop-again c = (search needs, c .join-step .ensures)
+loop-again c = (omega (arith, c .before .before .loop-test .taken), greatest-more _ _ (c .before .before .before .loop .inv .1) (c .before .join-key .ensures) (c .later .ensures))
 
 returns : tie.Need-returns Inv-loop μ-loop
-returns c = leads-at (c .before .loop .inv .1) (omega (arith, c .before .loop .inv .0, c .loop-test .left, c .before .before .opened .ensures .0))
+returns c = let a = c .before .before .before .before .before in
+    let few = a .pre .0 .kept .few-opened in
+    (c .processor-of .ensures .0 ∙ join-is _ _ (a .args .t) few (λ k l. start-small (now (a .args .w)) (a .args .t) k (a .pre .0) (omega (arith, few)) (λ i. omega (arith, c .before .before .before .before .shared-slice-known .given i))) (greatest-at _ _ _ (c .before .before .loop .inv .1) (omega (arith, c .before .before .loop .inv .0, c .before .loop-test .left, c .before .before .before .opened .ensures .0))), c .processor-of .ensures .1)
 
 pub join-on-spec : {M : Type 1} → statement M
 join-on-spec =
@@ -36,8 +41,10 @@ join-on-spec =
     μ-loop
     (λ c κs. search needs)
     loop-holds
-    join-step-requires
+    join-key-requires
+    (λ c κs. search needs)
     (λ c. search needs)
     (λ c. search needs)
     loop-again
+    (λ c κs. search needs)
     returns)

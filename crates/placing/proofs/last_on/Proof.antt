@@ -1,31 +1,43 @@
-use Rattle.placing.specs.Best.{Leading, below}
 use Prim.Native.Nat.{_-_, _≤_}
+use mathlib.Core.Path.{_≡_, _∙_, refl, sym}
 use native.Mathlib.Omega.{arith}
-use Rattle.planner.specs.Placing.{fits, startOn}
-use Rattle.placing.proofs.Leads.{leads-at, leads-none}
-use borrow.Author.Needs.{needs}
+use denote.Ref.{now}
+use Rattle.folds.specs.Folds.{greatest}
+use Rattle.folds.proofs.Loops.{greatest-at, greatest-more, greatest-zero}
+use Rattle.placing.specs.Ranks.{lastKey}
+use Rattle.placing.proofs.Starts.{start-small}
+use Rattle.placing.proofs.Steps.{last-is, last-key-is}
 use Rattle.schedule.specs.Layout.{scheduleIn}
 use Rattle.sheet.specs.Tables.{sheetIn}
+use borrow.Author.Needs.{needs}
 use Rattle.placing.proofs.last_on.Statement.{statement}
 use Rattle.placing.proofs.last_on.Tie as tie
 
 abbrev Inv-loop : tie.InvT-loop
-Inv-loop w t n best₀ k₀ best k = (k ≤ n) × Leading (scheduleIn w .opened) (fits (sheetIn w) (scheduleIn w) t) below (startOn (sheetIn w) (scheduleIn w) t) k best
+Inv-loop w t n best₀ k₀ best k = (k ≤ n) × (best ≡ greatest k (lastKey (sheetIn w) (scheduleIn w) t))
 
 abbrev μ-loop : tie.MeasureT-loop
 μ-loop w t n best₀ k₀ best k = n - k
 
 loop-holds : tie.Need-loop-holds Inv-loop μ-loop
-loop-holds c = (search needs, leads-none)
+loop-holds c = (omega arith, sym (greatest-zero _))
 
-last-step-requires : tie.Need-last-step-requires Inv-loop μ-loop
-last-step-requires c κs = (c .before .before .before .before .pre, (omega (arith, c .loop-test .taken, c .before .before .opened .ensures .0), c .before .loop .inv .1))
+fits-on-requires : tie.Need-fits-on-requires Inv-loop μ-loop
+fits-on-requires c κs = (c .before .before .before .before .pre, omega (arith, c .loop-test .taken, c .before .before .opened .ensures .1))
+
+start-on-requires : tie.Need-start-on-requires Inv-loop μ-loop
+start-on-requires c κs = (c .before .before .before .before .before .pre .kept, (c .before .before .before .before .before .pre .task, omega (arith, c .before .loop-test .taken, c .before .before .before .opened .ensures .1)))
+
+low-key-requires : tie.Need-low-key-requires Inv-loop μ-loop
+low-key-requires c κs = (c .start-on .ensures .1, omega (arith, c .before .before .loop-test .taken, c .before .before .before .before .opened .ensures .1))
 
 loop-again : tie.Need-loop-again Inv-loop μ-loop
-loop-again c = (search needs, c .last-step .ensures)
+loop-again c = (omega (arith, c .before .before .before .before .loop-test .taken), greatest-more _ _ (c .before .before .before .before .before .loop .inv .1) (last-key-is _ _ (c .before .before .before .before .before .before .before .before .args .t) (c .before .before .before .before .before .loop .k) (c .before .before .start-on .ensures .0) (c .before .before .before .fits-on .ensures) (c .before .low-key .ensures)) (c .later .ensures))
 
 returns : tie.Need-returns Inv-loop μ-loop
-returns c = leads-at (c .before .loop .inv .1) (omega (arith, c .before .loop .inv .0, c .loop-test .left, c .before .before .opened .ensures .0))
+returns c = let a = c .before .before .before .before .before in
+    let few = a .pre .kept .few-opened in
+    (c .processor-of .ensures .0 ∙ last-is _ _ (a .args .t) few (λ k l. start-small (now (a .args .w)) (a .args .t) k (a .pre) (omega (arith, few)) (λ i. omega (arith, c .before .before .before .before .shared-slice-known .given i))) (greatest-at _ _ _ (c .before .before .loop .inv .1) (omega (arith, c .before .before .loop .inv .0, c .before .loop-test .left, c .before .before .before .opened .ensures .0))), c .processor-of .ensures .1)
 
 pub last-on-spec : {M : Type 1} → statement M
 last-on-spec =
@@ -35,8 +47,12 @@ last-on-spec =
     μ-loop
     (λ c κs. search needs)
     loop-holds
-    last-step-requires
+    fits-on-requires
+    start-on-requires
+    low-key-requires
+    (λ c κs. search needs)
     (λ c. search needs)
     (λ c. search needs)
     loop-again
+    (λ c κs. search needs)
     returns)

@@ -1,0 +1,11 @@
+use native.Mathlib.Omega.{arith}
+use Rattle.placing.proofs.Ranks.{processor-some}
+use borrow.Author.Needs.{needs}
+use Rattle.placing.proofs.processor_of.Statement.{statement}
+use Rattle.placing.proofs.processor_of.Tie as tie
+
+returns-2 : tie.Need-returns-2
+returns-2 c = (processor-some _ (omega (arith, c .if1 .left)), omega arith)
+
+pub processor-of-spec : {M : Type 1} → statement M
+processor-of-spec = tie.close (tie.spec (λ c. search needs) (λ c. search needs) returns-2)
