@@ -33,14 +33,14 @@ module _ (s : Sheet) (σ : Schedule) (t : ℕ) where
     unfolding mayTake idleKey
     idle-late {x} {a} ex ea l = sym (rw (← ex, ← ea, lt-leb x a l, both-false (fits s σ t k)))
 
+    pub idle-waits : spent s σ t k ≡ false → 0 ≡ idleKey s σ t k
+    unfolding mayTake idleKey
+    idle-waits e = sym (rw (e, both-false (leb (endOf s σ k) (arrival s σ t)), both-false (fits s σ t k)))
+
     module _ {x a : ℕ} (ex : x ≡ endOf s σ k) (ea : a ≡ arrival s σ t) (l : x ≤ a) where
       take-is : mayTake s guard σ t k ≡ both (fits s σ t k) (spent s σ t k)
       unfolding mayTake
       take-is = rw (← ex, ← ea, le-leb x a l)
-
-      pub idle-waits : spent s σ t k ≡ false → 0 ≡ idleKey s σ t k
-      unfolding idleKey
-      idle-waits e = sym (rw (take-is, e, both-false (fits s σ t k)))
 
       pub idle-full : spent s σ t k ≡ true → fits s σ t k ≡ false → 0 ≡ idleKey s σ t k
       unfolding idleKey

@@ -124,17 +124,12 @@ fn are_both(a: bool, b: bool) -> bool
     if a { b } else { false }
 }
 
-// Each successor of each task on k is placed or is a successor of t: no other link from k waits. Where more wait than
-// are due from all processors (d), the links of t need not be walked.
-fn is_spent(w: &[u32], t: usize, k: usize, d: usize) -> bool
+// Each successor of each task on k is placed or is a successor of t: no other link from k waits than the p that are due.
+fn is_spent(w: &[u32], t: usize, k: usize, p: usize) -> bool
     requires { ⌜ Choosing (now w) t ⌝ }
-    requires { ⌜ (k < 16) × (d ≡ sum (linkCount (sheetIn (now w))) (dueBy (sheetIn (now w)) (scheduleIn (now w)) t Senders.All)) ⌝ }
+    requires { ⌜ (k < 16) × (p ≡ getD (now w) (13360 + k) 0) ⌝ }
     ensures { λ r. ⌜ r ≡ spent (sheetIn (now (w .entry))) (scheduleIn (now (w .entry))) t k ⌝ }
 {
-    let p = workspace::word(w, 13360 + k);
-    if d < p {
-        return false;
-    }
     if p == 0 {
         true
     } else {
@@ -238,16 +233,21 @@ fn join_on(w: &[u32], t: usize, bars: usize, a: usize) -> Found
     processor_of(best)
 }
 
-// The key of k in step 2; a is t's arrival and d what is due from all processors.
+// The key of k in step 2; a is t's arrival. Where more links from k wait than are due from all processors (d), which is
+// mostly so, nothing else is looked at.
 fn idle_key(w: &[u32], t: usize, a: usize, d: usize, k: usize) -> usize
     requires { ⌜ Choosing (now w) t ⌝ }
     requires { ⌜ (a ≡ arrival (sheetIn (now w)) (scheduleIn (now w)) t) × (k < 16) ⌝ }
     requires { ⌜ d ≡ sum (linkCount (sheetIn (now w))) (dueBy (sheetIn (now w)) (scheduleIn (now w)) t Senders.All) ⌝ }
     ensures { λ r. ⌜ r ≡ idleKey (sheetIn (now (w .entry))) (scheduleIn (now (w .entry))) t k ⌝ }
 {
+    let p = workspace::word(w, 13360 + k);
+    if d < p {
+        return 0;
+    }
     let e = end_of(w, k);
     if e <= a {
-        if is_spent(w, t, k, d) {
+        if is_spent(w, t, k, p) {
             if fits_on(w, t, k) {
                 return high_key(e, k);
             }
