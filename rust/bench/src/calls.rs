@@ -2,7 +2,7 @@
 
 use crate::cases::{Case, Input, MOST_BYTES};
 use crate::steps::{product_steps, rewrite_steps};
-use crate::timing::{in_turns, Calls, Pair};
+use crate::timing::{alone, in_turns, Calls, Pair, Times};
 use reference::interface;
 use reference::machine::Machine;
 use reference::sheet::{Sheet, MOST_LINKS, MOST_TASKS};
@@ -32,6 +32,12 @@ fn both(case: &Case, mut product: impl FnMut(&Input), mut rewrite: impl FnMut(&I
         Calls { inputs: inputs.len(), call: |i: usize| product(&inputs[i]) },
         Calls { inputs: inputs.len(), call: |i: usize| rewrite(&inputs[i]) },
     )
+}
+
+/// Times the clearing of a work area alone, which every call of the product ends with.
+pub fn clearing() -> Times {
+    let mut work = area();
+    alone(16, || black_box(&mut work).fill(0))
 }
 
 fn reading(case: &Case) -> Pair {

@@ -36,7 +36,8 @@ fn main() -> ExitCode {
 /// A row for each case and call, and again those in which the product is slower.
 fn all_calls() {
     println!("Product and rewrite on {}, both built for release, in turns.", processor());
-    println!("{HEAD}");
+    print!("{HEAD}");
+    println!("Clearing it alone takes {:.3}.\n", calls::clearing().median);
     println!("{:<17}{:<10}{:>10}{:>10}{:>10}{:>10}{:>7}", "", "", "product", "", "rewrite", "", "");
     println!(
         "{:<17}{:<10}{:>10}{:>10}{:>10}{:>10}{:>7}",

@@ -84,6 +84,16 @@ impl Pair {
     }
 }
 
+/// Times one job alone, so many calls to a timing.
+pub fn alone(calls: usize, mut call: impl FnMut()) -> Times {
+    let timings = (0..TIMINGS).map(|_| {
+        let start = Instant::now();
+        (0..calls).for_each(|_| call());
+        start.elapsed()
+    });
+    Times::of(timings.collect(), calls)
+}
+
 /// Times both jobs, each with the same calls, in turns. The inputs are timed one by one where a call
 /// lasts long enough, and else all together; the times are then means over the inputs.
 pub fn in_turns(mut product: impl Job, mut rewrite: impl Job) -> Pair {
