@@ -5,7 +5,7 @@ use mathlib.Core.Logic.{_≢_}
 use mathlib.Core.List.{List, [], _++_, append-assoc, append-nil}
 use native.Mathlib.Omega.{arith}
 use lib.ListN.{length, getD, length-append}
-use Rattle.folds.specs.Folds.{gather}
+use Rattle.folds.specs.Folds.{sum, gather}
 use Rattle.folds.proofs.Loops.{gather-zero, gather-one}
 use Rattle.sheet.specs.Sheet.{Sheet, taskCount, linkCount}
 use Rattle.chains.specs.Chains.{endBy, headAt, Chained}
@@ -20,6 +20,11 @@ pub gather-front : {X : Type 0} (n : ℕ) (f : ℕ → List X) → gather (suc n
 unfolding gather
 gather-front zero f = sym (append-nil (f 0))
 gather-front (suc n) f = ap (λ (x : List _). x ++ f (suc n)) (gather-front n f) ∙ append-assoc (f 0) (gather n (λ i. f (suc i))) (f (suc n))
+
+pub gather-long : {X : Type 0} (n : ℕ) (f : ℕ → List X) → length (gather n f) ≡ sum n (λ i. length (f i))
+unfolding gather sum
+gather-long zero f = refl
+gather-long (suc n) f = omega (arith, length-append (gather n f) (f n), gather-long n f)
 
 -- a part of what is gathered is no longer than the whole
 pub gather-part : {X : Type 0} (n : ℕ) (f : ℕ → List X) (i : ℕ) → i < n → length (gather i f) + length (f i) ≤ length (gather n f)

@@ -1,9 +1,11 @@
 -- From the bytes of a sheet to its plan: refused, without a schedule, or written.
 use Prim.Native.Nat.{ℕ, zero, suc, _<_}
 use mathlib.Core.Path.{_≡_, refl, sym, ap, subst, _∙_}
-use mathlib.Core.List.{List}
+use mathlib.Core.List.{List, [], _∷_}
 use native.Mathlib.Omega.{arith}
+use lib.Dec.{eqb}
 use lib.ListN.{length, getD}
+use Rattle.folds.specs.Folds.{bit, sum}
 use Rattle.folds.specs.Answers.{Answer, value, refused, andThen, fitting}
 use Rattle.sheet.specs.Sheet.{Sheet, taskCount}
 use Rattle.sheet.specs.Tables.{sheetIn}
@@ -18,16 +20,17 @@ use Rattle.graph.proofs.Proper.{Proper, proper}
 use Rattle.bundle.specs.Writing.{bundleBytes}
 use Rattle.bundle_writer.specs.declared.writer.Judged.{Judged}
 use Rattle.bundle_writer.specs.declared.writer.Judged.the-variants.{Refused}
-use Rattle.planner.specs.Schedule.{Schedule}
+use Rattle.planner.specs.Schedule.{Schedule, empty, placeOf}
 use Rattle.planner.specs.Placing.{barred}
 use Rattle.planner.specs.Planner.{planned, bundleOf, plan}
-use Rattle.planner.proofs.Schedules.{Built, built, placing, plan-of, empty-fair, planned-build}
+use Rattle.planner.proofs.Schedules.{Built, built, placing, tally, Plan, Completed, plan-of, empty-free, empty-fair, planned-build}
 use Rattle.schedule.specs.Layout.{scheduleIn}
 use Rattle.placing.specs.Choosing.{Single}
 use Rattle.placing.proofs.Singles.{read-single}
 use Rattle.turns.specs.Turns.{Afterwards}
 use Rattle.programmes.specs.Scheduled.{Scheduled}
 use Rattle.programmes.specs.Written.{bundleFor, planFor, WriteIs, PlanIs}
+use Rattle.programmes.proofs.Sums.{sum-front}
 use Rattle.programmes.proofs.Writes.{write-refused}
 
 -- the planner's answer is the plan, where the output has room for it
@@ -49,12 +52,29 @@ built-below built i h = absurd (omega arith)
 built-below (placing p n) zero h = p .below
 built-below (placing p n) (suc i) h = built-below n i (omega arith)
 
-order-below : (s : Sheet) → Proper s → (φ : Schedule) → planned s ≡ value φ → (i : ℕ) → i < length (φ .order) → getD (φ .order) i 0 < taskCount s
-unfolding planned
-order-below s p φ e i h =
-    let c = planned-build s p (barred s) φ e in
-    let o = plan-of s p (empty-fair s p) (c .1) .order in
-    rw o (built-below (c .1) i (rw o at h))
+tally-sum : (u : ℕ) (ts : List ℕ) → tally u ts ≡ sum (length ts) (λ i. bit (eqb u (getD ts i 0)))
+unfolding sum
+tally-sum u [] = refl
+tally-sum u (t ∷ ts) = omega (arith, tally-sum u ts, sum-front (length ts) (λ i. bit (eqb u (getD (t ∷ ts) i 0))))
+
+module _ (s : Sheet) (p : Proper s) (φ : Schedule) (e : planned s ≡ value φ) where
+  whole : Completed s (empty s) φ
+  unfolding planned
+  whole = planned-build s p (barred s) φ e
+
+  done : Plan s (empty s) φ (whole .0)
+  done = plan-of s p (empty-fair s p) (whole .1)
+
+  order-below : (i : ℕ) → i < length (φ .order) → getD (φ .order) i 0 < taskCount s
+  order-below i h = rw (done .order) (built-below (whole .1) i (rw (done .order) at h))
+
+  -- each task stands on an open processor, and was placed at one turn
+  task-standing : (t : ℕ) → t < taskCount s → placeOf φ t < φ .opened
+  task-standing t h = done .fair .home t (whole .2 t h)
+
+  task-once : (t : ℕ) → t < taskCount s → sum (length (φ .order)) (λ i. bit (eqb t (getD (φ .order) i 0))) ≡ 1
+  task-once t h =
+      rw (done .order) (omega (arith, tally-sum t (whole .0), done .once t, ap bit (empty-free s p t), ap bit (whole .2 t h)))
 
 -- what planning leaves can be written
 pub scheduled : {w₀ w : List ℕ} → Proper (sheetIn w₀) → Afterwards w₀ w → planned (sheetIn w₀) ≡ value (scheduleIn w) → Scheduled w
@@ -66,6 +86,8 @@ scheduled {w₀} {w} p a q =
       few-opened = a .few-opened;
       few-placed = a .few-placed;
       tasks = λ i h. rw (a .sheet) (order-below (sheetIn w₀) p (scheduleIn w) q i h);
+      standing = λ t h. task-standing (sheetIn w₀) p (scheduleIn w) q t (rw (a .sheet) at h);
+      once = λ t h. task-once (sheetIn w₀) p (scheduleIn w) q t (rw (a .sheet) at h);
     }
 
 module _ (b : List ℕ) {work mid : List ℕ} {o : Reading} (h : OpenIs (readSheet b) work mid o) where

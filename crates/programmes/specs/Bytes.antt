@@ -8,7 +8,7 @@ use Rattle.chains.specs.declared.End.{End}
 use Rattle.chains.specs.declared.End.the-variants.{Source, Target}
 use Rattle.bundle.specs.Bundle.{Command}
 use Rattle.bundle.specs.Writing.{programmeBytes}
-use Rattle.planner.specs.Schedule.{Schedule, stands}
+use Rattle.planner.specs.Schedule.{Schedule, placeOf, stands}
 use Rattle.planner.specs.Planner.{receiveOf, sendOf, blockOf, programme}
 
 -- the other end of a link, and the command byte of its message, by the end at which it is met: a task sends by the links out of it, and receives by those into it
@@ -21,6 +21,10 @@ codeOf Source = 0x53
 codeOf Target = 0x56
 
 module _ (s : Sheet) (σ : Schedule) where
+  -- how long the send of link l is, and its receive: neither is written between tasks on one processor
+  unfoldable pub messageLength : ℕ → ℕ
+  messageLength l = pick (stands σ (sourceOf s l) (placeOf σ (targetOf s l))) 0 3
+
   abbrev pub messageOf : End → ℕ → ℕ → ℕ → List Command
   messageOf Source k t l = sendOf s σ k t l
   messageOf Target k t l = receiveOf s σ k t l

@@ -1,18 +1,25 @@
-use mathlib.Core.Path.{_∙_, sym}
-use native.Mathlib.Omega.{arith}
-use Rattle.programmes.proofs.Measures.{message-empty, message-three}
 use borrow.Author.Needs.{needs}
+use native.Mathlib.Omega.{arith}
 use denote.Ref.{now}
 use Rattle.schedule.specs.Layout.{scheduleIn}
 use Rattle.sheet.specs.Tables.{sheetIn}
+use Rattle.programmes.proofs.Lengths.{length-away, length-here}
 use Rattle.programmes.proofs.measuring.of_message.Statement.{statement}
 use Rattle.programmes.proofs.measuring.of_message.Tie as tie
 
 returns : tie.Need-returns
-returns c = let a = c .before .before .before .args in (message-three (sheetIn (now (a .w))) (scheduleIn (now (a .w))) (a .e) (a .k) (a .l) (sym (c .before .is-away .ensures) ∙ c .if1 .taken), omega arith)
+returns c = let a = c .before .before .before .before .before .before .args in (length-here (sheetIn (now (a .w))) (scheduleIn (now (a .w))) (a .l) (c .before .before .before .before .source .ensures .0) (c .before .before .target .ensures .0) (c .before .before .before .place .ensures .0) (c .before .place2 .ensures .0) (c .if1 .taken), omega arith)
 
 returns-2 : tie.Need-returns-2
-returns-2 c = let a = c .before .before .before .args in (message-empty (sheetIn (now (a .w))) (scheduleIn (now (a .w))) (a .e) (a .k) (a .l) (sym (c .before .is-away .ensures) ∙ c .if1 .left), omega arith)
+returns-2 c = let a = c .before .before .before .before .before .before .args in (length-away (sheetIn (now (a .w))) (scheduleIn (now (a .w))) (a .l) (c .before .before .before .before .source .ensures .0) (c .before .before .target .ensures .0) (c .before .before .before .place .ensures .0) (c .before .place2 .ensures .0) (c .if1 .left), omega arith)
 
 pub of-message-spec : {M : Type 1} → statement M
-of-message-spec = tie.close (tie.spec (λ c κs. search needs) returns returns-2)
+of-message-spec =
+    tie.close
+    (tie.spec
+    (λ c κs. search needs)
+    (λ c κs. search needs)
+    (λ c κs. search needs)
+    (λ c κs. search needs)
+    returns
+    returns-2)
