@@ -4,5 +4,6 @@ pub mod Parts
 pub mod Measures
 pub mod Lengths
 pub mod Puts
+pub mod Queueing
 pub mod Writes
 pub mod Plans

@@ -1,3 +1,4 @@
 pub mod Bytes
+pub mod Queues
 pub mod Scheduled
 pub mod Written

@@ -12,6 +12,7 @@ ghost use Rattle.programmes.specs.Scheduled.{Scheduled};
 ghost use Rattle.programmes.specs.Written.{bundleFor, WriteIs};
 
 mod measuring;
+mod queues;
 pub mod whole;
 mod writing;
 

@@ -1,5 +1,6 @@
 // Writes the programmes of the schedule, each directly behind the one before it.
 ghost use mathlib.Core.Path.{_≡_};
+ghost use mathlib.Core.Bool.{true};
 ghost use mathlib.Core.List.{[], _∷_};
 ghost use Prim.Native.Nat.{_+_, _<_, _≤_};
 ghost use lib.ListN.{length};
@@ -9,9 +10,11 @@ ghost use Rattle.sheet.specs.Sheet.{taskCount, linkCount};
 ghost use Rattle.sheet.specs.Tables.{sheetIn};
 ghost use Rattle.chains.specs.Chains.{endBy};
 ghost use Rattle.bundle.specs.Writing.{claimBytes, bundleBytes};
+ghost use Rattle.planner.specs.Schedule.{stands};
 ghost use Rattle.planner.specs.Planner.{bundleOf};
 ghost use Rattle.schedule.specs.Layout.{scheduleIn};
 ghost use Rattle.programmes.specs.Bytes.{codeOf, messageBytes, messagesBytes, blockBytes, turnBytes, openBytes};
+ghost use Rattle.programmes.specs.Queues.{Queued};
 ghost use Rattle.programmes.specs.Scheduled.{Scheduled};
 use chains::End;
 use sheet::tables;
@@ -75,50 +78,50 @@ fn put_messages(w: &[u32], out: &mut [u8], start: usize, e: End, k: usize, t: us
     at
 }
 
-// The block of t, if it stands on k: receives, run, sends.
+// The block of t, which stands on k: receives, run, sends.
 fn put_block(w: &[u32], out: &mut [u8], at: usize, k: usize, t: usize) -> usize
     requires { ⌜ Scheduled (now w) ⌝ }
-    requires { ⌜ t < taskCount (sheetIn (now w)) ⌝ }
+    requires { ⌜ (t < taskCount (sheetIn (now w))) × (stands (scheduleIn (now w)) t k ≡ true) ⌝ }
     requires { ⌜ at + length (blockBytes (sheetIn (now w)) (scheduleIn (now w)) k t) ≤ length (now out) ⌝ }
     ensures { λ r. ⌜ Put (now (out .entry)) at (blockBytes (sheetIn (now (w .entry))) (scheduleIn (now (w .entry))) k t) (now (out .exit)) r ⌝ }
 {
-    if schedule::place(w, t) == k {
-        let received = put_messages(w, out, at, End::Target, k, t);
-        let ran = put_pair(out, received, 0x52, t);
-        return put_messages(w, out, ran, End::Source, k, t);
-    }
-    at
+    let received = put_messages(w, out, at, End::Target, k, t);
+    let ran = put_pair(out, received, 0x52, t);
+    put_messages(w, out, ran, End::Source, k, t)
 }
 
 // The blocks of all tasks on k, in placing order.
-fn put_blocks(w: &[u32], out: &mut [u8], start: usize, k: usize) -> usize
+fn put_blocks(w: &[u32], queues: &[u32], out: &mut [u8], start: usize, k: usize) -> usize
     requires { ⌜ Scheduled (now w) ⌝ }
+    requires { ⌜ (k < 16) × Queued (scheduleIn (now w)) 0 (now queues) ⌝ }
     requires { ⌜ start + length (gather (length (scheduleIn (now w) .order)) (turnBytes (sheetIn (now w)) (scheduleIn (now w)) k)) ≤ length (now out) ⌝ }
     ensures { λ r. ⌜ Put (now (out .entry)) start (gather (length (scheduleIn (now (w .entry)) .order)) (turnBytes (sheetIn (now (w .entry))) (scheduleIn (now (w .entry))) k)) (now (out .exit)) r ⌝ }
 {
     let p = schedule::placed(w);
     let mut at = start;
-    let mut i: usize = 0;
+    let mut i = workspace::word(queues, k);
     while i < p {
         at = put_block(w, out, at, k, schedule::turn(w, i));
-        i += 1;
+        i = workspace::word(queues, 16 + i);
     }
     at
 }
 
 // The programme of k at the front of `out`.
-fn put_programme(w: &[u32], out: &mut [u8], k: usize) -> usize
+fn put_programme(w: &[u32], queues: &[u32], out: &mut [u8], k: usize) -> usize
     requires { ⌜ Scheduled (now w) ⌝ }
-    requires { ⌜ (k < 256) × (length (openBytes (sheetIn (now w)) (scheduleIn (now w)) k) ≤ length (now out)) ⌝ }
+    requires { ⌜ (k < 16) × Queued (scheduleIn (now w)) 0 (now queues) ⌝ }
+    requires { ⌜ length (openBytes (sheetIn (now w)) (scheduleIn (now w)) k) ≤ length (now out) ⌝ }
     ensures { λ r. ⌜ Put (now (out .entry)) 0 (openBytes (sheetIn (now (w .entry))) (scheduleIn (now (w .entry))) k) (now (out .exit)) r ⌝ }
 {
     let at = put_pair(out, 0, 0x50, k);
-    put_blocks(w, out, at, k)
+    put_blocks(w, queues, out, at, k)
 }
 
 // All programmes, each at the front of what the one before it left.
-fn put_programmes(w: &[u32], out: &mut [u8]) -> usize
+fn put_each(w: &[u32], queues: &[u32], out: &mut [u8]) -> usize
     requires { ⌜ Scheduled (now w) ⌝ }
+    requires { ⌜ Queued (scheduleIn (now w)) 0 (now queues) ⌝ }
     requires { ⌜ length (gather (scheduleIn (now w) .opened) (openBytes (sheetIn (now w)) (scheduleIn (now w)))) ≤ length (now out) ⌝ }
     ensures { λ r. ⌜ Put (now (out .entry)) 0 (gather (scheduleIn (now (w .entry)) .opened) (openBytes (sheetIn (now (w .entry))) (scheduleIn (now (w .entry))))) (now (out .exit)) r ⌝ }
 {
@@ -126,11 +129,23 @@ fn put_programmes(w: &[u32], out: &mut [u8]) -> usize
     let mut at: usize = 0;
     let mut k: usize = 0;
     while k < p {
-        let long = put_programme(w, &mut out[at..], k);
+        let long = put_programme(w, queues, &mut out[at..], k);
         at += long;
         k += 1;
     }
     at
+}
+
+// All programmes, by the queues of the processors.
+fn put_programmes(w: &[u32], out: &mut [u8]) -> usize
+    requires { ⌜ Scheduled (now w) ⌝ }
+    requires { ⌜ length (gather (scheduleIn (now w) .opened) (openBytes (sheetIn (now w)) (scheduleIn (now w)))) ≤ length (now out) ⌝ }
+    ensures { λ r. ⌜ Put (now (out .entry)) 0 (gather (scheduleIn (now (w .entry)) .opened) (openBytes (sheetIn (now (w .entry))) (scheduleIn (now (w .entry))))) (now (out .exit)) r ⌝ }
+{
+    let none = workspace::narrow(schedule::placed(w));
+    let mut queues = [none; 272];
+    crate::queues::queue_all(w, &mut queues);
+    put_each(w, &queues, out)
 }
 
 fn put_claim(out: &mut [u8], at: usize, claim: usize)
