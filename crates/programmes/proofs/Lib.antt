@@ -3,6 +3,7 @@ pub mod Gathers
 pub mod Parts
 pub mod Measures
 pub mod Lengths
+pub mod Lays
 pub mod Puts
 pub mod Queueing
 pub mod Writes

@@ -8,7 +8,6 @@ use lib.ListN.{length, getD, set}
 use Rattle.folds.specs.Folds.{gather}
 use Rattle.folds.proofs.Loops.{gather-zero, gather-one}
 use Rattle.numbers.specs.Number.{numberBytes, stored}
-use Rattle.numbers.proofs.Puts.{put-none, put-as, put-then}
 use Rattle.numbers.proofs.Laws.{stored-one, stored-then}
 use Rattle.sheet.specs.Sheet.{Sheet, taskCount, linkCount}
 use Rattle.chains.specs.Chains.{endBy, headAt, Chained}
@@ -19,6 +18,8 @@ use Rattle.planner.specs.Schedule.{Schedule, stands}
 use Rattle.planner.specs.Planner.{claimOf, bundleOf}
 use Rattle.programmes.specs.Bytes.{messageBytes, messagesBytes, blockBytes, turnBytes, openBytes}
 use Rattle.numbers.specs.Number.{Put}
+use Rattle.programmes.specs.Laid.{Laid}
+use Rattle.programmes.proofs.Lays.{laid-none, laid-as, laid-then, laid-put, laid-last}
 use Rattle.programmes.proofs.Gathers.{gather-first, gather-next, gather-part}
 use Rattle.programmes.proofs.Parts.{message-none, block-home, open-parts, bundle-parts}
 use Rattle.programmes.proofs.Measures.{Walk, walk-starts, walk-on}
@@ -31,22 +32,22 @@ stored-number width b last at x y c l h p q e =
 
 -- the first i lists of an index stand from start on
 pub record Filled (f : ℕ → List ℕ) (old : List ℕ) (start i : ℕ) (out : List ℕ) (at : ℕ) : Type 0 where
-  pub put : Put old start (gather i f) out at
+  pub laid : Laid old start (gather i f) out at
   pub long : length out ≡ length old
 
 module _ (f : ℕ → List ℕ) (old : List ℕ) (start : ℕ) where
   pub filled-none : Filled f old start 0 old start
-  filled-none = record { put = put-as (sym (gather-zero f)) (put-none old start); long = refl }
+  filled-none = record { laid = laid-as (sym (gather-zero f)) (laid-none old start); long = refl }
 
   module _ {i : ℕ} {out : List ℕ} {at : ℕ} (g : Filled f old start i out at) where
-    pub filled-room : (n : ℕ) → i < n → start + length (gather n f) ≤ length old → at + length (f i) ≤ length out
-    filled-room n h room = omega (arith, g .put .next, g .long, gather-part n f i h)
+    pub filled-room : (n : ℕ) → i < n → start + length (gather n f) + 3 ≤ length old → at + length (f i) + 3 ≤ length out
+    filled-room n h room = omega (arith, g .laid .next, g .long, gather-part n f i h)
 
-    pub filled-more : {last : List ℕ} {r : ℕ} → start ≤ length old → Put out at (f i) last r → length last ≡ length out → Filled f old start (i + 1) last r
-    filled-more h p l = record { put = put-as (sym (gather-one i f)) (put-then h (g .put) p); long = l ∙ g .long }
+    pub filled-more : {last : List ℕ} {r : ℕ} → Laid out at (f i) last r → length last ≡ length out → Filled f old start (i + 1) last r
+    filled-more p l = record { laid = laid-as (sym (gather-one i f)) (laid-then (g .laid) p); long = l ∙ g .long }
 
-    pub filled-all : (n : ℕ) → i ≡ n → Put old start (gather n f) out at
-    filled-all n e = put-as (ap (λ (k : ℕ). gather k f) e) (g .put)
+    pub filled-all : (n : ℕ) → i ≡ n → Laid old start (gather n f) out at
+    filled-all n e = laid-as (ap (λ (k : ℕ). gather k f) e) (g .laid)
 
 -- the messages of t by its links below l
 module _ (s : Sheet) (σ : Schedule) where
@@ -59,50 +60,44 @@ module _ (s : Sheet) (σ : Schedule) where
     putting-starts q h =
         record {
           walk = walk-starts d t t-in q h;
-          filled = record { put = put-as (sym (gather-first d t t-in (messageBytes s σ e k t) (λ i g. message-none s σ e k t i g) q)) (put-none old start); long = refl };
+          filled = record { laid = laid-as (sym (gather-first d t t-in (messageBytes s σ e k t) (λ i g. message-none s σ e k t i g) q)) (laid-none old start); long = refl };
         }
 
-    pub putting-room : {l : ℕ} {out : List ℕ} {at : ℕ} → Putting e k t old start l out at → l < linkCount s → start + length (messagesBytes s σ e k t) ≤ length old
-        → at + length (messageBytes s σ e k (endBy e s l) l) ≤ length out
+    pub putting-room : {l : ℕ} {out : List ℕ} {at : ℕ} → Putting e k t old start l out at → l < linkCount s → start + length (messagesBytes s σ e k t) + 3 ≤ length old → at + 3 ≤ length out
     unfolding messagesBytes
-    putting-room {l} g h room =
-        omega (
-          arith,
-          filled-room (messageBytes s σ e k t) old start (g .filled) (linkCount s) h room,
-          ap (λ (u : ℕ). length (messageBytes s σ e k u l)) (g .walk .own h),
-        )
+    putting-room {l} g h room = omega (arith, filled-room (messageBytes s σ e k t) old start (g .filled) (linkCount s) h room)
 
-    pub putting-on : {l l′ : ℕ} {out last : List ℕ} {at r : ℕ} → start ≤ length old → Putting e k t old start l out at → l < linkCount s
-        → Put out at (messageBytes s σ e k (endBy e s l) l) last r → length last ≡ length out
+    pub putting-on : {l l′ : ℕ} {out last : List ℕ} {at r : ℕ} → Putting e k t old start l out at → l < linkCount s
+        → Laid out at (messageBytes s σ e k (endBy e s l) l) last r → length last ≡ length out
         → l′ ≡ getD w (headAt e + 256 + l) 0 → l′ ≤ linkCount s → l < l′ → Putting e k t old start l′ last r
-    putting-on {l} {l′} from g h p long q few more =
+    putting-on {l} {l′} g h p long q few more =
         let f = messageBytes s σ e k t in
         let own = g .walk .own h in
         record {
           walk = walk-on d t t-in (g .walk) h q few;
           filled =
               record {
-                put =
-                    put-as (sym (gather-next d t t-in f (λ i z. message-none s σ e k t i z) h own q more))
-                    (put-then from (g .filled .put) (put-as (ap (λ (u : ℕ). messageBytes s σ e k u l) own) p));
+                laid =
+                    laid-as (sym (gather-next d t t-in f (λ i z. message-none s σ e k t i z) h own q more))
+                    (laid-then (g .filled .laid) (laid-as (ap (λ (u : ℕ). messageBytes s σ e k u l) own) p));
                 long = long ∙ g .filled .long;
               };
         }
 
-  pub putting-done : {e : End} {k t l start at : ℕ} {old out : List ℕ} → Putting e k t old start l out at → linkCount s ≤ l → Put old start (messagesBytes s σ e k t) out at
+  pub putting-done : {e : End} {k t l start at : ℕ} {old out : List ℕ} → Putting e k t old start l out at → linkCount s ≤ l → Laid old start (messagesBytes s σ e k t) out at
   unfolding messagesBytes
   putting-done {e} {k} {t} {l} {start} {at} {old} g h = filled-all (messageBytes s σ e k t) old start (g .filled) (linkCount s) (omega (arith, g .walk .here))
 
   -- receives, run, sends
-  pub block-put : (k t : ℕ) → stands σ t k ≡ true → {old m₁ m₂ m₃ : List ℕ} {at a b r : ℕ} → at ≤ length old → Put old at (messagesBytes s σ Target k t) m₁ a → Put m₁ a (0x52 ∷ t ∷ []) m₂ b → Put m₂ b (messagesBytes s σ Source k t) m₃ r
-      → Put old at (blockBytes s σ k t) m₃ r
-  block-put k t h l p q r = put-as (sym (block-home s σ k t h)) (put-then l (put-then l p q) r)
+  pub block-put : (k t : ℕ) → stands σ t k ≡ true → {old m₁ m₂ m₃ : List ℕ} {at a b r : ℕ} → Laid old at (messagesBytes s σ Target k t) m₁ a → a ≤ length m₁ → Put m₁ a (0x52 ∷ t ∷ []) m₂ b
+      → Laid m₂ b (messagesBytes s σ Source k t) m₃ r → Laid old at (blockBytes s σ k t) m₃ r
+  block-put k t h p l q r = laid-as (sym (block-home s σ k t h)) (laid-then (laid-then p (laid-put l q)) r)
 
   -- `50 k`, and the blocks of its tasks
-  pub open-put : (k : ℕ) {old mid last : List ℕ} {a r : ℕ} → Put old 0 (0x50 ∷ k ∷ []) mid a → Put mid a (gather (length (σ .order)) (turnBytes s σ k)) last r → Put old 0 (openBytes s σ k) last r
-  open-put k p q = put-as (sym (open-parts s σ k)) (put-then (omega arith) p q)
+  pub open-put : (k : ℕ) {old mid last : List ℕ} {start a r : ℕ} → start ≤ length old → Put old start (0x50 ∷ k ∷ []) mid a → Laid mid a (gather (length (σ .order)) (turnBytes s σ k)) last r
+      → Laid old start (openBytes s σ k) last r
+  open-put k l p q = laid-as (sym (open-parts s σ k)) (laid-then (laid-put l p) q)
 
   -- the programmes, and the claim
-  pub bundle-put : {old mid last : List ℕ} {a : ℕ} → Put old 0 (gather (σ .opened) (openBytes s σ)) mid a → last ≡ stored mid a (claimBytes (claimOf s σ)) → last ≡ stored old 0 (bundleBytes (bundleOf s σ))
-  bundle-put {old} {mid} {last} {a} p e =
-      stored-then old mid last 0 a (gather (σ .opened) (openBytes s σ)) (claimBytes (claimOf s σ)) (p .left) e (p .next) (omega arith) ∙ ap (stored old 0) (sym (bundle-parts s σ))
+  pub bundle-put : {old mid last : List ℕ} {a : ℕ} → Laid old 0 (gather (σ .opened) (openBytes s σ)) mid a → last ≡ stored mid a (claimBytes (claimOf s σ)) → last ≡ stored old 0 (bundleBytes (bundleOf s σ))
+  bundle-put {old} p e = laid-last (claimBytes (claimOf s σ)) (omega arith) p e ∙ ap (stored old 0) (sym (bundle-parts s σ))

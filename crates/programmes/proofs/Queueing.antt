@@ -11,13 +11,13 @@ use lib.Seq.{getD-set-same, getD-set-other}
 use Rattle.folds.specs.Folds.{gather}
 use Rattle.sheet.specs.Sheet.{Sheet, taskCount}
 use Rattle.sheet.specs.Tables.{sheetIn}
-use Rattle.numbers.specs.Number.{Put}
-use Rattle.numbers.proofs.Puts.{put-as}
 use Rattle.planner.specs.Schedule.{Schedule, placeOf, stands}
 use Rattle.schedule.specs.Layout.{scheduleIn}
 use Rattle.programmes.specs.Scheduled.{Scheduled}
 use Rattle.programmes.specs.Bytes.{turnBytes}
 use Rattle.programmes.specs.Queues.{placeAt, Onward, Queued}
+use Rattle.programmes.specs.Laid.{Laid}
+use Rattle.programmes.proofs.Lays.{laid-as}
 use Rattle.programmes.proofs.Gathers.{gather-skip}
 use Rattle.programmes.proofs.Parts.{block-away}
 use Rattle.programmes.proofs.Measures.{stands-here, stands-else}
@@ -115,10 +115,10 @@ module _ (s : Sheet) (σ : Schedule) (k : ℕ) where
   filled-onward {old} {out} {start} {at} {a} {b} g o =
       let z : a + (b - a) ≡ b = omega (arith, o .low) in
       record {
-        put =
-            put-as
+        laid =
+            laid-as
             (sym (gather-skip (turnBytes s σ k) a (b - a) (λ i x y. turn-none i (o .others i x (omega (arith, y, z))))) ∙ ap (λ (n : ℕ). gather n (turnBytes s σ k)) z)
-            (g .put);
+            (g .laid);
         long = g .long;
       }
 
@@ -137,12 +137,12 @@ module _ (s : Sheet) (σ : Schedule) (k : ℕ) where
         filled = subst (λ (x : ℕ). Filled (turnBytes s σ k) old start x old start) (sym e) (filled-onward (filled-none (turnBytes s σ k) old start) o);
       }
 
-  pub blocks-more : {q old out last : List ℕ} {start i j at r : ℕ} → Queued σ 0 q → start ≤ length old → Blocks old start i out at → i < length (σ .order)
-      → Put out at (turnBytes s σ k i) last r → length last ≡ length out → j ≡ getD q (16 + i) 0 → Blocks old start j last r
-  blocks-more {q} {old} {out} {last} {start} {i} {j} {at} {r} d from g h p l e =
+  pub blocks-more : {q old out last : List ℕ} {start i j at r : ℕ} → Queued σ 0 q → Blocks old start i out at → i < length (σ .order)
+      → Laid out at (turnBytes s σ k i) last r → length last ≡ length out → j ≡ getD q (16 + i) 0 → Blocks old start j last r
+  blocks-more {q} {old} {out} {last} {start} {i} {j} {at} {r} d g h p l e =
       let o : Onward σ k (i + 1) (getD q (16 + i) 0) = subst (λ (x : ℕ). Onward σ x (i + 1) (getD q (16 + i) 0)) (g .own h) (d .next i (omega arith) h) in
       record {
         few = omega (arith, o .few, e);
         own = λ f. ap (placeAt σ) e ∙ o .own (omega (arith, e, f));
-        filled = subst (λ (x : ℕ). Filled (turnBytes s σ k) old start x last r) (sym e) (filled-onward (filled-more (turnBytes s σ k) old start (g .filled) from p l) o);
+        filled = subst (λ (x : ℕ). Filled (turnBytes s σ k) old start x last r) (sym e) (filled-onward (filled-more (turnBytes s σ k) old start (g .filled) p l) o);
       }

@@ -1,4 +1,5 @@
 pub mod Bytes
+pub mod Laid
 pub mod Queues
 pub mod Scheduled
 pub mod Written

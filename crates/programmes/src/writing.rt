@@ -14,6 +14,7 @@ ghost use Rattle.planner.specs.Schedule.{stands};
 ghost use Rattle.planner.specs.Planner.{bundleOf};
 ghost use Rattle.schedule.specs.Layout.{scheduleIn};
 ghost use Rattle.programmes.specs.Bytes.{codeOf, messageBytes, messagesBytes, blockBytes, turnBytes, openBytes};
+ghost use Rattle.programmes.specs.Laid.{Laid};
 ghost use Rattle.programmes.specs.Queues.{Queued};
 ghost use Rattle.programmes.specs.Scheduled.{Scheduled};
 use chains::End;
@@ -48,25 +49,28 @@ fn put_pair(out: &mut [u8], at: usize, command: u8, operand: usize) -> usize
     at + 2
 }
 
-// The message of link l, met at its end e by a task on k.
+// The message of link l, met at its end e by a task on k. It is stored in any case, and written over where there is none: no branch depends on it, since whether two
+// tasks share a processor cannot be foretold.
 fn put_link(w: &[u32], out: &mut [u8], at: usize, e: End, k: usize, l: usize) -> usize
     requires { ⌜ Scheduled (now w) ⌝ }
     requires { ⌜ l < linkCount (sheetIn (now w)) ⌝ }
-    requires { ⌜ at + length (messageBytes (sheetIn (now w)) (scheduleIn (now w)) e k (endBy e (sheetIn (now w)) l) l) ≤ length (now out) ⌝ }
-    ensures { λ r. ⌜ Put (now (out .entry)) at (messageBytes (sheetIn (now (w .entry))) (scheduleIn (now (w .entry))) e k (endBy e (sheetIn (now (w .entry))) l) l) (now (out .exit)) r ⌝ }
+    requires { ⌜ at + 3 ≤ length (now out) ⌝ }
+    ensures { λ r. ⌜ Laid (now (out .entry)) at (messageBytes (sheetIn (now (w .entry))) (scheduleIn (now (w .entry))) e k (endBy e (sheetIn (now (w .entry))) l) l) (now (out .exit)) r ⌝ }
 {
+    let behind = put_message(out, at, e, l);
     if crate::is_away(w, e, k, l) {
-        return put_message(out, at, e, l);
+        behind
+    } else {
+        at
     }
-    at
 }
 
 // The messages of t on k, by its own links, in rising link number.
 fn put_messages(w: &[u32], out: &mut [u8], start: usize, e: End, k: usize, t: usize) -> usize
     requires { ⌜ Scheduled (now w) ⌝ }
     requires { ⌜ t < taskCount (sheetIn (now w)) ⌝ }
-    requires { ⌜ start + length (messagesBytes (sheetIn (now w)) (scheduleIn (now w)) e k t) ≤ length (now out) ⌝ }
-    ensures { λ r. ⌜ Put (now (out .entry)) start (messagesBytes (sheetIn (now (w .entry))) (scheduleIn (now (w .entry))) e k t) (now (out .exit)) r ⌝ }
+    requires { ⌜ start + length (messagesBytes (sheetIn (now w)) (scheduleIn (now w)) e k t) + 3 ≤ length (now out) ⌝ }
+    ensures { λ r. ⌜ Laid (now (out .entry)) start (messagesBytes (sheetIn (now (w .entry))) (scheduleIn (now (w .entry))) e k t) (now (out .exit)) r ⌝ }
 {
     let m = tables::links(w);
     let mut at = start;
@@ -82,8 +86,8 @@ fn put_messages(w: &[u32], out: &mut [u8], start: usize, e: End, k: usize, t: us
 fn put_block(w: &[u32], out: &mut [u8], at: usize, k: usize, t: usize) -> usize
     requires { ⌜ Scheduled (now w) ⌝ }
     requires { ⌜ (t < taskCount (sheetIn (now w))) × (stands (scheduleIn (now w)) t k ≡ true) ⌝ }
-    requires { ⌜ at + length (blockBytes (sheetIn (now w)) (scheduleIn (now w)) k t) ≤ length (now out) ⌝ }
-    ensures { λ r. ⌜ Put (now (out .entry)) at (blockBytes (sheetIn (now (w .entry))) (scheduleIn (now (w .entry))) k t) (now (out .exit)) r ⌝ }
+    requires { ⌜ at + length (blockBytes (sheetIn (now w)) (scheduleIn (now w)) k t) + 3 ≤ length (now out) ⌝ }
+    ensures { λ r. ⌜ Laid (now (out .entry)) at (blockBytes (sheetIn (now (w .entry))) (scheduleIn (now (w .entry))) k t) (now (out .exit)) r ⌝ }
 {
     let received = put_messages(w, out, at, End::Target, k, t);
     let ran = put_pair(out, received, 0x52, t);
@@ -94,8 +98,8 @@ fn put_block(w: &[u32], out: &mut [u8], at: usize, k: usize, t: usize) -> usize
 fn put_blocks(w: &[u32], queues: &[u32], out: &mut [u8], start: usize, k: usize) -> usize
     requires { ⌜ Scheduled (now w) ⌝ }
     requires { ⌜ (k < 16) × Queued (scheduleIn (now w)) 0 (now queues) ⌝ }
-    requires { ⌜ start + length (gather (length (scheduleIn (now w) .order)) (turnBytes (sheetIn (now w)) (scheduleIn (now w)) k)) ≤ length (now out) ⌝ }
-    ensures { λ r. ⌜ Put (now (out .entry)) start (gather (length (scheduleIn (now (w .entry)) .order)) (turnBytes (sheetIn (now (w .entry))) (scheduleIn (now (w .entry))) k)) (now (out .exit)) r ⌝ }
+    requires { ⌜ start + length (gather (length (scheduleIn (now w) .order)) (turnBytes (sheetIn (now w)) (scheduleIn (now w)) k)) + 3 ≤ length (now out) ⌝ }
+    ensures { λ r. ⌜ Laid (now (out .entry)) start (gather (length (scheduleIn (now (w .entry)) .order)) (turnBytes (sheetIn (now (w .entry))) (scheduleIn (now (w .entry))) k)) (now (out .exit)) r ⌝ }
 {
     let p = schedule::placed(w);
     let mut at = start;
@@ -107,30 +111,29 @@ fn put_blocks(w: &[u32], queues: &[u32], out: &mut [u8], start: usize, k: usize)
     at
 }
 
-// The programme of k at the front of `out`.
-fn put_programme(w: &[u32], queues: &[u32], out: &mut [u8], k: usize) -> usize
+// The programme of k.
+fn put_programme(w: &[u32], queues: &[u32], out: &mut [u8], start: usize, k: usize) -> usize
     requires { ⌜ Scheduled (now w) ⌝ }
     requires { ⌜ (k < 16) × Queued (scheduleIn (now w)) 0 (now queues) ⌝ }
-    requires { ⌜ length (openBytes (sheetIn (now w)) (scheduleIn (now w)) k) ≤ length (now out) ⌝ }
-    ensures { λ r. ⌜ Put (now (out .entry)) 0 (openBytes (sheetIn (now (w .entry))) (scheduleIn (now (w .entry))) k) (now (out .exit)) r ⌝ }
+    requires { ⌜ start + length (openBytes (sheetIn (now w)) (scheduleIn (now w)) k) + 3 ≤ length (now out) ⌝ }
+    ensures { λ r. ⌜ Laid (now (out .entry)) start (openBytes (sheetIn (now (w .entry))) (scheduleIn (now (w .entry))) k) (now (out .exit)) r ⌝ }
 {
-    let at = put_pair(out, 0, 0x50, k);
+    let at = put_pair(out, start, 0x50, k);
     put_blocks(w, queues, out, at, k)
 }
 
-// All programmes, each at the front of what the one before it left.
+// All programmes, each behind the one before it.
 fn put_each(w: &[u32], queues: &[u32], out: &mut [u8]) -> usize
     requires { ⌜ Scheduled (now w) ⌝ }
     requires { ⌜ Queued (scheduleIn (now w)) 0 (now queues) ⌝ }
-    requires { ⌜ length (gather (scheduleIn (now w) .opened) (openBytes (sheetIn (now w)) (scheduleIn (now w)))) ≤ length (now out) ⌝ }
-    ensures { λ r. ⌜ Put (now (out .entry)) 0 (gather (scheduleIn (now (w .entry)) .opened) (openBytes (sheetIn (now (w .entry))) (scheduleIn (now (w .entry))))) (now (out .exit)) r ⌝ }
+    requires { ⌜ length (gather (scheduleIn (now w) .opened) (openBytes (sheetIn (now w)) (scheduleIn (now w)))) + 3 ≤ length (now out) ⌝ }
+    ensures { λ r. ⌜ Laid (now (out .entry)) 0 (gather (scheduleIn (now (w .entry)) .opened) (openBytes (sheetIn (now (w .entry))) (scheduleIn (now (w .entry))))) (now (out .exit)) r ⌝ }
 {
     let p = schedule::opened(w);
     let mut at: usize = 0;
     let mut k: usize = 0;
     while k < p {
-        let long = put_programme(w, queues, &mut out[at..], k);
-        at += long;
+        at = put_programme(w, queues, out, at, k);
         k += 1;
     }
     at
@@ -139,8 +142,8 @@ fn put_each(w: &[u32], queues: &[u32], out: &mut [u8]) -> usize
 // All programmes, by the queues of the processors.
 fn put_programmes(w: &[u32], out: &mut [u8]) -> usize
     requires { ⌜ Scheduled (now w) ⌝ }
-    requires { ⌜ length (gather (scheduleIn (now w) .opened) (openBytes (sheetIn (now w)) (scheduleIn (now w)))) ≤ length (now out) ⌝ }
-    ensures { λ r. ⌜ Put (now (out .entry)) 0 (gather (scheduleIn (now (w .entry)) .opened) (openBytes (sheetIn (now (w .entry))) (scheduleIn (now (w .entry))))) (now (out .exit)) r ⌝ }
+    requires { ⌜ length (gather (scheduleIn (now w) .opened) (openBytes (sheetIn (now w)) (scheduleIn (now w)))) + 3 ≤ length (now out) ⌝ }
+    ensures { λ r. ⌜ Laid (now (out .entry)) 0 (gather (scheduleIn (now (w .entry)) .opened) (openBytes (sheetIn (now (w .entry))) (scheduleIn (now (w .entry))))) (now (out .exit)) r ⌝ }
 {
     let none = workspace::narrow(schedule::placed(w));
     let mut queues = [none; 272];

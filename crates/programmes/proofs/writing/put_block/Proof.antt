@@ -19,7 +19,11 @@ put-messages-requires-2 : tie.Need-put-messages-requires-2
 put-messages-requires-2 c κs = let s = c .before .before .before .before .before .before .before .before .before .before .before in let a = s .args in let z = block-length (sheetIn (now (a .w))) (scheduleIn (now (a .w))) (a .k) (a .t) (s .pre .1 .0 .1) in (s .pre .0, (s .pre .1 .0 .0, omega (arith, s .pre .1 .1, c .before .before .before .before .before .before .before .put-messages .ensures .next, c .before .before .before .before .before .before .before .put-messages .kept .1 .0, c .before .before .before .put-pair .ensures .next, c .before .before .before .put-pair .kept .0)))
 
 returns : tie.Need-returns
-returns c = let s = c .before .before .before .before .before .before .before .before .before .before .before .before .before .before in let a = s .args in block-put (sheetIn (now (a .w))) (scheduleIn (now (a .w))) (a .k) (a .t) (s .pre .1 .0 .1) (omega (arith, s .pre .1 .1)) (c .before .before .before .before .before .before .before .before .before .before .put-messages .ensures) (c .before .before .before .before .before .before .put-pair .ensures) (c .before .before .put-messages2 .ensures)
+returns c =
+    let s = c .before .before .before .before .before .before .before .before .before .before .before .before .before .before in
+    let a = s .args in
+    let z = block-length (sheetIn (now (a .w))) (scheduleIn (now (a .w))) (a .k) (a .t) (s .pre .1 .0 .1) in
+    block-put (sheetIn (now (a .w))) (scheduleIn (now (a .w))) (a .k) (a .t) (s .pre .1 .0 .1) (c .before .before .before .before .before .before .before .before .before .before .put-messages .ensures) (omega (arith, s .pre .1 .1, c .before .before .before .before .before .before .before .before .before .before .put-messages .ensures .next, c .before .before .before .before .before .before .before .before .before .before .put-messages .kept .1 .0)) (c .before .before .before .before .before .before .put-pair .ensures) (c .before .before .put-messages2 .ensures)
 
 pub put-block-spec : {M : Type 1} → statement M
 put-block-spec =

@@ -5,7 +5,7 @@ use Rattle.schedule.specs.Layout.{scheduleIn}
 use Prim.Native.Nat.{_-_, _<_}
 use mathlib.Core.Path.{ap}
 use lib.ListN.{length}
-use Rattle.numbers.proofs.Puts.{put-as}
+use Rattle.programmes.proofs.Lays.{laid-as}
 use Rattle.sheet.specs.Tables.{sheetIn}
 use Rattle.programmes.proofs.Measures.{turn-is}
 use Rattle.programmes.proofs.Puts.{filled-all, filled-room}
@@ -56,8 +56,8 @@ loop-again c =
     let s = c .before .before .before .before .before .before .before .before .before .before .before .before .before in
     let l = c .before .before .before .before .before .before .before .loop in
     let h : l .i < length (scheduleIn (now (s .args .w)) .order) = omega (arith, c .before .before .before .before .before .before .before .before .before .placed .ensures .0, c .before .before .before .before .before .before .loop-test .taken) in
-    blocks-more (sheetIn (now (s .args .w))) (scheduleIn (now (s .args .w))) (s .args .k) (s .pre .1 .0 .1) (omega (arith, s .pre .1 .1)) (l .inv) h
-    (put-as (turn-is (sheetIn (now (s .args .w))) (scheduleIn (now (s .args .w))) (s .args .k) (l .i) _ (c .before .before .before .before .turn .ensures .0)) (c .before .before .before .put-block .ensures))
+    blocks-more (sheetIn (now (s .args .w))) (scheduleIn (now (s .args .w))) (s .args .k) (s .pre .1 .0 .1) (l .inv) h
+    (laid-as (turn-is (sheetIn (now (s .args .w))) (scheduleIn (now (s .args .w))) (s .args .k) (l .i) _ (c .before .before .before .before .turn .ensures .0)) (c .before .before .before .put-block .ensures))
     (c .before .before .before .put-block .kept .1 .0) (c .word2 .ensures .0)
 
 same-length : tie.Need-same-length Inv-loop μ-loop

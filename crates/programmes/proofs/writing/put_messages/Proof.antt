@@ -32,7 +32,7 @@ loop-less : tie.Need-loop-less Inv-loop μ-loop
 loop-less c = omega (arith, c .next .ensures .2, c .before .before .before .before .before .loop-test .taken)
 
 loop-again : tie.Need-loop-again Inv-loop μ-loop
-loop-again c = let s = c .before .before .before .before .before .before .before .before .before .before .before in putting-on (sheetIn (now (s .args .w))) (scheduleIn (now (s .args .w))) (chained-of (s .pre .0) (s .args .e)) (s .args .k) (s .args .t) (s .pre .1 .0) (now (s .args .out)) (s .args .start) (omega (arith, s .pre .1 .1)) (c .before .before .before .before .before .before .loop .inv) (omega (arith, c .before .before .before .before .before .loop-test .taken, c .before .before .before .before .before .before .before .before .links .ensures .0)) (c .before .before .before .put-link .ensures) (c .before .before .before .put-link .kept .1 .0) (c .next .ensures .0) (c .next .ensures .1) (c .next .ensures .2)
+loop-again c = let s = c .before .before .before .before .before .before .before .before .before .before .before in putting-on (sheetIn (now (s .args .w))) (scheduleIn (now (s .args .w))) (chained-of (s .pre .0) (s .args .e)) (s .args .k) (s .args .t) (s .pre .1 .0) (now (s .args .out)) (s .args .start) (c .before .before .before .before .before .before .loop .inv) (omega (arith, c .before .before .before .before .before .loop-test .taken, c .before .before .before .before .before .before .before .before .links .ensures .0)) (c .before .before .before .put-link .ensures) (c .before .before .before .put-link .kept .1 .0) (c .next .ensures .0) (c .next .ensures .1) (c .next .ensures .2)
 
 same-length : tie.Need-same-length Inv-loop μ-loop
 same-length c = c .before .loop .inv .filled .long

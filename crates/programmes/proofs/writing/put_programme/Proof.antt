@@ -15,7 +15,7 @@ put-blocks-requires : tie.Need-put-blocks-requires
 put-blocks-requires c κs = let s = c .before .before .before .before .before .before .before .before in (s .pre .0, (s .pre .1 .0, omega (arith, s .pre .1 .1, open-length (sheetIn (now (s .args .w))) (scheduleIn (now (s .args .w))) (s .args .k), c .before .before .before .put-pair .ensures .next, c .before .before .before .put-pair .kept .0)))
 
 returns : tie.Need-returns
-returns c = let s = c .before .before .before .before .before .before .before .before .before .before .before in open-put (sheetIn (now (s .args .w))) (scheduleIn (now (s .args .w))) (s .args .k) (c .before .before .before .before .before .before .put-pair .ensures) (c .before .before .put-blocks .ensures)
+returns c = let s = c .before .before .before .before .before .before .before .before .before .before .before in open-put (sheetIn (now (s .args .w))) (scheduleIn (now (s .args .w))) (s .args .k) (omega (arith, s .pre .1 .1)) (c .before .before .before .before .before .before .put-pair .ensures) (c .before .before .put-blocks .ensures)
 
 pub put-programme-spec : {M : Type 1} → statement M
 put-programme-spec = tie.close (tie.spec put-pair-requires put-blocks-requires (λ c. search needs) returns)
