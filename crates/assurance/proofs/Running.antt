@@ -12,15 +12,10 @@ use Rattle.folds.specs.Folds.{pick, greatest, gather}
 use Rattle.folds.proofs.Tests.{below-suc}
 use Rattle.sheet.specs.Sheet.{Sheet, linkCount, costOf}
 use Rattle.bundle.specs.Bundle.{Command, send, receive, Bundle, programmeCount, programmeOf}
+use Rattle.messages.proofs.Walking.{drop-next}
 use Rattle.machine.specs.Machine.{State, Processor, processorOf, stampOf, next, waits, takes, moved}
 use Rattle.machine.proofs.Steps.{length-posted, move-step, other, self}
 use Rattle.machine.proofs.Runs.{Leads, here, on, leads-on}
-
-drop-next : (p : List Command) (i : ℕ) (c : Command) (r : List Command) → drop i p ≡ c ∷ r → (getElem? p i ≡ some c) × (drop (suc i) p ≡ r)
-drop-next [] zero c r e = (cc, cc)
-drop-next [] (suc i) c r e = (cc, cc)
-drop-next (x ∷ p) zero c r e = (cc, cc)
-drop-next (x ∷ p) (suc i) c r e = drop-next p i c r e
 
 module _ (s : Sheet) (b : Bundle) where
   -- steps of k alone lead from m to n, where `rest` is left of its programme and its clock is t
