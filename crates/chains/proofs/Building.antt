@@ -20,7 +20,7 @@ pub head-place : (e : End) → (9232 ≤ headAt e) × (headAt e ≤ 10512)
 head-place Source = (omega arith, omega arith)
 head-place Target = (omega arith, omega arith)
 
-end-below : (e : End) {s : Sheet} → Ranged s → (l : ℕ) → l < linkCount s → endBy e s l < taskCount s
+pub end-below : (e : End) {s : Sheet} → Ranged s → (l : ℕ) → l < linkCount s → endBy e s l < taskCount s
 end-below Source r = r .source
 end-below Target r = r .target
 

@@ -1,15 +1,14 @@
 -- Bytes put one behind the other, and at the front of lent output.
-use Prim.Native.Nat.{ℕ, _+_, _-_, _≤_, _<_}
+use Prim.Native.Nat.{ℕ, _+_, _≤_, _<_}
 use mathlib.Core.Path.{_≡_, refl, sym, ap, subst, _∙_}
 use mathlib.Core.List.{List, [], _∷_, _++_, append-nil}
 use native.Mathlib.Omega.{arith}
 use native.Mathlib.Nat.{add-zero, zero-add}
-use borrow.Rule.Slice.PartMut.{midOf, putMid}
 use borrow.Author.Tests.{lt-ltb, le-ltb}
-use lib.ListN.{length, set, take, drop, length-append, take-append-drop, length-take, length-drop}
+use lib.ListN.{length, set, take, drop, length-append, take-append-drop}
 use Rattle.folds.specs.Answers.{value, refused, fitting, written}
 use Rattle.numbers.specs.Number.{stored, Put}
-use Rattle.numbers.proofs.Laws.{stored-one, stored-two, stored-then, stored-lent}
+use Rattle.numbers.proofs.Laws.{stored-one, stored-two, stored-then}
 
 pub put-none : (b : List ℕ) (at : ℕ) → Put b at [] b at
 unfolding stored
@@ -28,13 +27,6 @@ put-one b at x h = record { left = stored-one b at x h; next = refl }
 
 pub put-two : (b : List ℕ) (at x y z : ℕ) → at + 2 ≤ length b → y ≡ z → Put b at (x ∷ z ∷ []) (set (set b at x) (at + 1) y) (at + 2)
 put-two b at x y z h e = record { left = stored-two b at x y h ∙ ap (λ (v : ℕ). stored b at (x ∷ v ∷ [])) e; next = refl }
-
--- what follows the first a bytes, and what was put at its front
-pub rest-long : (b : List ℕ) (a : ℕ) → a ≤ length b → length (midOf a (length b - a) b) ≡ length b - a
-rest-long b a h = simp (length-take, length-drop) (omega arith)
-
-pub put-rest : {b last v : List ℕ} {a r : ℕ} → a ≤ length b → Put (midOf a (length b - a) b) 0 v last r → Put b a v (putMid a (length b - a) b last) (a + r)
-put-rest {b} {last} {v} {a} h p = record { left = stored-lent b last v a h (p .left); next = omega (arith, p .next) }
 
 -- what is written where the result is refused, and at the front of the output
 pub kept : (old : List ℕ) (n at : ℕ) → old ≡ written old (refused n at)

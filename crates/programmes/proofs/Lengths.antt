@@ -12,9 +12,10 @@ use lib.ListN.{length, getD}
 use Rattle.folds.specs.Folds.{pick, bit, sum}
 use Rattle.folds.proofs.Laws.{sum-cong, sum-add, sum-only, sum-swap}
 use Rattle.sheet.specs.Sheet.{Sheet, taskCount, linkCount, sourceOf, targetOf}
-use Rattle.sheet.specs.Tables.{sheetIn, Ranged}
+use Rattle.sheet.specs.Tables.{sheetIn}
 use Rattle.sheet.proofs.Rows.{ranged}
 use Rattle.chains.specs.Chains.{endBy}
+use Rattle.chains.proofs.Building.{end-below}
 use Rattle.chains.specs.declared.End.{End}
 use Rattle.chains.specs.declared.End.the-variants.{Source, Target}
 use Rattle.bundle.specs.Writing.{bundleBytes}
@@ -122,11 +123,7 @@ module _ (s : Sheet) (σ : Schedule) where
     pub length-is : length (bundleBytes (bundleOf s σ)) ≡ 5 + 2 * σ .opened + 2 * length (σ .order) + 2 * sum (linkCount s) (messageLength s σ)
     length-is = omega (arith, bundle-length s σ, gather-long (σ .opened) (openBytes s σ), opened-length, turns-length)
 
-end-below : {s : Sheet} → Ranged s → (e : End) (l : ℕ) → l < linkCount s → endBy e s l < taskCount s
-end-below r Source = r .source
-end-below r Target = r .target
-
 -- .. from the numbers that were read
 pub bundle-long : {w : List ℕ} {opened placed bytes : ℕ} → Scheduled w → opened ≡ scheduleIn w .opened → placed ≡ length (scheduleIn w .order) → bytes ≡ sum (linkCount (sheetIn w)) (messageLength (sheetIn w) (scheduleIn w))
     → 5 + 2 * opened + 2 * placed + 2 * bytes ≡ length (bundleBytes (bundleOf (sheetIn w) (scheduleIn w)))
-bundle-long {w} h p q r = omega (arith, p, q, r, length-is (sheetIn w) (scheduleIn w) (h .tasks) (h .standing) (h .once) (end-below (ranged w (h .loaded))))
+bundle-long {w} h p q r = omega (arith, p, q, r, length-is (sheetIn w) (scheduleIn w) (h .tasks) (h .standing) (h .once) (λ e. end-below e (ranged w (h .loaded))))
