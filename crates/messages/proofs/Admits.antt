@@ -29,7 +29,7 @@ use Rattle.messages.specs.declared.Found.the-variants.{At, Nothing}
 use Rattle.messages.specs.declared.Judged.{Judged}
 use Rattle.messages.specs.declared.Judged.the-variants.{Fit, Refused}
 use Rattle.messages.proofs.Walking.{laid-by}
-use Rattle.messages.proofs.Few.{few-of-read, short-of-read}
+use Rattle.messages.proofs.Few.{never-over, few-of-read, short-of-read}
 
 -- a bundle that was read has no more programmes than the sheet has processors
 pub read-few : {b : List ℕ} {p t l : ℕ} {v last : List ℕ} {r : Reading} → ReadIs b p t l v last r → (m c claim : ℕ) → r ≡ Read m c claim → m ≤ p
@@ -42,6 +42,12 @@ read-few {b} {p} {t} {l} h m c claim e = by (readBundle (sheetBy p t l) b) refl 
 
 module _ (sheet bundle w : List ℕ) (n l limit m c claim : ℕ) where
   -- 28
+  fit-is : (s : Sheet) (b : Bundle) → Told s b sheet bundle w n l limit m c claim → Fit m c claim ≡ judgedOf (value b)
+  fit-is s b t = sym (three (t .programmes) (t .commands) (t .claimed))
+    where
+      three : {x y z : ℕ} → x ≡ m → y ≡ c → z ≡ claim → Fit x y z ≡ Fit m c claim
+      three p q r = cc
+
   module _ (f : Found) (h : OverIs sheet bundle w n m limit f) where
     store-is : (s : Sheet) (b : Bundle) → Told s b sheet bundle w n l limit m c claim → Published s b → foundOf f ≡ at28 s b
     store-is s b t p =
@@ -56,15 +62,18 @@ module _ (sheet bundle w : List ℕ) (n l limit m c claim : ℕ) where
     pub store-fits : f ≡ Nothing → StoresIs sheet bundle w n l limit m c claim (Fit m c claim)
     unfolding fitting
     store-fits e =
-        record {
-          is =
-              λ s b t p.
-              let z : Fit m c claim ≡ judgedOf (value b) = sym (three (t .programmes) (t .commands) (t .claimed)) in
-              z ∙ ap (λ (o : Option ℕ). judgedOf (unless 28 o (value b))) (ap foundOf (sym e) ∙ store-is s b t p);
-        }
-      where
-        three : {x y z : ℕ} → x ≡ m → y ≡ c → z ≡ claim → Fit x y z ≡ Fit m c claim
-        three p q r = cc
+        record { is = λ s b t p. fit-is s b t ∙ ap (λ (o : Option ℕ). judgedOf (unless 28 o (value b))) (ap foundOf (sym e) ∙ store-is s b t p) }
+
+  pub store-free : Bytes sheet → 65535 * (n + 2 * l) ≤ limit → StoresIs sheet bundle w n l limit m c claim (Fit m c claim)
+  unfolding fitting
+  store-free bytes large =
+      record {
+        is =
+            λ s b t p.
+            let k = t .known in
+            let o : 65535 * (taskCount s + 2 * linkCount s) ≤ s .limit = omega (arith, k .tasks, k .links, k .limited) in
+            fit-is s b t ∙ ap (λ (x : Option ℕ). judgedOf (unless 28 x (value b))) (sym (never-over s b p sheet (k .fields) bytes (read-formed s bundle b (t .read) .known) o));
+      }
 
   -- 27
   module _ (f : Found) (h : MessageIs sheet w n l f) where

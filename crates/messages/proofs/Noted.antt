@@ -1,5 +1,5 @@
 -- The pass that notes a bundle's commands: one command more, the next programme, and its end.
-use Prim.Native.Nat.{ℕ, zero, suc, _+_, _*_, _-_, _%_, _<_, _≤_}
+use Prim.Native.Nat.{ℕ, zero, suc, _+_, _*_, _-_, _%_, _<_, _≤_, min}
 use mathlib.Core.Path.{_≡_, refl, sym, ap, _∙_, subst}
 use mathlib.Core.Bool.{Bool, true, false}
 use mathlib.Core.Option.{some}
@@ -306,8 +306,12 @@ blanking-more {v} {w} {i} u h e =
     zero-at : (j : ℕ) → getD w j 0 ≡ 0 → getD (set w i 0) j 0 ≡ 0
     zero-at j z = elim (ℕ-discrete j i) [ yes q ↦ here j q | no d ↦ getD-set-other w i j 0 0 d ∙ z ]
 
-pub blanking-ends : {v w : List ℕ} {i : ℕ} → Blanking v w i → 4352 ≤ i → BlankIs v w
-blanking-ends h l = record { kept = h .kept; zeros = λ j m n. h .zeros j m (omega arith) }
+pub blanking-ends : {v w : List ℕ} {i : ℕ} → Blanking v w i → min (length v) 4352 ≤ i → BlankIs v w
+blanking-ends {v} {w} {i} h l =
+    record {
+      kept = h .kept;
+      zeros = λ j m n. elim (decLt j i) [ yes q ↦ h .zeros j m q | no q ↦ List·getD-eq-default w 0 {n = j} (omega (arith, h .kept .long)) ];
+    }
 
 -- one command met, for the first time or again
 module _ (w v : List ℕ) (x k r z : ℕ) (e : z ≡ getD w (2048 + x) 0) where

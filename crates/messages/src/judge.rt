@@ -17,7 +17,7 @@ fn wide(x: u32) -> usize
     x as usize
 }
 
-// 28, or the bundle fits.
+// 28, or the bundle fits. A limit that holds 65,535 for each task and each end of a link is never exceeded.
 fn stores(
     sheet: &[u8],
     bundle: &[u8],
@@ -29,9 +29,12 @@ fn stores(
     c: usize,
     claim: usize,
 ) -> Judged
-    requires { ⌜ (n < 65536) × (m < 65536) ⌝ }
+    requires { ⌜ (n < 65536) × (l < 65536) × (m < 65536) ⌝ }
     ensures { λ r. ⌜ StoresIs (now (sheet .entry)) (now (bundle .entry)) (now (w .entry)) n l limit m c claim r ⌝ }
 {
+    if 65535 * (n + 2 * l) <= limit {
+        return Judged::Fit(m, c, claim);
+    }
     match over_store(sheet, bundle, w, n, m, limit) {
         Found::At(k) => Judged::Refused(28, k),
         Found::Nothing => Judged::Fit(m, c, claim),

@@ -49,9 +49,10 @@ fn note(w: &mut [u32], x: usize, k: usize, r: usize) -> usize
 fn blank(w: &mut [u32])
     ensures { λ _. ⌜ BlankIs (now (w .entry)) (now (w .exit)) ⌝ }
 {
+    let end = words::smaller(w.len(), 4352);
     let mut i: usize = 2048;
-    while i < 4352 {
-        words::put(w, i, 0);
+    while i < end {
+        w[i] = 0;
         i += 1;
     }
 }

@@ -53,8 +53,13 @@ wiping-more {v} {w} {i} u h e =
     kept : (j : ℕ) → (j ≡ i → ⊥) → getD (set w i 0) j 0 ≡ getD w j 0
     kept j d = getD-set-other w i j 0 0 d
 
-pub wiping-ends : {v w : List ℕ} {i : ℕ} → Wiping v w i → 1120 ≤ i → WipeIs v w
-wiping-ends h l = record { long = h .long; zeros = λ j m n. h .zeros j m (omega arith); low = h .low }
+pub wiping-ends : {v w : List ℕ} {i : ℕ} → Wiping v w i → min (length v) 1120 ≤ i → WipeIs v w
+wiping-ends {v} {w} {i} h l =
+    record {
+      long = h .long;
+      zeros = λ j m n. elim (decLt j i) [ yes q ↦ h .zeros j m q | no q ↦ List·getD-eq-default w 0 {n = j} (omega (arith, h .long)) ];
+      low = h .low;
+    }
 
 -- the first commands
 pub first-none : (v : List ℕ) → FirstIs v v 0

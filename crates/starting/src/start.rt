@@ -10,9 +10,10 @@ use messages::Judged;
 fn wipe(w: &mut [u32])
     ensures { λ _. ⌜ WipeIs (now (w .entry)) (now (w .exit)) ⌝ }
 {
+    let end = words::smaller(w.len(), 1120);
     let mut i: usize = 32;
-    while i < 1120 {
-        words::put(w, i, 0);
+    while i < end {
+        w[i] = 0;
         i += 1;
     }
 }
