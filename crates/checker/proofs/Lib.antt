@@ -1,5 +1,6 @@
 pub mod Accepted
 pub mod Going
+pub mod Holding
 pub mod Closing
 pub mod Areas
 pub mod Opening

@@ -1,21 +1,7 @@
 // Runs the machine until nobody can step: each processor as far as it goes, in turn. Every order ends alike.
 ghost use mathlib.Core.Path.{_≡_};
-ghost use Rattle.checker.specs.Settling.{AdvanceIs, RoundIs, SettleIs};
-
-// Processor k as far as it goes, at most 65,536 steps: how many it made.
-fn advance(sheet: &[u8], bundle: &[u8], w: &mut [u32], k: usize) -> usize
-    ensures { λ r. ⌜ AdvanceIs (now (sheet .entry)) (now (bundle .entry)) (now (w .entry)) (now (w .exit)) k r ⌝ }
-{
-    let mut n = 0;
-    while n < 65536 {
-        if stepping::step(sheet, bundle, w, k) {
-            n += 1;
-        } else {
-            return n;
-        }
-    }
-    n
-}
+ghost use Rattle.checker.specs.Settling.{RoundIs, SettleIs};
+use crate::advancing::advance;
 
 // Each processor as far as it goes: how many steps were made.
 fn round(sheet: &[u8], bundle: &[u8], w: &mut [u32]) -> usize

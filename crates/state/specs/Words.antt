@@ -15,16 +15,20 @@ abbrev pub stampIn : ℕ → Option ℕ
 stampIn zero = none
 stampIn (suc x) = some x
 
--- a command less to do, and processor k at an offset, a clock, a position and a store
-unfoldable pub movedWords : List ℕ → ℕ → ℕ → ℕ → ℕ → ℕ → List ℕ
-movedWords w k at clock position store =
+-- so many commands to do, and processor k at an offset, a clock, a position and a store
+unfoldable pub placedWords : List ℕ → ℕ → ℕ → ℕ → ℕ → ℕ → ℕ → List ℕ
+placedWords w k todo at clock position store =
     set
     (set
     (set
-    (set (set w 20 ((getD w 20 0 - 1) % 4294967296)) (32 + k) (at % 4294967296))
+    (set (set w 20 (todo % 4294967296)) (32 + k) (at % 4294967296))
     (48 + k) (position % 4294967296))
     (64 + k) (clock % 4294967296))
     (80 + k) (store % 4294967296)
+
+-- a command less to do
+unfoldable pub movedWords : List ℕ → ℕ → ℕ → ℕ → ℕ → ℕ → List ℕ
+movedWords w k at clock position store = placedWords w k (getD w 20 0 - 1) at clock position store
 
 -- processor k of the words w moved in the words v by a command that waits for a time, takes a time and needs a store
 abbrev pub steppedWords : List ℕ → List ℕ → ℕ → ℕ → ℕ → ℕ → ℕ → List ℕ

@@ -9,12 +9,12 @@ ghost use lib.ListN.{length, getD, set};
 ghost use lib.Dec.{eqb};
 ghost use Rattle.folds.specs.Folds.{pick, bit};
 ghost use Rattle.numbers.specs.Number.{numberAt};
-ghost use Rattle.state.specs.Words.{movedWords, ranWords, sentWords, gotWords};
+ghost use Rattle.state.specs.Words.{placedWords, movedWords, ranWords, sentWords, gotWords};
 ghost use Rattle.state.specs.Keeps.{StepIs, RunIs};
 ghost use Rattle.stepping.specs.Advance.{Narrow, Roomy, processorIn};
 
 // The two bytes at i, lowest first, with one test where both are there.
-fn pair(b: &[u8], i: usize) -> usize
+pub fn pair(b: &[u8], i: usize) -> usize
     requires { ⌜ i < 1099511627776 ⌝ }
     ensures { λ r. ⌜ (r ≡ numberAt 2 (now (b .entry)) i) × (r < 65536) ⌝ }
 {
@@ -33,7 +33,7 @@ fn put(w: &mut [u32], i: usize, x: usize)
 }
 
 // Processor k of the words.
-fn processor(w: &[u32], k: usize) -> processors::Processor
+pub fn processor(w: &[u32], k: usize) -> processors::Processor
     requires { ⌜ Roomy (now w) k ⌝ }
     ensures { λ r. ⌜ (r ≡ processorIn (now (w .entry)) k) × Narrow r ⌝ }
 {
@@ -44,17 +44,25 @@ fn processor(w: &[u32], k: usize) -> processors::Processor
     }
 }
 
+// So many commands are to do, and processor k is p at the offset `at`.
+pub fn place(w: &mut [u32], k: usize, todo: usize, at: usize, p: processors::Processor)
+    requires { ⌜ Roomy (now w) k ⌝ }
+    ensures { λ _. ⌜ now (w .exit) ≡ placedWords (now (w .entry)) k todo at (p .clock) (p .position) (p .store) ⌝ }
+{
+    put(w, 20, todo);
+    put(w, 32 + k, at);
+    put(w, 48 + k, p.position);
+    put(w, 64 + k, p.clock);
+    put(w, 80 + k, p.store);
+}
+
 // Processor k goes on to the offset `at`, and is p there.
 fn move_on(w: &mut [u32], k: usize, at: usize, p: processors::Processor)
     requires { ⌜ Roomy (now w) k ⌝ }
     ensures { λ _. ⌜ now (w .exit) ≡ movedWords (now (w .entry)) k at (p .clock) (p .position) (p .store) ⌝ }
 {
     let todo = words::minus(workspace::word(w, 20), 1);
-    put(w, 20, todo);
-    put(w, 32 + k, at);
-    put(w, 48 + k, p.position);
-    put(w, 64 + k, p.clock);
-    put(w, 80 + k, p.store);
+    place(w, k, todo, at, p);
 }
 
 // Processor k runs the task of its command at `at`.

@@ -1,11 +1,17 @@
+use Rattle.stepping.proofs.Lows.{length-placed}
 use Rattle.state.specs.Words.{movedWords}
 use borrow.Author.Needs.{needs}
+use mathlib.Core.Path.{ap, _∙_}
+use lib.ListN.{length}
 use Rattle.stepping.proofs.move_on.Statement.{statement}
 use Rattle.stepping.proofs.move_on.Tie as tie
 
+same-length : tie.Need-same-length
+same-length c = ap length (c .before .before .place .ensures) ∙ length-placed _ _ _ _ _ _ _
+
 returns : tie.Need-returns
 unfolding movedWords
-returns c = simp (c .before .before .put5 .ensures, c .before .before .before .before .before .before .put4 .ensures, c .before .before .before .before .before .before .before .before .before .before .put3 .ensures, c .before .before .before .before .before .before .before .before .before .before .before .before .before .before .put2 .ensures, c .before .before .before .before .before .before .before .before .before .before .before .before .before .before .before .before .before .before .put .ensures, c .before .before .before .before .before .before .before .before .before .before .before .before .before .before .before .before .before .before .before .before .minus .ensures, c .before .before .before .before .before .before .before .before .before .before .before .before .before .before .before .before .before .before .before .before .before .word .ensures .0)
+returns c = simp (c .before .before .place .ensures, c .before .before .before .before .minus .ensures, c .before .before .before .before .before .word .ensures .0)
 
 pub move-on-spec : {M : Type 1} → statement M
 move-on-spec =
@@ -14,13 +20,5 @@ move-on-spec =
     (λ c κs. search needs)
     (λ c κs. search needs)
     (λ c κs. search needs)
-    (λ c. search needs)
-    (λ c κs. search needs)
-    (λ c. search needs)
-    (λ c κs. search needs)
-    (λ c. search needs)
-    (λ c κs. search needs)
-    (λ c. search needs)
-    (λ c κs. search needs)
-    (λ c. search needs)
+    same-length
     returns)
