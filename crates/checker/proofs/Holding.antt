@@ -45,6 +45,10 @@ pub record Held (sheet bundle v w : List ℕ) (k end tasks n at clock store : �
   pub low : Low w u k (getD w 20 0 - n) at ((getD w (48 + k) 0 + n) % 4294967296) clock store
   pub high : (i : ℕ) → 96 ≤ i → getD u i 0 ≡ getD w i 0
 
+pub held-fits : {sheet bundle v w : List ℕ} {k end tasks n at clock store : ℕ} → Held sheet bundle v w k end tasks n at clock store
+    → (at < 4294967296) × (clock < 4294967296) × (store < 4294967296)
+held-fits {k = k} h = (omega (arith, h .low .at, h .fits (32 + k)), omega (arith, h .low .clock, h .fits (64 + k)), omega (arith, h .low .store, h .fits (80 + k)))
+
 module _ (sheet bundle v : List ℕ) (k end tasks : ℕ) where
   pub held-starts : (at clock store : ℕ) → k < 16 → 1120 ≤ length v → k < getD v 17 0 → ((i : ℕ) → getD v i 0 < 4294967296)
       → end ≡ getD v (k + 1) 0 → tasks ≡ getD v 18 0 → at ≡ getD v (32 + k) 0 → clock ≡ getD v (64 + k) 0 → store ≡ getD v (80 + k) 0
@@ -112,8 +116,10 @@ module _ (sheet bundle v : List ℕ) (k end tasks : ℕ) where
           counts = h .counts ∙ sym (below 18 (omega arith));
           fits = fits;
           low =
-              (let z = low-at (low-then (h .low) low) (omega (arith, h .low .todo, below 20 (omega arith), h .fits 20)) refl
-              (omega (arith, h .low .position, below (48 + k) (omega arith))) refl refl in
+              (let z : Low w u′ k (getD w′ 20 0 - (n + 1)) at′ ((getD w′ (48 + k) 0 + (n + 1)) % 4294967296) clock′ store′ =
+              low-at (low-then (h .low) low) (omega (arith, h .low .todo, below 20 (omega arith), h .fits 20)) refl
+              (omega (arith, h .low .position, below (48 + k) (omega arith))) refl refl
+              in
               record {
                 long = z .long ∙ sym long;
                 todo = z .todo;
@@ -126,7 +132,7 @@ module _ (sheet bundle v : List ℕ) (k end tasks : ℕ) where
           high = above;
         }
 
-    module _ (small : (i : ℕ) → numberAt 2 sheet i < 65536) (room : n < 65536) (open : at < end) where
+    module _ (small : (i : ℕ) → numberAt 2 sheet i < 65536) (room : n < 65536) (under : at < end) where
       here : at ≡ getD u (32 + k) 0
       here = sym (h .low .at)
 
@@ -231,7 +237,7 @@ module _ (sheet bundle v : List ℕ) (k end tasks : ℕ) where
 
       pub held-waits : ((i : ℕ) → numberAt 2 sheet i < 65536) → n < 65536 → at < end → (l stamp : ℕ) → (getD bundle at 0 ≡ 0x52 → ⊥) → (getD bundle at 0 ≡ 0x53 → ⊥)
           → l ≡ numberAt 2 bundle (at + 1) → stamp ≡ getD w (96 + l) 0 → stamp ≡ 0 → AdvanceIs sheet bundle v last k r
-      held-waits small room open l stamp p q el es z = ends-as (waiting small room open l stamp p q el es z)
+      held-waits small room under l stamp p q el es z = ends-as (waiting small room under l stamp p q el es z)
 
       pub held-full : 65536 ≤ n → AdvanceIs sheet bundle v last k r
       held-full l = ends-as (advance-full sheet bundle (omega (arith, h .few)) (h .advancing))
@@ -239,7 +245,8 @@ module _ (sheet bundle v : List ℕ) (k end tasks : ℕ) where
       pub held-long : length last ≡ length v
       held-long = ap length (sym (back last (e .0))) ∙ h .low .long ∙ h .same
 
-  -- no words of a state, or no such programme
+-- no words of a state, or no such programme
+module _ (sheet bundle v : List ℕ) (k : ℕ) where
   stops : StepIs sheet bundle v v k false → AdvanceIs sheet bundle v v k 0
   stops = advance-stops sheet bundle false refl (omega arith) (advance-starts sheet bundle v)
 
