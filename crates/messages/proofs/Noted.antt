@@ -22,16 +22,26 @@ use Rattle.bundle.specs.Fits.{Known}
 use Rattle.bundle.specs.Lies.{sizeOf, Stands, Lies}
 use Rattle.bundle.proofs.Lying.{size-some, lies-le, lies-next, lies-none}
 use Rattle.messages.specs.Counting.{is}
-use Rattle.messages.specs.Notes.{slotOf, sofar, rank, Noted, never, again, once, Notes, slotAt, sizeAt, notedWords, Kept, BlankIs, NotesIs}
+use Rattle.messages.specs.Notes.{slotOf, sofar, rank, Noted, never, again, once, Notes, messageAt, slotAt, sizeAt, notedWords, Kept, BlankIs, NotesIs}
 use Rattle.messages.proofs.Weights.{is-refl}
 use Rattle.messages.proofs.Walking.{drop-next, drop-short}
 use Rattle.messages.proofs.Ranks.{bit-most, is-or, slot-small, slot-same, sofar-more, sofar-next, sofar-none, rank-small, rank-more, rank-next, rank-none}
 use Rattle.messages.proofs.Rows.{Rows, claims, opens, rows-le, rows}
 
+-- a run, or another command
+module _ (b : List ℕ) (at c : ℕ) (e : c ≡ getD b at 0) where
+  pub run-slot : c ≡ 0x52 → (x : ℕ) → x ≡ getD b (at + 1) 0 → (x ≡ slotAt b at) × (2 ≡ sizeAt b at)
+  unfolding slotAt sizeAt
+  run-slot q x h = rw (eq-eqb (getD b at 0) 0x52 (sym e ∙ q)) (h, refl)
+
+  pub message-slot : (c ≡ 0x52 → ⊥) → (x : ℕ) → x ≡ messageAt b at → (x ≡ slotAt b at) × (3 ≡ sizeAt b at)
+  unfolding slotAt sizeAt
+  message-slot q x h = rw (ne-eqb (getD b at 0) 0x52 (λ f. q (e ∙ f))) (h, refl)
+
 -- what stands at an offset
 module _ (t l : ℕ) (b : List ℕ) where
   pub stands-slot : (o : ℕ) (c : Command) → Stands t l b o c → slotAt b o ≡ slotOf c
-  unfolding slotAt
+  unfolding slotAt messageAt
   stands-slot o (run x) h = rw (h .0) (h .1)
   stands-slot o (send x) h = rw (h .0) (omega (arith, h .1))
   stands-slot o (receive x) h = rw (h .0) (omega (arith, h .1))

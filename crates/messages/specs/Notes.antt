@@ -48,11 +48,12 @@ pub record Notes (s : Sheet) (b : Bundle) (k i r : ℕ) (w : List ℕ) : Type 0 
   pub note : (c : Command) → Known s c → Noted b k i c (getD w (2048 + slotOf c) 0)
   pub count : r ≡ rank b k i
 
--- the slot and the size of the command at an offset
+-- the slot and the size of the command at an offset; of a message, 0x53 and 0x56 are told apart by a carry
+unfoldable pub messageAt : List ℕ → ℕ → ℕ
+messageAt b at = 256 + 1024 * ((getD b at 0 + 172) / 256) + numberAt 2 b (at + 1)
+
 unfoldable pub slotAt : List ℕ → ℕ → ℕ
-slotAt b at =
-    pick (eqb (getD b at 0) 0x52) (getD b (at + 1) 0)
-    (pick (eqb (getD b at 0) 0x53) (256 + numberAt 2 b (at + 1)) (1280 + numberAt 2 b (at + 1)))
+slotAt b at = pick (eqb (getD b at 0) 0x52) (getD b (at + 1) 0) (messageAt b at)
 
 unfoldable pub sizeAt : List ℕ → ℕ → ℕ
 sizeAt b at = pick (eqb (getD b at 0) 0x52) 2 3

@@ -1,25 +1,19 @@
 // One pass over a bundle that notes of each command how often and where it stands.
 ghost use mathlib.Core.Path.{_≡_};
-ghost use Prim.Native.Nat.{_+_, _*_, _<_};
-ghost use lib.ListN.{getD};
+ghost use Prim.Native.Nat.{_+_, _*_, _≤_, _<_};
+ghost use lib.ListN.{length, getD};
 ghost use lib.Dec.{eqb};
 ghost use Rattle.folds.specs.Folds.{bit};
-ghost use Rattle.messages.specs.Notes.{slotAt, sizeAt, notedWords, BlankIs, NotesIs};
+ghost use Rattle.messages.specs.Notes.{messageAt, sizeAt, notedWords, BlankIs, NotesIs};
 
-// The slot of the command at `at`.
-fn slot(bundle: &[u8], at: usize) -> usize
-    requires { ⌜ at + 1 < 18446744073709551616 ⌝ }
-    ensures { λ r. ⌜ (r ≡ slotAt (now (bundle .entry)) at) × (r < 66816) ⌝ }
+// The slot of the send or receive at `at`. A sum and no test: which of them stands there cannot be foretold.
+fn message(bundle: &[u8], at: usize) -> usize
+    requires { ⌜ at + 3 ≤ length (now bundle) ⌝ }
+    ensures { λ r. ⌜ (r ≡ messageAt (now (bundle .entry)) at) × (r < 66816) ⌝ }
 {
-    let c = words::byte(bundle, at);
-    if c == 0x52 {
-        return words::byte(bundle, at + 1);
-    }
-    let l = words::pair(bundle, at + 1);
-    if c == 0x53 {
-        return 256 + l;
-    }
-    1280 + l
+    let c = numbers::get8(bundle, at);
+    let l = numbers::get16(bundle, at + 1) as usize;
+    256 + 1024 * ((c + 172) / 256) + l
 }
 
 // The size of the command at `at`.
@@ -67,12 +61,18 @@ pub fn note_all(bundle: &[u8], w: &mut [u32])
     let mut k: usize = 0;
     let mut r: usize = 0;
     while at < end {
-        if words::byte(bundle, at) == 0x50 {
+        let c = numbers::get8(bundle, at);
+        if c == 0x50 {
             k += 1;
             at += 2;
         } else {
-            r = note(w, slot(bundle, at), k, r);
-            at += size(bundle, at);
+            if c == 0x52 {
+                r = note(w, numbers::get8(bundle, at + 1), k, r);
+                at += 2;
+            } else {
+                r = note(w, message(bundle, at), k, r);
+                at += 3;
+            }
         }
     }
 }
