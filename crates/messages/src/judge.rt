@@ -53,7 +53,7 @@ fn messages(
     c: usize,
     claim: usize,
 ) -> Judged
-    requires { ⌜ (n < 65536) × (l < 65536) × (m < 65536) ⌝ }
+    requires { ⌜ (n < 65536) × (l ≤ 1024) × (m < 65536) × (4352 ≤ length (now w)) ⌝ }
     ensures { λ r. ⌜ MessagesIs (now (sheet .entry)) (now (bundle .entry)) (now (w .entry)) n l limit m c claim r ⌝ }
 {
     match wrong_message(sheet, w, n, l) {
@@ -74,7 +74,7 @@ fn rules(
     c: usize,
     claim: usize,
 ) -> Judged
-    requires { ⌜ (n < 65536) × (l < 65536) × (m < 65536) ⌝ }
+    requires { ⌜ (n < 65536) × (l ≤ 1024) × (m < 65536) × (4352 ≤ length (now w)) ⌝ }
     ensures { λ r. ⌜ RulesIs (now (sheet .entry)) (now (bundle .entry)) (now (w .entry)) n l limit m c claim r (now (w .exit)) ⌝ }
 {
     note_all(bundle, w);

@@ -1,6 +1,7 @@
 // 26 and 27, by the notes of a bundle's commands.
 ghost use mathlib.Core.Path.{_≡_};
-ghost use Prim.Native.Nat.{_+_, _<_};
+ghost use Prim.Native.Nat.{_+_, _≤_, _<_};
+ghost use lib.ListN.{length};
 ghost use Rattle.messages.specs.Notes.{ahead, insideBy, acrossBy};
 ghost use Rattle.messages.specs.Rules.{OnceIs, LinkIs, MessageIs};
 use crate::Found;
@@ -61,15 +62,15 @@ fn across(a: usize, t: usize, sent: usize, got: usize) -> bool
 
 // Whether the messages of link l are as they should be, behind n tasks.
 fn link_ok(sheet: &[u8], w: &[u32], n: usize, l: usize) -> bool
-    requires { ⌜ (n < 65536) × (l < 65536) ⌝ }
+    requires { ⌜ (n < 65536) × (l < 1024) × (4352 ≤ length (now w)) ⌝ }
     ensures { λ r. ⌜ LinkIs (now (sheet .entry)) (now (w .entry)) n l r ⌝ }
 {
     let source = words::byte(sheet, 7 + 5 * n + 7 * l);
     let target = words::byte(sheet, 8 + 5 * n + 7 * l);
-    let a = words::word(w, 2048 + source);
-    let t = words::word(w, 2048 + target);
-    let sent = words::word(w, 2048 + (256 + l));
-    let got = words::word(w, 2048 + (1280 + l));
+    let a = workspace::word(w, 2048 + source);
+    let t = workspace::word(w, 2048 + target);
+    let sent = workspace::word(w, 2048 + (256 + l));
+    let got = workspace::word(w, 2048 + (1280 + l));
     if a / 4096 == t / 4096 {
         return inside(a, t, sent, got);
     }
@@ -78,7 +79,7 @@ fn link_ok(sheet: &[u8], w: &[u32], n: usize, l: usize) -> bool
 
 // 27: the lowest of m links, behind n tasks, whose messages are not as they should be.
 pub fn wrong_message(sheet: &[u8], w: &[u32], n: usize, m: usize) -> Found
-    requires { ⌜ (n < 65536) × (m < 65536) ⌝ }
+    requires { ⌜ (n < 65536) × (m ≤ 1024) × (4352 ≤ length (now w)) ⌝ }
     ensures { λ r. ⌜ MessageIs (now (sheet .entry)) (now (w .entry)) n m r ⌝ }
 {
     let mut l = 0;

@@ -5,7 +5,7 @@ use Rattle.messages.proofs.judge.judge.Statement.{statement}
 use Rattle.messages.proofs.judge.judge.Tie as tie
 
 rules-requires : tie.Need-rules-requires
-rules-requires c κs = (omega arith, omega arith, omega (arith, read-few (c .before .before .before .before .before .before .before .read .ensures) _ _ _ (c .before .before .before .m .given .1)))
+rules-requires c κs = (omega arith, omega arith, omega (arith, read-few (c .before .before .before .before .before .before .before .read .ensures) _ _ _ (c .before .before .before .m .given .1)), omega (arith, c .before .before .before .before .before .before .before .read .ensures .long))
 
 returns : tie.Need-returns
 returns c = judge-refused _ _ _ _ _ _ _ _ _ (c .before .before .before .before .before .read .ensures) _ _ (c .before .r .given .1)
