@@ -6,9 +6,11 @@ use mathlib.Core.Logic.{⊎-elim}
 use mathlib.Core.List.{List}
 use native.Mathlib.Omega.{arith}
 use native.Mathlib.Numerals.{add-one}
-use borrow.Author.Tests.{lt-ltb, le-ltb}
+use borrow.Author.Tests.{eq-eqb, ne-eqb, lt-ltb, le-ltb}
 use lib.ListN.{length, getD, drop, take}
 use lib.Seq.{take-all}
+use lib.Dec.{eqb}
+use Rattle.folds.specs.Folds.{pick}
 use Rattle.folds.proofs.Tests.{below-suc}
 use Rattle.folds.proofs.Laws.{none-first}
 use Rattle.numbers.specs.Number.{numberAt}
@@ -20,7 +22,7 @@ use Rattle.messages.specs.Counting.{weigh, wholeOf, need}
 use Rattle.messages.specs.Messages.{overStore, at28}
 use Rattle.messages.specs.Fields.{Fields}
 use Rattle.messages.specs.Notes.{sizeAt}
-use Rattle.messages.specs.Stores.{needAt, NeedIs, OverIs}
+use Rattle.messages.specs.Stores.{runNeed, receiveNeed, needAt, NeedIs, OverIs}
 use Rattle.messages.specs.declared.Found.{Found}
 use Rattle.messages.specs.declared.Found.the-variants.{At, Nothing}
 use Rattle.messages.proofs.Weights.{weigh-take}
@@ -29,12 +31,23 @@ use Rattle.messages.proofs.Noted.{stands-size}
 use Rattle.messages.proofs.Ruled.{first-found}
 
 stands-need : (s : Sheet) (sheet bundle : List ℕ) (n o : ℕ) (c : Command) → Stands (taskCount s) (linkCount s) bundle o c → Fields s sheet → taskCount s ≡ n → needAt sheet bundle n o ≡ need s c
-unfolding needAt
+unfolding needAt runNeed receiveNeed
 stands-need s sheet bundle n o (run x) h f e = rw (h .0, h .1) (f .store x (h .2))
 stands-need s sheet bundle n o (send x) h f e = rw (h .0)
 stands-need s sheet bundle n o (receive x) h f e =
     rw (h .0)
     (ap (λ (i : ℕ). numberAt 2 sheet (11 + 5 * n + 7 * i)) (h .1) ∙ ap (λ (i : ℕ). numberAt 2 sheet (11 + 5 * i + 7 * x)) (sym e) ∙ f .bytes x (h .2))
+
+-- by the byte of the command: a run, or a message
+module _ (sheet bundle : List ℕ) (n at c x : ℕ) (e : c ≡ getD bundle at 0) where
+  pub run-needs : c ≡ 0x52 → x ≡ runNeed sheet bundle at → (x ≡ needAt sheet bundle n at) × (2 ≡ sizeAt bundle at)
+  unfolding needAt sizeAt
+  run-needs q h = rw (eq-eqb (getD bundle at 0) 0x52 (sym e ∙ q)) (h, refl)
+
+  pub message-needs : (c ≡ 0x52 → ⊥) → x ≡ pick (eqb c 0x56) (receiveNeed sheet bundle n at) 0 → (x ≡ needAt sheet bundle n at) × (3 ≡ sizeAt bundle at)
+  unfolding needAt sizeAt
+  message-needs q h =
+      rw (ne-eqb (getD bundle at 0) 0x52 (λ f. q (e ∙ f))) (h ∙ ap (λ (i : ℕ). pick (eqb i 0x56) (receiveNeed sheet bundle n at) 0) e, refl)
 
 -- the needs of the first commands of programme k, up to an offset
 pub record Needing (sheet bundle w : List ℕ) (n k end at sum : ℕ) : Type 0 where

@@ -15,11 +15,15 @@ use Rattle.messages.specs.Fields.{Fields}
 use Rattle.messages.specs.Rules.{foundOf}
 use Rattle.messages.specs.declared.Found.{Found}
 
--- what the command at an offset adds to the store in use, behind n tasks
+-- what the command at an offset adds to the store in use, behind n tasks: a run, a receive, any
+unfoldable pub runNeed : List ℕ → List ℕ → ℕ → ℕ
+runNeed sheet bundle at = numberAt 2 sheet (9 + 5 * getD bundle (at + 1) 0)
+
+unfoldable pub receiveNeed : List ℕ → List ℕ → ℕ → ℕ → ℕ
+receiveNeed sheet bundle n at = numberAt 2 sheet (11 + 5 * n + 7 * numberAt 2 bundle (at + 1))
+
 unfoldable pub needAt : List ℕ → List ℕ → ℕ → ℕ → ℕ
-needAt sheet bundle n at =
-    pick (eqb (getD bundle at 0) 0x52) (numberAt 2 sheet (9 + 5 * getD bundle (at + 1) 0))
-    (pick (eqb (getD bundle at 0) 0x56) (numberAt 2 sheet (11 + 5 * n + 7 * numberAt 2 bundle (at + 1))) 0)
+needAt sheet bundle n at = pick (eqb (getD bundle at 0) 0x52) (runNeed sheet bundle at) (pick (eqb (getD bundle at 0) 0x56) (receiveNeed sheet bundle n at) 0)
 
 -- what programme k needs, or 2^32 where that is more
 pub record NeedIs (sheet bundle w : List ℕ) (n k r : ℕ) : Type 0 where

@@ -4,7 +4,7 @@ ghost use Prim.Native.Nat.{_+_, _*_, _≤_, _<_};
 ghost use lib.ListN.{length, getD};
 ghost use lib.Dec.{eqb};
 ghost use Rattle.folds.specs.Folds.{bit};
-ghost use Rattle.messages.specs.Notes.{messageAt, sizeAt, notedWords, BlankIs, NotesIs};
+ghost use Rattle.messages.specs.Notes.{messageAt, notedWords, BlankIs, NotesIs};
 
 // The slot of the send or receive at `at`. A sum and no test: which of them stands there cannot be foretold.
 fn message(bundle: &[u8], at: usize) -> usize
@@ -14,16 +14,6 @@ fn message(bundle: &[u8], at: usize) -> usize
     let c = numbers::get8(bundle, at);
     let l = numbers::get16(bundle, at + 1) as usize;
     256 + 1024 * ((c + 172) / 256) + l
-}
-
-// The size of the command at `at`.
-pub fn size(bundle: &[u8], at: usize) -> usize
-    ensures { λ r. ⌜ (r ≡ sizeAt (now (bundle .entry)) at) × (r < 4) × (1 < r) ⌝ }
-{
-    if words::byte(bundle, at) == 0x52 {
-        return 2;
-    }
-    3
 }
 
 // A command of slot x was met in programme k, r others before it: how many were met now.

@@ -1,23 +1,34 @@
 // 28: what each programme needs of the store, added up along its bytes.
 ghost use mathlib.Core.Path.{_≡_};
 ghost use Prim.Native.Nat.{_<_};
-ghost use Rattle.messages.specs.Stores.{needAt, NeedIs, OverIs};
+ghost use lib.Dec.{eqb};
+ghost use Rattle.folds.specs.Folds.{pick};
+ghost use Rattle.messages.specs.Stores.{runNeed, receiveNeed, NeedIs, OverIs};
 use crate::Found;
-use crate::notes::size;
 
-// What the command at `at` adds to the store in use, behind n tasks.
-fn need_at(sheet: &[u8], bundle: &[u8], n: usize, at: usize) -> usize
-    requires { ⌜ (n < 65536) × (at < 4294967296) ⌝ }
-    ensures { λ r. ⌜ (r ≡ needAt (now (sheet .entry)) (now (bundle .entry)) n at) × (r < 65536) ⌝ }
+// What the run at `at` adds to the store in use.
+fn run_need(sheet: &[u8], bundle: &[u8], at: usize) -> usize
+    requires { ⌜ at < 4294967296 ⌝ }
+    ensures { λ r. ⌜ (r ≡ runNeed (now (sheet .entry)) (now (bundle .entry)) at) × (r < 65536) ⌝ }
 {
-    let c = words::byte(bundle, at);
-    if c == 0x52 {
-        return words::pair(sheet, 9 + 5 * words::byte(bundle, at + 1));
-    }
-    if c == 0x56 {
-        return words::pair(sheet, 11 + 5 * n + 7 * words::pair(bundle, at + 1));
-    }
-    0
+    words::pair(sheet, 9 + 5 * words::byte(bundle, at + 1))
+}
+
+// The need of a receive, and none of a send: chosen by value and by no jump, since which of them stands there cannot be foretold.
+fn received(c: usize, need: usize) -> usize
+    requires { ⌜ need < 65536 ⌝ }
+    ensures { λ r. ⌜ (r ≡ pick (eqb c 0x56) need 0) × (r < 65536) ⌝ }
+{
+    if c == 0x56 { need } else { 0 }
+}
+
+// What the send or receive c at `at` adds to the store in use, behind n tasks.
+fn message_need(sheet: &[u8], bundle: &[u8], n: usize, at: usize, c: usize) -> usize
+    requires { ⌜ (n < 65536) × (at < 4294967296) ⌝ }
+    ensures { λ r. ⌜ (r ≡ pick (eqb c 0x56) (receiveNeed (now (sheet .entry)) (now (bundle .entry)) n at) 0) × (r < 65536) ⌝ }
+{
+    let l = words::pair(bundle, at + 1);
+    received(c, words::pair(sheet, 11 + 5 * n + 7 * l))
 }
 
 // What programme k needs of the store, at most 4,294,967,296. Its offsets stand in words k and k + 1.
@@ -29,8 +40,14 @@ fn need_of(sheet: &[u8], bundle: &[u8], w: &[u32], n: usize, k: usize) -> usize
     let mut at = words::word(w, k) + 2;
     let mut sum: usize = 0;
     while at < end {
-        sum = words::smaller(sum + need_at(sheet, bundle, n, at), 4294967296);
-        at += size(bundle, at);
+        let c = words::byte(bundle, at);
+        if c == 0x52 {
+            sum = words::smaller(sum + run_need(sheet, bundle, at), 4294967296);
+            at += 2;
+        } else {
+            sum = words::smaller(sum + message_need(sheet, bundle, n, at, c), 4294967296);
+            at += 3;
+        }
     }
     sum
 }
