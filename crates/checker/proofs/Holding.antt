@@ -1,17 +1,16 @@
 -- One processor over many commands, its offset and numbers held beside the words.
-use Prim.Native.Nat.{ℕ, suc, _+_, _*_, _-_, _%_, _<_, _≤_, max}
+use Prim.Native.Nat.{ℕ, _+_, _*_, _-_, _%_, _<_, _≤_, max}
 use mathlib.Core.Path.{_≡_, refl, sym, ap, _∙_, subst}
-use mathlib.Core.Bool.{Bool, true, false, not}
+use mathlib.Core.Bool.{true, false, not}
 use mathlib.Core.List.{List}
 use native.Mathlib.Omega.{arith}
-use native.Mathlib.Numerals.{add-one}
 use native.Mathlib.Decide.{decLt, ℕ-discrete}
 use borrow.Author.Tests.{eq-eqb, ne-eqb}
 use lib.ListN.{length, getD, set, length-set, List·getD-eq-default}
 use lib.Seq.{getD-set-same, getD-set-other}
 use lib.Dec.{eqb}
 use Rattle.numbers.specs.Number.{numberAt}
-use Rattle.state.specs.Words.{placedWords, movedWords, ranWords, sentWords, gotWords}
+use Rattle.state.specs.Words.{placedWords, ranWords, sentWords, gotWords}
 use Rattle.state.specs.Keeps.{StepIs}
 use Rattle.stepping.proofs.Lows.{Low, placed-low, placed-high, moved-low, moved-high, fits-moved, fits-stamped, low-at, low-then, low-same, low-stamped}
 use Rattle.stepping.proofs.Chosen.{no-programme, too-short, too-large, no-command, ran, sent-step, got-step}

@@ -33,7 +33,7 @@ fn put(w: &mut [u32], i: usize, x: usize)
 }
 
 // Processor k of the words.
-pub fn processor(w: &[u32], k: usize) -> processors::Processor
+fn processor(w: &[u32], k: usize) -> processors::Processor
     requires { ⌜ Roomy (now w) k ⌝ }
     ensures { λ r. ⌜ (r ≡ processorIn (now (w .entry)) k) × Narrow r ⌝ }
 {

@@ -1,5 +1,4 @@
 use borrow.Author.Needs.{needs}
-use mathlib.Core.Path.{refl, ap, _∙_}
 use native.Mathlib.Omega.{arith}
 use Rattle.checker.proofs.Holding.{stops-short, stops-large, stops-none}
 use Rattle.checker.proofs.advancing.advance.Statement.{statement}

@@ -1,5 +1,4 @@
 use borrow.Author.Needs.{needs}
-use native.Mathlib.Omega.{arith}
 use Rattle.messages.specs.Notes.{messageAt}
 use Rattle.messages.proofs.notes.message.Statement.{statement}
 use Rattle.messages.proofs.notes.message.Tie as tie

@@ -1,5 +1,4 @@
 use borrow.Author.Needs.{needs}
-use native.Mathlib.Omega.{arith}
 use Rattle.messages.specs.Stores.{runNeed}
 use Rattle.messages.proofs.stores.run_need.Statement.{statement}
 use Rattle.messages.proofs.stores.run_need.Tie as tie
