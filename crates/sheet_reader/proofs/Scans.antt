@@ -214,6 +214,27 @@ module _ {a : Answer Sheet} {b w₀ w : List ℕ} {n m at : ℕ} (s : Walking a 
             (scan-link (s .scanning) x y j (sym (operand 1 (at + 1) refl)) (sym (operand 2 (at + 2) refl)) c z (sym (operand16 3 (at + 3) refl)) (sym (operand16 5 (at + 5) refl)) (number-lt 2 b (at + 3) small) (number-lt 2 b (at + 5) small));
       }
 
+  -- the same of the words that a callee left
+  pub task-added : (w′ : List ℕ) → judge sheetFormat (begun (sheetIn w)) (drop at b) ≡ go task → ((k : ℕ) → getD b k 0 < 256)
+      → w′ ≡ taskWords w n (numberAt 2 b (at + 1)) (numberAt 2 b (at + 3)) → Walking a b w₀ w′ (n + 1) m (at + 5)
+  task-added w′ j small e = subst (λ (v : List ℕ). Walking a b w₀ v (n + 1) m (at + 5)) (sym e) (walk-task j small)
+
+  pub link-added : (w′ : List ℕ) → judge sheetFormat (begun (sheetIn w)) (drop at b) ≡ go link → ((k : ℕ) → getD b k 0 < 256)
+      → w′ ≡ addedWords b at w m → Walking a b w₀ w′ n (m + 1) (at + 7)
+  link-added w′ j small e = subst (λ (v : List ℕ). Walking a b w₀ v n (m + 1) (at + 7)) (sym e) (walk-link j small)
+
+  -- the same at an offset that is equal, and from words that are as long
+  pub walk-at : (e : ℕ) → at ≡ e → Walking a b w₀ w n m e
+  walk-at e h = subst (λ (x : ℕ). Walking a b w₀ w n m x) h s
+
+  pub walk-from : (v : List ℕ) → length w₀ ≡ length v → Walking a b v w n m at
+  walk-from v e =
+      let q = s .scanning in
+      record {
+        room = s .room;
+        scanning = record { long = q .long ∙ e; filling = q .filling; tasks = q .tasks; links = q .links; going = q .going };
+      }
+
   behind : length (drop 1 (drop at b)) ≡ length b - (at + 1)
   behind = ap length (drop-drop 1 at b) ∙ length-drop (at + 1) b
 

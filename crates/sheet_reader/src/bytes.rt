@@ -1,9 +1,9 @@
 // Reads a sheet from any bytes, command by command, into the tables of the work area.
 ghost use mathlib.Core.Path.{_≡_};
-ghost use mathlib.Core.Bool.{false};
+ghost use mathlib.Core.Bool.{true, false};
 ghost use mathlib.Core.Option.{some};
 ghost use mathlib.Core.List.{[]};
-ghost use Prim.Native.Nat.{_+_, _*_, _≤_, _<_};
+ghost use Prim.Native.Nat.{_+_, _-_, _*_, _≤_, _<_};
 ghost use lib.ListN.{length, getD, drop};
 ghost use Rattle.numbers.specs.Number.{numberAt};
 ghost use Rattle.commands.specs.Commands.{judge, judgeKind, go};
@@ -210,6 +210,71 @@ fn closing(bytes: &[u8], at: usize, tasks: usize) -> Reading
     Reading::Read
 }
 
+// Whether a task stands at `at` that nothing refuses.
+fn is_task(bytes: &[u8], at: usize, w: &[u32], tasks: usize, links: usize) -> bool
+    requires { ⌜ Filling (now w) ⌝ }
+    requires { ⌜ (tasks ≡ getD (now w) 0 0) × (links ≡ getD (now w) 1 0) × (at ≤ length (now bytes)) ⌝ }
+    ensures { λ r. ⌜ (r ≡ true → judge sheetFormat (begun (sheetIn (now (w .entry)))) (drop at (now (bytes .entry))) ≡ go task) ⌝ }
+{
+    match next_at(bytes, at, w, tasks, links) {
+        Next::Task => true,
+        Next::Link => false,
+        Next::End => false,
+        Next::No(r) => false,
+    }
+}
+
+// Whether a link stands at `at` that nothing refuses.
+fn is_link(bytes: &[u8], at: usize, w: &[u32], tasks: usize, links: usize) -> bool
+    requires { ⌜ Filling (now w) ⌝ }
+    requires { ⌜ (tasks ≡ getD (now w) 0 0) × (links ≡ getD (now w) 1 0) × (at ≤ length (now bytes)) ⌝ }
+    ensures { λ r. ⌜ (r ≡ true → judge sheetFormat (begun (sheetIn (now (w .entry)))) (drop at (now (bytes .entry))) ≡ go link) ⌝ }
+{
+    match next_at(bytes, at, w, tasks, links) {
+        Next::Task => false,
+        Next::Link => true,
+        Next::End => false,
+        Next::No(r) => false,
+    }
+}
+
+// Adds the task at `start` and those that follow it; the answer is how many tasks there are. A loop for each kind of command tells
+// the usual commands from the rest by tests that go one way.
+fn add_tasks(bytes: &[u8], start: usize, w: &mut [u32], before: usize, links: usize) -> usize
+    requires { ⌜ Walking (readForm (now bytes)) (now bytes) (now w) (now w) before links start ⌝ }
+    requires { ⌜ judge sheetFormat (begun (sheetIn (now w))) (drop start (now bytes)) ≡ go task ⌝ }
+    ensures { λ r. ⌜ (before < r) × Walking (readForm (now (bytes .entry))) (now (bytes .entry)) (now (w .entry)) (now (w .exit)) r links (start + 5 * (r - before)) ⌝ }
+{
+    let mut at = start;
+    let mut tasks = before;
+    loop {
+        add_task(bytes, at, w, tasks);
+        tasks += 1;
+        at += 5;
+        if !is_task(bytes, at, w, tasks, links) {
+            return tasks;
+        }
+    }
+}
+
+// Adds the link at `start` and those that follow it; the answer is how many links there are.
+fn add_links(bytes: &[u8], start: usize, w: &mut [u32], tasks: usize, before: usize) -> usize
+    requires { ⌜ Walking (readForm (now bytes)) (now bytes) (now w) (now w) tasks before start ⌝ }
+    requires { ⌜ judge sheetFormat (begun (sheetIn (now w))) (drop start (now bytes)) ≡ go link ⌝ }
+    ensures { λ r. ⌜ (before < r) × Walking (readForm (now (bytes .entry))) (now (bytes .entry)) (now (w .entry)) (now (w .exit)) tasks r (start + 7 * (r - before)) ⌝ }
+{
+    let mut at = start;
+    let mut links = before;
+    loop {
+        add_link(bytes, at, w, links);
+        links += 1;
+        at += 7;
+        if !is_link(bytes, at, w, tasks, links) {
+            return links;
+        }
+    }
+}
+
 // Reads command by command behind the board command.
 fn walk(bytes: &[u8], w: &mut [u32]) -> Reading
     requires { ⌜ Walking (readForm (now bytes)) (now bytes) (now w) (now w) 0 0 6 ⌝ }
@@ -221,14 +286,14 @@ fn walk(bytes: &[u8], w: &mut [u32]) -> Reading
     loop {
         match next_at(bytes, at, w, tasks, links) {
             Next::Task => {
-                add_task(bytes, at, w, tasks);
-                tasks += 1;
-                at += 5;
+                let more = add_tasks(bytes, at, w, tasks, links);
+                at += 5 * (more - tasks);
+                tasks = more;
             }
             Next::Link => {
-                add_link(bytes, at, w, links);
-                links += 1;
-                at += 7;
+                let more = add_links(bytes, at, w, tasks, links);
+                at += 7 * (more - links);
+                links = more;
             }
             Next::End => {
                 return closing(bytes, at, tasks);

@@ -1,13 +1,11 @@
-use Prim.Native.Nat.{_+_, _-_, ℕ}
-use Rattle.sheet_reader.proofs.Scans.{link-few, scan-refuse, task-few, walk-closes, walk-link, walk-room, walk-single, walk-task}
+use Prim.Native.Nat.{_-_}
+use Rattle.sheet_reader.proofs.Scans.{scan-refuse, walk-closes, walk-from, walk-room}
 use Rattle.sheet_reader.specs.Answers.{outcomeOf}
-use Rattle.sheet.specs.Format.{end, link, readForm, task}
+use Rattle.sheet.specs.Format.{end, readForm}
 use Rattle.sheet_reader.specs.Scanning.{Walking}
 use borrow.Author.Needs.{needs}
-use denote.Ref.{now}
 use lib.ListN.{length}
-use mathlib.Core.List.{List}
-use mathlib.Core.Path.{_∙_, ap, subst, sym}
+use mathlib.Core.Path.{_∙_, ap, sym}
 use native.Mathlib.Omega.{arith}
 use Rattle.sheet_reader.proofs.bytes.walk.Statement.{statement}
 use Rattle.sheet_reader.proofs.bytes.walk.Tie as tie
@@ -24,56 +22,45 @@ loop-holds c = c .before .before .pre
 next-at-requires : tie.Need-next-at-requires Inv-loop μ-loop
 next-at-requires c κs = let s = c .before .loop .inv in (s .scanning .filling, (sym (s .scanning .tasks), sym (s .scanning .links), s .room))
 
-enum-told : tie.Need-enum-told Inv-loop μ-loop
-enum-told c = search needs
-
-add-task-requires : tie.Need-add-task-requires Inv-loop μ-loop
-add-task-requires c κs =
+add-tasks-requires : tie.Need-add-tasks-requires Inv-loop μ-loop
+add-tasks-requires c κs =
     let s = c .before .before .before .before .before .loop .inv in
-    let j = sym (c .before .before .before .next-at .ensures) ∙ ap outcomeOf (c .before .enum-told .given .1) in
-    (walk-room s task j, s .scanning .filling .loaded .long, task-few (s .scanning) j)
+    (walk-from s _ (sym (s .scanning .long)), sym (c .before .before .before .next-at .ensures) ∙ ap outcomeOf (c .before .enum-told .given .1))
 
-add-tasks : tie.Need-add-tasks Inv-loop μ-loop
-add-tasks c = let j = sym (c .before .before .before .before .before .before .next-at .ensures) ∙ ap outcomeOf (c .before .before .before .before .enum-told .given .1) in omega (arith, task-few (c .before .before .before .before .before .before .before .before .loop .inv .scanning) j)
+sub-at : tie.Need-sub-at Inv-loop μ-loop
+sub-at c = omega (arith, c .before .before .add-tasks .ensures .0)
+
+mul-at : tie.Need-mul-at Inv-loop μ-loop
+mul-at c = omega (arith, c .before .before .add-tasks .ensures .1 .room)
 
 add-at : tie.Need-add-at Inv-loop μ-loop
-add-at c = let j = sym (c .before .before .before .before .before .before .next-at .ensures) ∙ ap outcomeOf (c .before .before .before .before .enum-told .given .1) in omega (arith, walk-room (c .before .before .before .before .before .before .before .before .loop .inv) task j)
+add-at c = omega (arith, c .before .before .add-tasks .ensures .1 .room)
 
 loop-less : tie.Need-loop-less Inv-loop μ-loop
-loop-less c = let j = sym (c .before .before .before .before .before .before .next-at .ensures) ∙ ap outcomeOf (c .before .before .before .before .enum-told .given .1) in omega (arith, walk-room (c .before .before .before .before .before .before .before .before .loop .inv) task j)
+loop-less c = omega (arith, c .before .before .add-tasks .ensures .0, c .before .before .add-tasks .ensures .1 .room)
 
 loop-again : tie.Need-loop-again Inv-loop μ-loop
-loop-again c =
-    subst (λ (v : List ℕ). Walking (readForm (now (c .before .before .before .before .before .before .before .before .before .before .before .args .bytes))) (now (c .before .before .before .before .before .before .before .before .before .before .before .args .bytes)) (now (c .before .before .before .before .before .before .before .before .before .before .before .args .w)) v (c .before .before .before .before .before .before .before .before .loop .tasks + 1) (c .before .before .before .before .before .before .before .before .loop .links) (c .before .before .before .before .before .before .before .before .loop .at + 5))
-    (sym (c .before .before .add-task .ensures))
-    (walk-task (c .before .before .before .before .before .before .before .before .loop .inv) (sym (c .before .before .before .before .before .before .next-at .ensures) ∙ ap outcomeOf (c .before .before .before .before .enum-told .given .1)) (λ k. omega (arith, c .before .before .before .before .before .before .before .before .before .before .shared-slice-known .given k)))
+loop-again c = walk-from (c .before .before .add-tasks .ensures .1) _ (c .before .before .before .before .before .before .before .before .loop .inv .scanning .long)
 
-enum-told-2 : tie.Need-enum-told-2 Inv-loop μ-loop
-enum-told-2 c = search needs
-
-add-link-requires : tie.Need-add-link-requires Inv-loop μ-loop
-add-link-requires c κs =
+add-links-requires : tie.Need-add-links-requires Inv-loop μ-loop
+add-links-requires c κs =
     let s = c .before .before .before .before .before .loop .inv in
-    let j = sym (c .before .before .before .next-at .ensures) ∙ ap outcomeOf (c .before .enum-told2 .given .1) in
-    ((walk-room s link j, s .scanning .filling .loaded .long, link-few (s .scanning) j), walk-single s j)
+    (walk-from s _ (sym (s .scanning .long)), sym (c .before .before .before .next-at .ensures) ∙ ap outcomeOf (c .before .enum-told2 .given .1))
 
-add-links : tie.Need-add-links Inv-loop μ-loop
-add-links c = let j = sym (c .before .before .before .before .before .before .next-at .ensures) ∙ ap outcomeOf (c .before .before .before .before .enum-told2 .given .1) in omega (arith, link-few (c .before .before .before .before .before .before .before .before .loop .inv .scanning) j)
+sub-at-2 : tie.Need-sub-at-2 Inv-loop μ-loop
+sub-at-2 c = omega (arith, c .before .before .add-links .ensures .0)
+
+mul-at-2 : tie.Need-mul-at-2 Inv-loop μ-loop
+mul-at-2 c = omega (arith, c .before .before .add-links .ensures .1 .room)
 
 add-at-2 : tie.Need-add-at-2 Inv-loop μ-loop
-add-at-2 c = let j = sym (c .before .before .before .before .before .before .next-at .ensures) ∙ ap outcomeOf (c .before .before .before .before .enum-told2 .given .1) in omega (arith, walk-room (c .before .before .before .before .before .before .before .before .loop .inv) link j)
+add-at-2 c = omega (arith, c .before .before .add-links .ensures .1 .room)
 
 loop-less-2 : tie.Need-loop-less-2 Inv-loop μ-loop
-loop-less-2 c = let j = sym (c .before .before .before .before .before .before .next-at .ensures) ∙ ap outcomeOf (c .before .before .before .before .enum-told2 .given .1) in omega (arith, walk-room (c .before .before .before .before .before .before .before .before .loop .inv) link j)
+loop-less-2 c = omega (arith, c .before .before .add-links .ensures .0, c .before .before .add-links .ensures .1 .room)
 
 loop-again-2 : tie.Need-loop-again-2 Inv-loop μ-loop
-loop-again-2 c =
-    subst (λ (v : List ℕ). Walking (readForm (now (c .before .before .before .before .before .before .before .before .before .before .before .args .bytes))) (now (c .before .before .before .before .before .before .before .before .before .before .before .args .bytes)) (now (c .before .before .before .before .before .before .before .before .before .before .before .args .w)) v (c .before .before .before .before .before .before .before .before .loop .tasks) (c .before .before .before .before .before .before .before .before .loop .links + 1) (c .before .before .before .before .before .before .before .before .loop .at + 7))
-    (sym (c .before .before .add-link .ensures))
-    (walk-link (c .before .before .before .before .before .before .before .before .loop .inv) (sym (c .before .before .before .before .before .before .next-at .ensures) ∙ ap outcomeOf (c .before .before .before .before .enum-told2 .given .1)) (λ k. omega (arith, c .before .before .before .before .before .before .before .before .before .before .shared-slice-known .given k)))
-
-enum-told-3 : tie.Need-enum-told-3 Inv-loop μ-loop
-enum-told-3 c = search needs
+loop-again-2 c = walk-from (c .before .before .add-links .ensures .1) _ (c .before .before .before .before .before .before .before .before .loop .inv .scanning .long)
 
 closing-requires : tie.Need-closing-requires Inv-loop μ-loop
 closing-requires c κs = omega (arith, walk-room (c .before .before .before .before .loop .inv) end (sym (c .before .before .next-at .ensures) ∙ ap outcomeOf (c .enum-told3 .given .1)))
@@ -83,9 +70,6 @@ same-length c = c .before .before .before .before .before .loop .inv .scanning .
 
 returns : tie.Need-returns Inv-loop μ-loop
 returns c = walk-closes (c .before .before .before .before .before .loop .inv) _ (sym (c .before .before .before .next-at .ensures) ∙ ap outcomeOf (c .before .enum-told3 .given .1)) (c .closing .ensures)
-
-enum-known-r : tie.Need-enum-known-r Inv-loop μ-loop
-enum-known-r c = search needs
 
 same-length-2 : tie.Need-same-length-2 Inv-loop μ-loop
 same-length-2 c = c .before .before .before .before .before .loop .inv .scanning .long
@@ -101,22 +85,24 @@ walk-spec =
     μ-loop
     loop-holds
     next-at-requires
-    enum-told
-    add-task-requires
-    add-tasks
+    (λ c. search needs)
+    add-tasks-requires
+    sub-at
+    mul-at
     add-at
     loop-less
     loop-again
-    enum-told-2
-    add-link-requires
-    add-links
+    (λ c. search needs)
+    add-links-requires
+    sub-at-2
+    mul-at-2
     add-at-2
     loop-less-2
     loop-again-2
-    enum-told-3
+    (λ c. search needs)
     closing-requires
     same-length
     returns
-    enum-known-r
+    (λ c. search needs)
     same-length-2
     returns-2)

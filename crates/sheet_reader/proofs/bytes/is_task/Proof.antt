@@ -1,0 +1,32 @@
+use Rattle.sheet_reader.specs.Answers.{outcomeOf}
+use borrow.Author.Needs.{needs}
+use mathlib.Core.Bool.{true≢false}
+use mathlib.Core.Path.{_∙_, ap, sym}
+use Rattle.sheet_reader.proofs.bytes.is_task.Statement.{statement}
+use Rattle.sheet_reader.proofs.bytes.is_task.Tie as tie
+
+returns : tie.Need-returns
+returns c = λ q. sym (c .before .before .next-at .ensures) ∙ ap outcomeOf (c .enum-told .given .1)
+
+returns-2 : tie.Need-returns-2
+returns-2 c = λ q. absurd (true≢false (sym q))
+
+returns-3 : tie.Need-returns-3
+returns-3 c = λ q. absurd (true≢false (sym q))
+
+returns-4 : tie.Need-returns-4
+returns-4 c = λ q. absurd (true≢false (sym q))
+
+pub is-task-spec : {M : Type 1} → statement M
+is-task-spec =
+    tie.close
+    (tie.spec
+    (λ c κs. search needs)
+    (λ c. search needs)
+    (λ c. search needs)
+    (λ c. search needs)
+    (λ c. search needs)
+    returns
+    returns-2
+    returns-3
+    returns-4)
