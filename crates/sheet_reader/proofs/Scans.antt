@@ -1,8 +1,8 @@
 -- The state of a scan of bytes, and the ways on and out.
 use Prim.Native.Nat.{ℕ, _+_, _-_, _<_, _≤_}
 use mathlib.Core.Path.{_≡_, refl, sym, ap, ap₂, subst, _∙_}
-use mathlib.Core.Bool.{Bool, true, false}
-use mathlib.Core.Logic.{_≢_}
+use mathlib.Core.Bool.{Bool, true, false, true≢false}
+use mathlib.Core.Logic.{_≢_, _⊎_, inl, inr}
 use mathlib.Core.List.{List, [], _∷_, _++_}
 use native.Mathlib.Omega.{arith}
 use native.Mathlib.Nat.{add-zero}
@@ -13,7 +13,7 @@ use lib.Seq.{getD-drop, drop-drop, getD-set-same, getD-set-other}
 use lib.Dec.{eqb, ltb, leb}
 use Rattle.folds.specs.Folds.{pick, both, either, listed}
 use Rattle.folds.specs.Answers.{Answer, value, refused}
-use Rattle.folds.proofs.Tests.{not-value, either-none, both-parts}
+use Rattle.folds.proofs.Tests.{equal-or, not-value, either-none, both-parts}
 use Rattle.folds.proofs.Loops.{listed-zero}
 use Rattle.numbers.specs.Number.{numberAt}
 use Rattle.numbers.proofs.Laws.{numberAt-drop, number-lt}
@@ -25,7 +25,7 @@ use Rattle.sheet.specs.Sheet.{Sheet, Task, Link, taskCount, linkCount}
 use Rattle.sheet.specs.Format.{Kind, board, task, link, end, width, Progress, fresh, closes, withCommand, taskFrom, linkFrom, ended, joins, sheetFormat, readForm}
 use Rattle.sheet.specs.Tables.{sheetIn, pairIn, Loaded, Filling, FillingOf, taskWords, linkWords, pairWords}
 use Rattle.sheet.specs.Faults.{begun}
-use Rattle.sheet_reader.specs.Answers.{readingOf, openingOf, closedOf, ReadIs}
+use Rattle.sheet_reader.specs.Answers.{isTask, isLink, readingOf, openingOf, closedOf, ReadIs}
 use Rattle.sheet_reader.specs.Scanning.{Scanning, Walking, addedWords}
 use Rattle.sheet_reader.specs.declared.Reading.{Reading}
 use Rattle.sheet_reader.specs.declared.Reading.the-variants.{Read, Refused}
@@ -50,6 +50,29 @@ read-value a w last long l h =
   where
     same : {s t : Sheet} → _≡_ {A = Answer Sheet} (value s) (value t) → s ≡ t
     same e = cc
+
+-- a task or a link comes
+pub task-comes : (o : Outcome Kind) → isTask o ≡ true → o ≡ go task
+task-comes (refuse r) e = absurd (true≢false (sym e))
+task-comes (go board) e = absurd (true≢false (sym e))
+task-comes (go task) e = refl
+task-comes (go link) e = absurd (true≢false (sym e))
+task-comes (go end) e = absurd (true≢false (sym e))
+
+pub link-comes : (o : Outcome Kind) → isLink o ≡ true → o ≡ go link
+link-comes (refuse r) e = absurd (true≢false (sym e))
+link-comes (go board) e = absurd (true≢false (sym e))
+link-comes (go task) e = absurd (true≢false (sym e))
+link-comes (go link) e = refl
+link-comes (go end) e = absurd (true≢false (sym e))
+
+-- a loop that stops at a command that does not come, and began at one that does, went on
+pub went-on : (P : Type 0) (r : Bool) (n m : ℕ) → n ≤ m → (m ≡ n → P) → (P → r ≡ true) → r ≡ false → n < m
+went-on P r n m h p q e = split (equal-or m n)
+  where
+    split : (m ≡ n) ⊎ (m ≢ n) → n < m
+    split (inl z) = absurd (true≢false (sym (q (p z)) ∙ e))
+    split (inr z) = omega arith
 
 no-tasks : (p l : ℕ) → taskCount (record { processors = p; limit = l; tasks = []; links = [] }) ≡ 0
 unfolding taskCount

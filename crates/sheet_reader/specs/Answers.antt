@@ -1,5 +1,6 @@
 -- The code's answers as the definitions have them.
 use Prim.Native.Nat.{ℕ, _+_, _*_, _/_, _%_}
+use mathlib.Core.Bool.{Bool, true, false}
 use mathlib.Core.Path.{_≡_}
 use mathlib.Core.List.{List}
 use lib.ListN.{length}
@@ -20,6 +21,21 @@ outcomeOf Task = go task
 outcomeOf Link = go link
 outcomeOf End = go end
 outcomeOf (No r) = refuse r
+
+-- whether a task comes, whether a link comes
+abbrev pub isTask : Outcome Kind → Bool
+isTask (refuse r) = false
+isTask (go board) = false
+isTask (go task) = true
+isTask (go link) = false
+isTask (go end) = false
+
+abbrev pub isLink : Outcome Kind → Bool
+isLink (refuse r) = false
+isLink (go board) = false
+isLink (go task) = false
+isLink (go link) = true
+isLink (go end) = false
 
 -- the board command's fault, or 0
 abbrev pub openingOf : ℕ → Outcome Kind

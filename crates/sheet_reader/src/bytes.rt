@@ -1,6 +1,6 @@
 // Reads a sheet from any bytes, command by command, into the tables of the work area.
 ghost use mathlib.Core.Path.{_≡_};
-ghost use mathlib.Core.Bool.{true, false};
+ghost use mathlib.Core.Bool.{false};
 ghost use mathlib.Core.Option.{some};
 ghost use mathlib.Core.List.{[]};
 ghost use Prim.Native.Nat.{_+_, _-_, _*_, _≤_, _<_};
@@ -12,7 +12,7 @@ ghost use Rattle.sheet.specs.Sheet.{taskCount, linkCount};
 ghost use Rattle.sheet.specs.Format.{task, link, board, end, sheetFormat, fresh, readForm};
 ghost use Rattle.sheet.specs.Tables.{sheetIn, pairIn, Filling, FillingOf, taskWords};
 ghost use Rattle.sheet.specs.Faults.{begun, taskFault, linkFault, numbered};
-ghost use Rattle.sheet_reader.specs.Answers.{outcomeOf, openingOf, closedOf, ReadIs};
+ghost use Rattle.sheet_reader.specs.Answers.{outcomeOf, isTask, isLink, openingOf, closedOf, ReadIs};
 ghost use Rattle.sheet_reader.specs.Scanning.{Walking, addedWords};
 use crate::Reading;
 use sheet::pairs;
@@ -214,7 +214,7 @@ fn closing(bytes: &[u8], at: usize, tasks: usize) -> Reading
 fn is_task(bytes: &[u8], at: usize, w: &[u32], tasks: usize, links: usize) -> bool
     requires { ⌜ Filling (now w) ⌝ }
     requires { ⌜ (tasks ≡ getD (now w) 0 0) × (links ≡ getD (now w) 1 0) × (at ≤ length (now bytes)) ⌝ }
-    ensures { λ r. ⌜ (r ≡ true → judge sheetFormat (begun (sheetIn (now (w .entry)))) (drop at (now (bytes .entry))) ≡ go task) ⌝ }
+    ensures { λ r. ⌜ r ≡ isTask (judge sheetFormat (begun (sheetIn (now (w .entry)))) (drop at (now (bytes .entry)))) ⌝ }
 {
     match next_at(bytes, at, w, tasks, links) {
         Next::Task => true,
@@ -228,7 +228,7 @@ fn is_task(bytes: &[u8], at: usize, w: &[u32], tasks: usize, links: usize) -> bo
 fn is_link(bytes: &[u8], at: usize, w: &[u32], tasks: usize, links: usize) -> bool
     requires { ⌜ Filling (now w) ⌝ }
     requires { ⌜ (tasks ≡ getD (now w) 0 0) × (links ≡ getD (now w) 1 0) × (at ≤ length (now bytes)) ⌝ }
-    ensures { λ r. ⌜ (r ≡ true → judge sheetFormat (begun (sheetIn (now (w .entry)))) (drop at (now (bytes .entry))) ≡ go link) ⌝ }
+    ensures { λ r. ⌜ r ≡ isLink (judge sheetFormat (begun (sheetIn (now (w .entry)))) (drop at (now (bytes .entry)))) ⌝ }
 {
     match next_at(bytes, at, w, tasks, links) {
         Next::Task => false,
@@ -247,14 +247,12 @@ fn add_tasks(bytes: &[u8], start: usize, w: &mut [u32], before: usize, links: us
 {
     let mut at = start;
     let mut tasks = before;
-    loop {
+    while is_task(bytes, at, w, tasks, links) {
         add_task(bytes, at, w, tasks);
         tasks += 1;
         at += 5;
-        if !is_task(bytes, at, w, tasks, links) {
-            return tasks;
-        }
     }
+    tasks
 }
 
 // Adds the link at `start` and those that follow it; the answer is how many links there are.
@@ -265,14 +263,12 @@ fn add_links(bytes: &[u8], start: usize, w: &mut [u32], tasks: usize, before: us
 {
     let mut at = start;
     let mut links = before;
-    loop {
+    while is_link(bytes, at, w, tasks, links) {
         add_link(bytes, at, w, links);
         links += 1;
         at += 7;
-        if !is_link(bytes, at, w, tasks, links) {
-            return links;
-        }
     }
+    links
 }
 
 // Reads command by command behind the board command.
