@@ -1,5 +1,4 @@
 // The bundle's side of the interface, behind the test of the work area.
-ghost use mathlib.Core.Path.{_≡_};
 ghost use Prim.Native.Nat.{_≤_};
 ghost use lib.ListN.{length};
 ghost use Rattle.folds.specs.Answers.{value, andThen, fitting};

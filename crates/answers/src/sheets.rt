@@ -2,7 +2,6 @@
 ghost use mathlib.Core.Path.{_≡_};
 ghost use Prim.Native.Nat.{_+_, _*_, _≤_, _<_};
 ghost use lib.ListN.{length};
-ghost use Rattle.folds.specs.Folds.{listed};
 ghost use Rattle.folds.specs.Answers.{andThen, fitting};
 ghost use Rattle.numbers.specs.Number.{stored};
 ghost use Rattle.workspace.specs.Area.{fixed};

@@ -1,5 +1,5 @@
 -- A ready task t goes on k from a to b: what becomes of all that is kept.
-use Prim.Native.Nat.{ℕ, _+_, _*_, _≤_, _<_, max}
+use Prim.Native.Nat.{ℕ, _+_, _*_, _<_, max}
 use mathlib.Core.Bool.{Bool, true, false, not, true≢false}
 use mathlib.Core.Path.{_≡_, refl, ap, sym, _∙_}
 use mathlib.Core.Logic.{_≢_}
@@ -7,10 +7,10 @@ use mathlib.Core.List.{List}
 use native.Mathlib.Omega.{arith}
 use native.Mathlib.Decide.{ℕ-discrete}
 use borrow.Author.Tests.{eq-eqb, ne-eqb, lt-ltb, le-ltb, eqb-true}
-use lib.ListN.{length, getD, set}
+use lib.ListN.{getD}
 use lib.Seq.{getD-set-same, getD-set-other}
 use lib.Dec.{eqb, ltb}
-use Rattle.folds.specs.Folds.{pick, both, either, sum, greatest}
+use Rattle.folds.specs.Folds.{pick, both, sum}
 use Rattle.folds.proofs.Laws.{sum-cong, greatest-cong, sum-point, greatest-point, sum-add}
 use Rattle.sheet.specs.Sheet.{Sheet, taskCount, linkCount, sourceOf, targetOf, costOf, bytesOf, storeOf}
 use Rattle.planner.specs.Schedule.{Schedule, put, nowhere, placed, stands, placeOf, finishOf}

@@ -7,9 +7,9 @@ use mathlib.Core.List.{List}
 use native.Mathlib.Omega.{arith}
 use native.Mathlib.Decide.{decLt}
 use borrow.Author.Tests.{ne-eqb, lt-ltb, le-ltb}
-use lib.ListN.{length, getD}
+use lib.ListN.{getD}
 use lib.Dec.{eqb, ltb}
-use Rattle.folds.specs.Folds.{both, either, sum, greatest}
+use Rattle.folds.specs.Folds.{both, either}
 use Rattle.folds.proofs.Laws.{sum-cong, greatest-cong}
 use Rattle.sheet.specs.Sheet.{Sheet, taskCount, linkCount, sourceOf}
 use Rattle.sheet.specs.Tables.{sheetIn, Loaded}

@@ -1,6 +1,6 @@
 // What is kept beside the schedule: of each task the links that are known, of each processor its end, its store and the links that wait.
 ghost use mathlib.Core.Path.{_≡_};
-ghost use Prim.Native.Nat.{ℕ, _+_, _*_, _<_, _≤_};
+ghost use Prim.Native.Nat.{_+_, _*_, _<_, _≤_};
 ghost use lib.ListN.{getD, length};
 ghost use Rattle.folds.specs.Folds.{pick};
 ghost use Rattle.workspace.specs.Area.{fixed};

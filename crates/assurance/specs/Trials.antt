@@ -2,7 +2,7 @@
 use Prim.Native.Nat.{ℕ}
 use mathlib.Core.Bool.{Bool, false}
 use mathlib.Core.Path.{_≡_, refl}
-use mathlib.Core.List.{List, [], _∷_, _++_}
+use mathlib.Core.List.{List, [], _∷_}
 use Rattle.folds.specs.Folds.{all, any, sum, greatest, first, leading, least, listed, gather}
 use Rattle.folds.specs.Answers.{Answer, value, refused, andThen}
 use Rattle.numbers.specs.Number.{numberAt}
@@ -11,7 +11,7 @@ use Rattle.sheet.specs.Sheet.{Sheet, Task, Link, taskCount, linkCount, workOf, 
 use Rattle.sheet.specs.Format.{joinsBy, joins, readForm}
 use Rattle.sheet.specs.Writing.{sheetBytes}
 use Rattle.graph.specs.Graph.{reachesBy, reaches, onCircle, circle, levelBy, levelWithin, level, readSheet}
-use Rattle.bundle.specs.Bundle.{Command, run, send, receive, Bundle, programmeCount, programmeOf}
+use Rattle.bundle.specs.Bundle.{run, send, receive, Bundle, programmeCount, programmeOf}
 use Rattle.bundle.specs.Format.{readBundle}
 use Rattle.bundle.specs.Format as bundles
 use Rattle.sheet.specs.Format as sheets

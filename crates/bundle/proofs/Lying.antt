@@ -39,11 +39,6 @@ module _ (t l : ℕ) (b : List ℕ) where
   lies-none over h = refl
   lies-none (more {c = c} g r) h = absurd (omega (arith, lies-le r, size-some c))
 
-  pub stands-room : (o : ℕ) (c : Command) → Stands t l b o c → o + sizeOf c ≤ length b
-  stands-room o (run x) h = h .3
-  stands-room o (send x) h = h .3
-  stands-room o (receive x) h = h .3
-
   -- one command more
   pub lies-more : {o e : ℕ} {cs : List Command} → Lies t l b o e cs → (c : Command) → Stands t l b e c → Lies t l b o (e + sizeOf c) (cs ++ c ∷ [])
   lies-more over c h = more h over

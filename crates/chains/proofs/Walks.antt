@@ -1,5 +1,5 @@
 -- A walk along a chain passes over links that give nothing.
-use Prim.Native.Nat.{ℕ, _+_, _-_, _≤_, _<_, max}
+use Prim.Native.Nat.{ℕ, _+_, _-_, _≤_, _<_}
 use mathlib.Core.Path.{_≡_, ap, _∙_}
 use mathlib.Core.Logic.{_≢_}
 use mathlib.Core.List.{List}
@@ -11,7 +11,6 @@ use Rattle.folds.proofs.Laws.{sum-skip}
 use Rattle.sheet.specs.Sheet.{Sheet, taskCount, linkCount}
 use Rattle.chains.specs.Chains.{endBy, headAt, Chained}
 use Rattle.chains.specs.declared.End.{End}
-use Rattle.chains.proofs.Building.{head-place}
 
 -- the chains stand in other words as they did
 pub chained-frame : {e : End} {s : Sheet} {w w′ : List ℕ} → taskCount s ≤ 256 → linkCount s ≤ 1024 → ((i : ℕ) → headAt e ≤ i → i < headAt e + 1280 → getD w′ i 0 ≡ getD w i 0) → Chained e s w → Chained e s w′

@@ -1,7 +1,7 @@
 // The links out of each task and into each task, chained in rising number, so that a task's own links are walked without the others.
 ghost use mathlib.Core.Path.{_≡_};
-ghost use Prim.Native.Nat.{ℕ, _+_, _<_, _≤_};
-ghost use lib.ListN.{getD, length};
+ghost use Prim.Native.Nat.{_+_, _<_, _≤_};
+ghost use lib.ListN.{getD};
 ghost use Rattle.sheet.specs.Sheet.{taskCount, linkCount};
 ghost use Rattle.sheet.specs.Tables.{sheetIn, Loaded};
 ghost use Rattle.chains.specs.Frames.{Only};

@@ -11,7 +11,7 @@ use native.Mathlib.Decide.{decLt}
 use borrow.Author.Tests.{lt-ltb, le-ltb, eq-eqb, ne-eqb}
 use lib.ListN.{length, getD, drop}
 use lib.Dec.{ltb, eqb}
-use Rattle.folds.specs.Folds.{pick, first, greatest}
+use Rattle.folds.specs.Folds.{pick, greatest}
 use Rattle.folds.specs.Answers.{Answer, value, refused, unless, andThen}
 use Rattle.folds.proofs.Tests.{below-suc, not-value}
 use Rattle.folds.proofs.Laws.{none-first, greatest-cong}
@@ -22,7 +22,6 @@ use Rattle.bundle.specs.Counts.{commandCount}
 use Rattle.bundle.specs.Lies.{Laid}
 use Rattle.bundle.proofs.Lying.{lies-next, lies-none}
 use Rattle.bundle.proofs.Rounds.{read-formed}
-use Rattle.messages.specs.Counting.{whole, each}
 use Rattle.messages.specs.Messages.{at26, at27, at28, Published}
 use Rattle.messages.specs.Rules.{foundOf}
 use Rattle.messages.specs.Admitted.{fitting, messaging, admitted, admittedBytes, judgedOf, Known, JudgeIs}
@@ -31,7 +30,7 @@ use Rattle.messages.specs.declared.Found.the-variants.{At, Nothing}
 use Rattle.messages.specs.declared.Judged.{Judged}
 use Rattle.messages.specs.declared.Judged.the-variants.{Fit, Refused as Unfit}
 use Rattle.messages.proofs.Walking.{drop-short}
-use Rattle.messages.proofs.Ruled.{first-found}
+use Rattle.folds.proofs.Laws.{first-found}
 use Rattle.messages.proofs.Few.{few-of-read, commands-whole}
 use Rattle.messages.proofs.Admits.{admitted-published}
 use Rattle.machine.specs.Machine.{State, processorOf}

@@ -1,21 +1,21 @@
 -- Laws of running on.
-use Prim.Native.Nat.{ℕ, zero, suc, _+_, _*_, _-_, _<_, _≤_}
+use Prim.Native.Nat.{ℕ, suc, _+_, _*_, _-_, _<_, _≤_}
 use mathlib.Core.Path.{_≡_, refl, sym, ap, _∙_, subst}
 use mathlib.Core.Bool.{Bool, true, false, false≢true}
 use mathlib.Core.Option.{Option, none, some}
 use mathlib.Core.List.{List, [], _∷_, _++_}
 use native.Mathlib.Omega.{arith}
 use native.Mathlib.Decide.{decLt}
-use lib.ListN.{length, getD, set, length-set}
+use lib.ListN.{length, getD, length-set}
 use Rattle.folds.specs.Folds.{bit}
 use Rattle.sheet.specs.Sheet.{Sheet}
-use Rattle.bundle.specs.Bundle.{Bundle, Command, programmeCount}
+use Rattle.bundle.specs.Bundle.{Bundle, programmeCount}
 use Rattle.messages.specs.Counting.{each}
 use Rattle.messages.specs.Messages.{Published}
 use Rattle.machine.specs.Machine.{State, freshState, step, canStep}
-use Rattle.machine.specs.Runs.{Run, freshRun, choose, runFrom, runOf, left, settled}
+use Rattle.machine.specs.Runs.{Run, freshRun, runFrom, runOf, left, settled}
 use Rattle.state.specs.Keeps.{Keeps, StepIs, RunIs}
-use Rattle.machine.proofs.Steps.{Move, step-move, left-moved, step-below}
+use Rattle.machine.proofs.Steps.{step-move, left-moved, step-below}
 use Rattle.machine.proofs.Runs.{keeps}
 use Rattle.machine.proofs.Orders.{any-run}
 use Rattle.stepping.proofs.Lists.{from-then, run-none, run-more}

@@ -1,5 +1,4 @@
 // Runs the machine until nobody can step: each processor as far as it goes, in turn. Every order ends alike.
-ghost use mathlib.Core.Path.{_≡_};
 ghost use Rattle.checker.specs.Settling.{RoundIs, SettleIs};
 use crate::advancing::advance;
 

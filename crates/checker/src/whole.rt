@@ -1,5 +1,4 @@
 // 29, 30, and the whole of 21 to 30.
-ghost use mathlib.Core.Path.{_≡_};
 ghost use Prim.Native.Nat.{_≤_, _<_};
 ghost use lib.ListN.{length};
 ghost use Rattle.sheet.specs.Tables.{Loaded};

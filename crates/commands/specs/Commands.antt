@@ -4,7 +4,7 @@ use mathlib.Core.Bool.{Bool, true, false}
 use mathlib.Core.Option.{Option, none, some}
 use mathlib.Core.List.{List, [], _∷_}
 use lib.ListN.{length, drop}
-use Rattle.folds.specs.Answers.{Answer, value, refused}
+use Rattle.folds.specs.Answers.{Answer, refused}
 
 -- P is how far reading has come, K the kinds of command, A what is read
 pub record Format (P K A : Type 0) : Type 0 where

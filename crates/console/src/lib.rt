@@ -1,7 +1,7 @@
 // What the programs share: they read standard input into a lent buffer and print listings on standard output. A write that fails is named on
 // standard error, since a program has no exit status to say so; a read that fails is the caller's to name there.
 ghost use mathlib.Core.Path.{_≡_};
-ghost use Prim.Native.Nat.{ℕ, _≤_, _-_};
+ghost use Prim.Native.Nat.{_≤_, _-_};
 ghost use lib.ListN.{length};
 ghost use Rattle.console.specs.Pieces.{GotIs, InputIs, Whole, PutIs};
 use libc::STDIN_FILENO;

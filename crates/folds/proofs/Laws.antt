@@ -8,7 +8,7 @@ use mathlib.Core.Bool.{Bool, true, false, false≢true, true≢false}
 use mathlib.Core.Option.{Option, none, some}
 use mathlib.Core.Path.{_≡_, refl, sym, ap, ap₂, _∙_}
 use mathlib.Core.Logic.{_≢_, _⊎_, inl, inr, ⊎-elim}
-use Rattle.folds.specs.Folds.{pick, both, either, all, any, sum, greatest, first, keep}
+use Rattle.folds.specs.Folds.{both, either, all, any, sum, greatest, first, keep}
 use Rattle.folds.proofs.Tests.{below-suc, both-parts, either-part, part-either, either-none, not-some}
 
 -- some, and every
@@ -48,6 +48,11 @@ all-each (suc n) p e i h =
     let b = both-parts (all n p) (p n) e in
     ⊎-elim (λ l. all-each n p (b .0) i l) (λ q. ap p q ∙ b .1) (below-suc h)
 
+pub all-cong : (n : ℕ) (p q : ℕ → Bool) → ((i : ℕ) → i < n → p i ≡ q i) → all n p ≡ all n q
+unfolding all
+all-cong zero p q h = refl
+all-cong (suc n) p q h = ap₂ both (all-cong n p q (λ i l. h i (omega arith))) (h n (omega arith))
+
 pub each-all : (n : ℕ) (p : ℕ → Bool) → ((i : ℕ) → i < n → p i ≡ true) → all n p ≡ true
 unfolding all
 each-all zero p h = refl
@@ -61,13 +66,6 @@ all-not (suc n) p e = go (all n p) refl (all-not n p)
     go : (b : Bool) → all n p ≡ b → (all n p ≡ false → (i : ℕ) × (i < n) × (p i ≡ false)) → (i : ℕ) × (i < suc n) × (p i ≡ false)
     go true q r = (n, omega arith, rw q at e)
     go false q r = let m = r q in (m .0, omega arith, m .2)
-
-pub all-missed : (n : ℕ) (p : ℕ → Bool) (i : ℕ) → i < n → p i ≡ false → all n p ≡ false
-all-missed n p i h e = go (all n p) refl
-  where
-    go : (b : Bool) → all n p ≡ b → all n p ≡ false
-    go true q = absurd (true≢false (sym (all-each n p q i h) ∙ e))
-    go false q = q
 
 -- sums
 pub sum-cong : (n : ℕ) (f g : ℕ → ℕ) → ((j : ℕ) → j < n → f j ≡ g j) → sum n f ≡ sum n g
@@ -227,6 +225,14 @@ greatest-point (suc n) f g i x h e k = go (ℕ-discrete i n) (λ l. greatest-poi
         let a = ih (omega arith) in
         let b : g n ≡ f n = k n (omega arith) (λ q. p (sym q)) in
         omega arith
+
+-- a + d terms: the first a, and the d behind them
+pub greatest-split : (a d : ℕ) (f : ℕ → ℕ) → greatest (a + d) f ≡ max (greatest a f) (greatest d (λ i. f (a + i)))
+unfolding greatest
+greatest-split a zero f = let e : a + zero ≡ a = omega arith in ap (λ (k : ℕ). greatest k f) e ∙ omega arith
+greatest-split a (suc d) f =
+    let e : a + suc d ≡ suc (a + d) = omega arith in
+    ap (λ (k : ℕ). greatest k f) e ∙ omega (arith, greatest-split a d f)
 
 -- the terms from a up to b are 0
 pub greatest-skip : (f : ℕ → ℕ) (a d : ℕ) → ((i : ℕ) → a ≤ i → i < a + d → f i ≡ 0) → greatest (a + d) f ≡ greatest a f

@@ -30,10 +30,6 @@ both-parts false c e = absurd (false≢true e)
 pub parts-both : (a c : Bool) → a ≡ true → c ≡ true → both a c ≡ true
 parts-both a c e f = rw (e, f)
 
-pub both-true : (b : Bool) → both b true ≡ b
-both-true true = refl
-both-true false = refl
-
 pub both-false : (b : Bool) → both b false ≡ false
 both-false true = refl
 both-false false = refl

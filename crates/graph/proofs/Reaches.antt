@@ -9,7 +9,7 @@ use mathlib.Core.Path.{_≡_, refl, sym, ap, subst, _∙_}
 use mathlib.Core.Logic.{_≢_, _⊎_, inl, inr, ⊎-elim}
 use lib.Dec.{eqb}
 use borrow.Author.Tests.{eqb-true, eq-eqb}
-use Rattle.folds.specs.Folds.{bit, both, either, any, sum, first}
+use Rattle.folds.specs.Folds.{bit, both, either, sum, first}
 use Rattle.folds.proofs.Tests.{both-parts, parts-both, either-part, part-either}
 use Rattle.folds.proofs.Laws.{any-found, any-some, sum-le, sum-mono, sum-terms, first-some, first-none}
 use Rattle.sheet.specs.Sheet.{Sheet, taskCount, linkCount, sourceOf, targetOf}

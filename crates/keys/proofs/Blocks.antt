@@ -4,22 +4,13 @@ use mathlib.Core.Path.{_≡_, refl, ap, ap₂, sym, _∙_, subst}
 use mathlib.Core.Logic.{_≢_, ⊎-elim}
 use mathlib.Core.List.{List}
 use native.Mathlib.Omega.{arith}
-use native.Mathlib.Decide.{ℕ-discrete}
 use lib.ListN.{length, getD, set, length-set}
 use lib.Seq.{getD-set-same, getD-set-other, set-getD}
 use Rattle.folds.specs.Folds.{greatest}
 use Rattle.folds.proofs.Tests.{equal-or}
 use Rattle.folds.proofs.Loops.{greatest-zero}
-use Rattle.folds.proofs.Laws.{greatest-cong, greatest-is, greatest-some, term-le-greatest}
+use Rattle.folds.proofs.Laws.{greatest-cong, greatest-is, greatest-some, greatest-split, term-le-greatest}
 use Rattle.keys.specs.Keys.{keyBy, Blocked, Changed}
-
--- a + d terms: the first a, and the d behind them
-pub greatest-split : (a d : ℕ) (f : ℕ → ℕ) → greatest (a + d) f ≡ max (greatest a f) (greatest d (λ i. f (a + i)))
-unfolding greatest
-greatest-split a zero f = let e : a + zero ≡ a = omega arith in ap (λ (k : ℕ). greatest k f) e ∙ omega arith
-greatest-split a (suc d) f =
-    let e : a + suc d ≡ suc (a + d) = omega arith in
-    ap (λ (k : ℕ). greatest k f) e ∙ omega (arith, greatest-split a d f)
 
 one-more : (n : ℕ) (f : ℕ → ℕ) → greatest (suc n) f ≡ max (greatest n f) (f n)
 unfolding greatest

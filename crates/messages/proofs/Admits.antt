@@ -1,16 +1,16 @@
 -- 21 to 28 strung together.
-use Prim.Native.Nat.{ℕ, suc, _+_, _*_, _<_, _≤_}
+use Prim.Native.Nat.{ℕ, _+_, _*_, _≤_}
 use mathlib.Core.Path.{_≡_, refl, sym, ap, _∙_, subst}
-use mathlib.Core.Option.{Option, none, some}
+use mathlib.Core.Option.{Option, none}
 use mathlib.Core.List.{List}
 use native.Mathlib.Omega.{arith}
-use lib.ListN.{length, getD}
+use lib.ListN.{length}
 use Rattle.folds.specs.Answers.{Answer, value, refused, unless, andThen}
 use Rattle.folds.proofs.Tests.{unless-value, not-value}
 use Rattle.sheet.specs.Sheet.{Sheet, taskCount, linkCount}
 use Rattle.bundle.specs.Bundle.{Bundle, programmeCount}
 use Rattle.bundle.specs.Format.{readBundle}
-use Rattle.bundle.specs.Counts.{Sized, commandCount}
+use Rattle.bundle.specs.Counts.{Sized}
 use Rattle.bundle.specs.Fits.{Bytes}
 use Rattle.bundle.specs.Lies.{Laid}
 use Rattle.bundle_reader.specs.Answers.{readingOf}
@@ -20,7 +20,7 @@ use Rattle.bundle_reader.specs.declared.bytes.Reading.the-variants.{Read, Refus
 use Rattle.bundle.proofs.Rounds.{read-formed}
 use Rattle.bundle.proofs.Faults.{sheetBy, sized-by}
 use Rattle.messages.specs.Messages.{at26, at27, at28, Published}
-use Rattle.messages.specs.Notes.{Notes, Kept, NotesIs}
+use Rattle.messages.specs.Notes.{NotesIs}
 use Rattle.messages.specs.Rules.{foundOf, Given, OnceIs, MessageIs}
 use Rattle.messages.specs.Stores.{OverIs}
 use Rattle.messages.specs.Admitted.{fitting, messaging, admitted, admittedBytes, judgedOf, Known, Told, StoresIs, MessagesIs, RulesIs, JudgeIs}
@@ -29,7 +29,7 @@ use Rattle.messages.specs.declared.Found.the-variants.{At, Nothing}
 use Rattle.messages.specs.declared.Judged.{Judged}
 use Rattle.messages.specs.declared.Judged.the-variants.{Fit, Refused}
 use Rattle.messages.proofs.Walking.{laid-by}
-use Rattle.messages.proofs.Few.{never-over, few-of-read, short-of-read}
+use Rattle.messages.proofs.Few.{never-over, short-of-read}
 
 -- a bundle that was read has no more programmes than the sheet has processors
 pub read-few : {b : List ℕ} {p t l : ℕ} {v last : List ℕ} {r : Reading} → ReadIs b p t l v last r → (m c claim : ℕ) → r ≡ Read m c claim → m ≤ p

@@ -1,5 +1,5 @@
 -- 28: what a programme needs, added up along its bytes.
-use Prim.Native.Nat.{ℕ, zero, suc, _+_, _*_, _<_, _≤_, min}
+use Prim.Native.Nat.{ℕ, suc, _+_, _*_, _<_, _≤_, min}
 use mathlib.Core.Path.{_≡_, refl, sym, ap, _∙_, subst}
 use mathlib.Core.Bool.{false}
 use mathlib.Core.Logic.{⊎-elim}
@@ -7,7 +7,7 @@ use mathlib.Core.List.{List}
 use native.Mathlib.Omega.{arith}
 use native.Mathlib.Numerals.{add-one}
 use borrow.Author.Tests.{eq-eqb, ne-eqb, lt-ltb, le-ltb}
-use lib.ListN.{length, getD, drop, take}
+use lib.ListN.{getD, drop, take}
 use lib.Seq.{take-all}
 use lib.Dec.{eqb}
 use Rattle.folds.specs.Folds.{pick}
@@ -23,12 +23,11 @@ use Rattle.messages.specs.Messages.{overStore, at28}
 use Rattle.messages.specs.Fields.{Fields}
 use Rattle.messages.specs.Notes.{sizeAt}
 use Rattle.messages.specs.Stores.{runNeed, receiveNeed, needAt, NeedIs, OverIs}
-use Rattle.messages.specs.declared.Found.{Found}
 use Rattle.messages.specs.declared.Found.the-variants.{At, Nothing}
 use Rattle.messages.proofs.Weights.{weigh-take}
 use Rattle.messages.proofs.Walking.{drop-next, drop-short}
 use Rattle.messages.proofs.Noted.{stands-size}
-use Rattle.messages.proofs.Ruled.{first-found}
+use Rattle.folds.proofs.Laws.{first-found}
 
 stands-need : (s : Sheet) (sheet bundle : List ℕ) (n o : ℕ) (c : Command) → Stands (taskCount s) (linkCount s) bundle o c → Fields s sheet → taskCount s ≡ n → needAt sheet bundle n o ≡ need s c
 unfolding needAt runNeed receiveNeed

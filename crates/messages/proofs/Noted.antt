@@ -1,9 +1,9 @@
 -- The pass that notes a bundle's commands: one command more, the next programme, and its end.
 use Prim.Native.Nat.{ℕ, zero, suc, _+_, _*_, _-_, _%_, _<_, _≤_, min}
 use mathlib.Core.Path.{_≡_, refl, sym, ap, _∙_, subst}
-use mathlib.Core.Bool.{Bool, true, false}
+use mathlib.Core.Bool.{Bool}
 use mathlib.Core.Option.{some}
-use mathlib.Core.Logic.{_⊎_, inl, inr, ⊎-elim}
+use mathlib.Core.Logic.{_⊎_, ⊎-elim}
 use mathlib.Core.List.{List, [], _∷_}
 use native.Mathlib.Omega.{arith}
 use native.Mathlib.Numerals.{add-one}
@@ -20,7 +20,7 @@ use Rattle.bundle.specs.Bundle.{Command, run, send, receive, Bundle, programmeC
 use Rattle.bundle.specs.Format.{readBundle}
 use Rattle.bundle.specs.Fits.{Known}
 use Rattle.bundle.specs.Lies.{sizeOf, Stands, Lies}
-use Rattle.bundle.proofs.Lying.{size-some, lies-le, lies-next, lies-none}
+use Rattle.bundle.proofs.Lying.{lies-le, lies-next, lies-none}
 use Rattle.messages.specs.Counting.{is}
 use Rattle.messages.specs.Notes.{slotOf, sofar, rank, Noted, never, again, once, Notes, messageAt, slotAt, sizeAt, notedWords, Kept, BlankIs, NotesIs}
 use Rattle.messages.proofs.Weights.{is-refl}

@@ -1,7 +1,7 @@
 -- How many commands were met by a place: one more where a new one stands, so that places of commands that stand once keep their order.
 use Prim.Native.Nat.{ℕ, zero, suc, _+_, _-_, _≤_, _<_}
 use native.Mathlib.Omega.{arith}
-use native.Mathlib.Decide.{decLt, ℕ-discrete}
+use native.Mathlib.Decide.{decLt}
 use borrow.Author.Tests.{eqb-true, eq-eqb, ne-eqb, lt-ltb, le-ltb}
 use mathlib.Core.Bool.{Bool, true, false}
 use mathlib.Core.Option.{some}
@@ -11,7 +11,7 @@ use mathlib.Core.List.{List, [], _∷_}
 use lib.ListN.{length, take, getElem?}
 use lib.Seq.{take-all}
 use lib.Dec.{eqb, ltb}
-use Rattle.folds.specs.Folds.{pick, bit, sum}
+use Rattle.folds.specs.Folds.{bit, sum}
 use Rattle.folds.proofs.Laws.{sum-le, sum-mono, sum-point, sum-zeros}
 use Rattle.sheet.specs.Sheet.{Sheet, taskCount, linkCount}
 use Rattle.bundle.specs.Bundle.{Command, run, send, receive, Bundle, programmeCount, programmeOf}

@@ -1,9 +1,9 @@
 -- Bytes that are read as a bundle: its programmes stand one behind the other, each behind the command that opens it, up to the claim.
 use Prim.Native.Nat.{ℕ, suc, _+_, _-_, _≤_, _<_}
 use native.Mathlib.Omega.{arith}
-use mathlib.Core.Path.{_≡_, refl, sym, ap, _∙_}
+use mathlib.Core.Path.{_≡_, sym, ap, _∙_}
 use mathlib.Core.List.{List, [], _∷_, _++_, append-assoc}
-use lib.ListN.{length, getD, drop, length-drop, length-append}
+use lib.ListN.{length, getD, drop, length-drop}
 use lib.Seq.{getD-drop, drop-drop}
 use Rattle.folds.specs.Answers.{value}
 use Rattle.numbers.specs.Number.{numberAt, numberBytes}

@@ -2,40 +2,27 @@
 use Prim.Native.Nat.{ℕ, zero, suc, _+_, _*_, _/_, _<_, _≤_}
 use mathlib.Core.Path.{_≡_, refl, sym, ap, ap₂, _∙_, subst}
 use mathlib.Core.Bool.{Bool, true, false, not}
-use mathlib.Core.Option.{Option, none, some}
+use mathlib.Core.Option.{none}
 use mathlib.Core.Logic.{_⊎_, ⊎-elim}
 use mathlib.Core.List.{List}
 use native.Mathlib.Omega.{arith}
 use native.Mathlib.Numerals.{add-one}
-use borrow.Author.Tests.{eqb-true, eq-eqb, ne-eqb, lt-ltb, le-ltb, ltb-true, ltb-false, not-false}
+use borrow.Author.Tests.{eqb-true, eq-eqb, ne-eqb, lt-ltb, le-ltb, not-false}
 use lib.ListN.{getD}
 use lib.Dec.{eqb, ltb}
-use Rattle.folds.specs.Folds.{pick, both, first}
+use Rattle.folds.specs.Folds.{pick, both}
 use Rattle.folds.proofs.Tests.{below-suc}
-use Rattle.folds.proofs.Laws.{first-none, none-first}
+use Rattle.folds.proofs.Laws.{first-none, none-first, first-found}
 use Rattle.sheet.specs.Sheet.{Sheet, taskCount, linkCount, sourceOf, targetOf}
 use Rattle.bundle.specs.Bundle.{Command, run, send, receive, Bundle, programmeCount, programmeOf}
 use Rattle.bundle.specs.Fits.{Known}
 use Rattle.messages.specs.Counting.{whole, is}
-use Rattle.messages.specs.Messages.{notOnce, home, before, insideOk, acrossOk, linkOk, wrongMessage, at26, at27}
-use Rattle.messages.specs.Notes.{slotOf, sofar, rank, Noted, never, again, once, Notes, ahead, insideBy, acrossBy}
-use Rattle.messages.specs.Rules.{foundOf, Given, OnceIs, LinkIs, MessageIs}
-use Rattle.messages.specs.declared.Found.{Found}
+use Rattle.messages.specs.Messages.{notOnce, before, insideOk, acrossOk, linkOk, wrongMessage, at26, at27}
+use Rattle.messages.specs.Notes.{slotOf, sofar, Noted, never, again, once, Notes, ahead, insideBy, acrossBy}
+use Rattle.messages.specs.Rules.{Given, OnceIs, LinkIs, MessageIs}
 use Rattle.messages.specs.declared.Found.the-variants.{At, Nothing}
 use Rattle.messages.proofs.Ranks.{sofar-whole}
-use Rattle.messages.proofs.Places.{Placed, placed-home, ahead-order, same-programme, before-first, before-second}
-
--- the least of those below n that has p
-pub first-found : (n : ℕ) (p : ℕ → Bool) (i : ℕ) → ((j : ℕ) → j < i → p j ≡ false) → p i ≡ true → i < n → first n p ≡ some i
-unfolding first
-first-found zero p i h e l = absurd (omega arith)
-first-found (suc n) p i h e l =
-    ⊎-elim (λ (q : i < n). rw (first-found n p i h e q))
-    (λ (q : i ≡ n).
-    let z : first n p ≡ none = none-first n p (λ j k. h j (omega arith)) in
-    let g : p n ≡ true = ap p (sym q) ∙ e in
-    rw (z, g, q))
-    (below-suc l)
+use Rattle.messages.proofs.Places.{Placed, placed-home, same-programme, before-first, before-second}
 
 -- notes of a whole bundle
 module _ (s : Sheet) (b : Bundle) (w : List ℕ) (count : ℕ) (h : Notes s b (programmeCount b) 0 count w) (c : Command) (k : Known s c) where

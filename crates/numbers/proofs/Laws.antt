@@ -5,7 +5,7 @@ use mathlib.Core.List.{List, [], _∷_, _++_, append-assoc, append-nil}
 use native.Mathlib.Nat.{pow-suc, div-lt-iff-lt-mul, zero-add, add-suc, add-assoc}
 use native.Mathlib.Omega.{arith}
 use lib.ListN.{length, getD, set, take, drop, length-append, length-take, length-drop, drop-of-length-le}
-use lib.Seq.{getD-drop, getD-append-add, length-take-le, take-all, take-at, drop-append-add, drop-drop, drop-cons, sets-eq}
+use lib.Seq.{getD-drop, getD-append-add, take-all, take-at, drop-append-add, drop-drop, drop-cons, sets-eq}
 use native.Mathlib.Numerals.{add-one, add-two}
 use lib.Dec.{lit<}
 use borrow.Rule.Slice.PartMut.{midOf, postOf, putMid}
@@ -43,14 +43,6 @@ pub numberAt-append : (w : ℕ) (p b : List ℕ) (i : ℕ) → numberAt w (p ++ 
 unfolding numberAt
 numberAt-append zero p b i = refl
 numberAt-append (suc w) p b i = rw (getD-append-add, ← add-suc, numberAt-append w p b (suc i))
-
-pub numberAt-stored : (w n : ℕ) (b : List ℕ) (i : ℕ) → n < 256 ^ w → i ≤ length b → numberAt w (stored b i (numberBytes w n)) i ≡ n
-unfolding stored
-numberAt-stored w n b i h l =
-    let rest : List ℕ = drop (i + length (numberBytes w n)) b in
-    let e : length (take i b) + 0 ≡ i = omega (arith, length-take-le i b l) in
-    let at : numberAt w (take i b ++ (numberBytes w n ++ rest)) i ≡ n = rw e at (numberAt-append w (take i b) (numberBytes w n ++ rest) 0 ∙ number-of-bytes w n rest h) in
-    rw append-assoc at
 
 pub length-stored : (b : List ℕ) (i : ℕ) (v : List ℕ) → i + length v ≤ length b → length (stored b i v) ≡ length b
 unfolding stored

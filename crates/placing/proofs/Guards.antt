@@ -1,9 +1,9 @@
 -- What the guard bars: before its arrival the first partly ready task u can start only where its latest message comes from, so that only
 -- there its best start can rise.
-use Prim.Native.Nat.{ℕ, zero, suc, _+_, _*_, _≤_, _<_, max}
-use mathlib.Core.Path.{_≡_, refl, ap, sym, _∙_, subst}
+use Prim.Native.Nat.{ℕ, zero, suc, _+_, _≤_, _<_, max}
+use mathlib.Core.Path.{_≡_, refl, ap, sym, _∙_}
 use mathlib.Core.Logic.{_≢_, ⊎-elim}
-use mathlib.Core.Bool.{Bool, true, false, true≢false, false≢true}
+use mathlib.Core.Bool.{Bool, true, false, true≢false}
 use mathlib.Core.Option.{Option, none, some}
 use mathlib.Core.List.{List}
 use native.Mathlib.Omega.{arith}
@@ -11,7 +11,7 @@ use native.Mathlib.Decide.{decLt, ℕ-discrete}
 use borrow.Author.Tests.{lt-ltb, le-ltb, eq-eqb, ne-eqb, eqb-true}
 use lib.ListN.{getD}
 use lib.Dec.{eqb, ltb}
-use Rattle.folds.specs.Folds.{pick, both, any, greatest, prefer, leading, least}
+use Rattle.folds.specs.Folds.{pick, both, greatest, prefer, leading, least}
 use Rattle.folds.proofs.Tests.{below-suc, both-parts}
 use Rattle.folds.proofs.Laws.{any-found, greatest-some}
 use Rattle.sheet.specs.Sheet.{Sheet, taskCount, linkCount, workOf, sourceOf, targetOf}

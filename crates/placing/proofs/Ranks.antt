@@ -1,7 +1,7 @@
 -- The processor with the greatest key is the one that a placing step gives.
-use Prim.Native.Nat.{ℕ, zero, suc, _+_, _*_, _-_, _%_, _≤_, _<_}
+use Prim.Native.Nat.{ℕ, zero, suc, _-_, _%_, _≤_, _<_}
 use mathlib.Core.Bool.{Bool}
-use mathlib.Core.Option.{Option, none, some}
+use mathlib.Core.Option.{some}
 use mathlib.Core.Path.{_≡_, refl, ap, sym, _∙_}
 use native.Mathlib.Omega.{arith}
 use native.Mathlib.Decide.{decLt}
@@ -9,9 +9,6 @@ use borrow.Author.Tests.{lt-ltb, le-ltb}
 use lib.Dec.{ltb}
 use Rattle.folds.specs.Folds.{pick, greatest, leading, least}
 use Rattle.keys.proofs.Leading.{leader}
-use Rattle.readiness.specs.Found.{foundOf, Below}
-use Rattle.readiness.specs.declared.Found.{Found}
-use Rattle.readiness.specs.declared.Found.the-variants.{At, Nothing}
 use Rattle.placing.specs.Ranks.{lowKey, highKey, processorOf}
 
 processor-more : (x : ℕ) → 0 < x → processorOf x ≡ some (15 - x % 16)

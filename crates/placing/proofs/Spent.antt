@@ -8,8 +8,8 @@ use native.Mathlib.Omega.{arith}
 use native.Mathlib.Decide.{ℕ-discrete}
 use borrow.Author.Tests.{eq-eqb, ne-eqb, lt-ltb, eqb-true}
 use lib.ListN.{getD}
-use lib.Dec.{eqb, ltb}
-use Rattle.folds.specs.Folds.{pick, both, either, any, all, sum}
+use lib.Dec.{eqb}
+use Rattle.folds.specs.Folds.{pick, both, either, any, sum}
 use Rattle.folds.proofs.Tests.{both-parts}
 use Rattle.folds.proofs.Laws.{sum-zeros, sum-cong, sum-mono, sum-swap, all-eqb, none-any}
 use Rattle.sheet.specs.Sheet.{Sheet, taskCount, linkCount, sourceOf, targetOf}
@@ -19,7 +19,7 @@ use Rattle.planner.specs.Placing.{followsBy, follows, spentBy, spent}
 use Rattle.planner.proofs.Ready.{ready-free}
 use Rattle.schedule.specs.Layout.{scheduleIn}
 use Rattle.arrivals.proofs.Links.{few-counted}
-use Rattle.arrivals.specs.Kept.{countedBy, into, intoFrom, waits, oneBy, known, Closed, Counted, Caches}
+use Rattle.arrivals.specs.Kept.{countedBy, into, intoFrom, waits, oneBy, known, Closed, Counted}
 use Rattle.placing.specs.Choosing.{Single, Choosing, knownInto, dueBy, OnBoard}
 use Rattle.placing.specs.declared.Senders.{Senders}
 use Rattle.placing.specs.declared.Senders.the-variants.{One, All}

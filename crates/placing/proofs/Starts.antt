@@ -7,11 +7,11 @@ use mathlib.Core.List.{List}
 use native.Mathlib.Omega.{arith}
 use native.Mathlib.Decide.{decLt, ℕ-discrete}
 use borrow.Author.Tests.{eq-eqb, ne-eqb, lt-ltb, lt-leb, le-leb, eqb-true, ltb-false}
-use lib.ListN.{length, getD}
+use lib.ListN.{getD}
 use lib.Dec.{eqb, ltb, leb}
-use Rattle.folds.specs.Folds.{pick, both, any, sum, greatest}
+use Rattle.folds.specs.Folds.{pick, both, sum, greatest}
 use Rattle.folds.proofs.Laws.{any-ltb, sum-zeros, term-le-greatest, greatest-mono, greatest-le}
-use Rattle.sheet.specs.Sheet.{Sheet, taskCount, linkCount, sourceOf, targetOf, costOf, bytesOf, storeOf}
+use Rattle.sheet.specs.Sheet.{Sheet, taskCount, linkCount, sourceOf, targetOf, costOf, storeOf}
 use Rattle.sheet.specs.Tables.{sheetIn, Ranged}
 use Rattle.planner.specs.Schedule.{Schedule, put, placed, stands, placeOf, finishOf}
 use Rattle.planner.specs.Placing.{comes, endBy, endOf, startBy, startFrom, startOn, holdsBy, holdsPredecessor, fits, storeOn}

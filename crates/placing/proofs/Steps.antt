@@ -1,19 +1,16 @@
 -- What the greatest key of each placing step gives, and the steps one after the other.
-use Prim.Native.Nat.{ℕ, _+_, _<_, _≤_}
-use mathlib.Core.Path.{_≡_, refl, ap, ap₂, sym, _∙_}
+use Prim.Native.Nat.{ℕ, _<_, _≤_}
+use mathlib.Core.Path.{_≡_, ap, ap₂, sym, _∙_}
 use mathlib.Core.Bool.{Bool, true, false, not}
 use mathlib.Core.Option.{Option, none, some}
-use native.Mathlib.Omega.{arith}
-use borrow.Author.Tests.{lt-ltb, le-ltb, le-leb, lt-leb}
+use borrow.Author.Tests.{le-leb, lt-leb}
 use lib.Dec.{eqb, ltb, leb}
-use Rattle.folds.specs.Folds.{pick, both, greatest, leading, least, orElse}
+use Rattle.folds.specs.Folds.{pick, both, greatest}
 use Rattle.folds.proofs.Tests.{both-false}
 use Rattle.sheet.specs.Sheet.{Sheet}
 use Rattle.planner.specs.Schedule.{Schedule}
 use Rattle.planner.specs.Placing.{arrival, endOf, startOn, fits, holdsPredecessor, barred, spent}
 use Rattle.planner.specs.Planner.{mayJoin, join, mayTake, idle, another, lastResort, choice}
-use Rattle.readiness.specs.Found.{foundOf, Below}
-use Rattle.readiness.specs.declared.Found.{Found}
 use Rattle.placing.specs.Ranks.{lowKey, highKey, processorOf, joinKey, idleKey, lastKey}
 use Rattle.placing.specs.Guards.{Bars}
 use Rattle.placing.proofs.Ranks.{least-by-key, latest-by-key}

@@ -1,11 +1,11 @@
 // Where a task goes: starts, fits and the guard, and the four placing steps.
 ghost use mathlib.Core.Path.{_≡_};
 ghost use mathlib.Core.Option.{none};
-ghost use Prim.Native.Nat.{ℕ, _+_, _*_, _<_, _≤_, max};
+ghost use Prim.Native.Nat.{_+_, _*_, _<_, _≤_, max};
 ghost use lib.ListN.{getD};
 ghost use lib.Dec.{eqb};
 ghost use Rattle.folds.specs.Folds.{pick, both, sum};
-ghost use Rattle.sheet.specs.Sheet.{taskCount, linkCount, workOf};
+ghost use Rattle.sheet.specs.Sheet.{taskCount, linkCount};
 ghost use Rattle.sheet.specs.Tables.{sheetIn};
 ghost use Rattle.planner.specs.Placing.{arrival, endOf, startFrom, startOn, fits, holdsPredecessor, barred, spent};
 ghost use Rattle.planner.specs.Planner.{join, idle, another, lastResort, choice};

@@ -7,8 +7,7 @@ use native.Mathlib.Omega.{arith}
 use lib.ListN.{length}
 use lib.Dec.{ltb}
 use Rattle.folds.specs.Folds.{pick}
-use Rattle.folds.specs.Answers.{Answer, value, refused, andThen, fitting, written}
-use Rattle.bundle_writer.specs.Writes.{writtenOf}
+use Rattle.folds.specs.Answers.{Answer, value, refused, andThen, fitting}
 use Rattle.bundle_writer.specs.declared.writer.Judged.{Judged}
 use Rattle.bundle_writer.specs.declared.writer.Judged.the-variants as judged
 use Rattle.planner.specs.Planner.{plan}

@@ -1,7 +1,7 @@
 -- The task with the greatest key is the one that goes first.
 use Prim.Native.Nat.{ℕ, zero, suc, _+_, _*_, _-_, _%_, _≤_, _<_}
-use mathlib.Core.Bool.{Bool, true, false}
-use mathlib.Core.Option.{Option, none, some}
+use mathlib.Core.Bool.{Bool}
+use mathlib.Core.Option.{some}
 use mathlib.Core.Path.{_≡_, refl, ap, sym, _∙_}
 use mathlib.Core.List.{List}
 use native.Mathlib.Omega.{arith}
@@ -9,13 +9,13 @@ use native.Mathlib.Decide.{decLt, ℕ-discrete}
 use borrow.Author.Tests.{eq-eqb, ne-eqb, lt-ltb, le-ltb}
 use lib.Dec.{eqb, ltb}
 use lib.ListN.{getD}
-use Rattle.folds.specs.Folds.{pick, both, either, greatest, leading}
+use Rattle.folds.specs.Folds.{pick, greatest, leading}
 use Rattle.folds.proofs.Tests.{pick-le}
 use Rattle.folds.proofs.Laws.{greatest-le, greatest-cong, greatest-skip}
 use Rattle.keys.specs.Keys.{keyBy}
 use Rattle.keys.proofs.Blocks.{most-of-half}
 use Rattle.keys.proofs.Leading.{leader}
-use Rattle.sheet.specs.Sheet.{Sheet, taskCount, linkCount, workOf, sourceOf, targetOf, costOf}
+use Rattle.sheet.specs.Sheet.{Sheet, taskCount, linkCount, sourceOf, targetOf, costOf}
 use Rattle.sheet.specs.Tables.{Ranged}
 use Rattle.graph.specs.Graph.{levelBy, levelWithin, level}
 use Rattle.planner.specs.Schedule.{Schedule, finishOf}

@@ -1,7 +1,7 @@
 -- The table of keys, when the keys of one task are renewed, and along the links of a task that was placed.
-use Prim.Native.Nat.{ℕ, zero, suc, _+_, _*_, _≤_, _<_}
-use mathlib.Core.Bool.{Bool, true, false, not}
-use mathlib.Core.Path.{_≡_, refl, ap, ap₂, sym, _∙_, subst}
+use Prim.Native.Nat.{ℕ, _+_, _*_, _≤_, _<_}
+use mathlib.Core.Bool.{Bool, not}
+use mathlib.Core.Path.{_≡_, ap, ap₂, sym, _∙_, subst}
 use mathlib.Core.Logic.{_≢_, ⊎-elim}
 use mathlib.Core.List.{List}
 use native.Mathlib.Omega.{arith}
@@ -9,11 +9,11 @@ use native.Mathlib.Decide.{ℕ-discrete, decLt}
 use borrow.Author.Tests.{ne-eqb}
 use lib.ListN.{getD, replicate, length-replicate}
 use lib.Dec.{eqb}
-use Rattle.folds.specs.Folds.{pick, both, either, all, greatest}
+use Rattle.folds.specs.Folds.{pick, both, either, greatest}
 use Rattle.folds.proofs.Tests.{equal-or}
 use Rattle.folds.proofs.Lists.{getD-replicate}
-use Rattle.folds.proofs.Laws.{greatest-le, greatest-cong, any-cong}
-use Rattle.keys.specs.Keys.{keyBy, Blocked, Changed}
+use Rattle.folds.proofs.Laws.{greatest-le, greatest-cong, any-cong, all-cong}
+use Rattle.keys.specs.Keys.{keyBy, Changed}
 use Rattle.sheet.specs.Sheet.{Sheet, taskCount, linkCount, sourceOf, targetOf, costOf}
 use Rattle.sheet.specs.Tables.{Ranged}
 use Rattle.planner.specs.Schedule.{Schedule, placed, finishOf, put}
@@ -23,11 +23,6 @@ use Rattle.chains.specs.declared.End.the-variants.{Source}
 use Rattle.arrivals.specs.Steps.{Placeable}
 use Rattle.arrivals.proofs.Placing as placing
 use Rattle.readiness.specs.Keyed.{keyOf, readyKey, partlyKey, Fresh, Blank, Renewed, Keyed, KeyedTo, Passed, KeyedPast, KeyedBeside}
-
-all-cong : (n : ℕ) (p q : ℕ → Bool) → ((i : ℕ) → i < n → p i ≡ q i) → all n p ≡ all n q
-unfolding all
-all-cong zero p q h = refl
-all-cong (suc n) p q h = ap₂ both (all-cong n p q (λ i l. h i (omega arith))) (h n (omega arith))
 
 pub ready-key : (s : Sheet) (σ : Schedule) (t : ℕ) {r x : ℕ} {b : Bool} → r ≡ pick b x 0 → b ≡ ready s σ t → x ≡ keyOf s σ t → r ≡ readyKey s σ t
 unfolding readyKey

@@ -12,7 +12,7 @@ ghost use Rattle.levelling.specs.Found.{Levelled};
 ghost use Rattle.schedule.specs.Layout.{scheduleIn};
 ghost use Rattle.arrivals.specs.Kept.{Kept};
 ghost use Rattle.readiness.specs.Found.{foundOf, Below};
-ghost use Rattle.readiness.specs.Keyed.{keyOf, taskOf, Early, Renewed, Keyed, KeyedTo, KeyedPast, KeyedBeside};
+ghost use Rattle.readiness.specs.Keyed.{keyOf, taskOf, Early, Renewed, Keyed, KeyedPast, KeyedBeside};
 use chains::End;
 use sheet::tables;
 

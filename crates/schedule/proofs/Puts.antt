@@ -1,6 +1,6 @@
 -- A task placed in the words is the task put in the schedule.
 use Prim.Native.Nat.{ℕ, suc, _+_, _≤_, _<_, max}
-use mathlib.Core.Path.{_≡_, refl, ap, ap₂, sym, _∙_}
+use mathlib.Core.Path.{_≡_, ap, ap₂, _∙_}
 use mathlib.Core.List.{List, [], _∷_, _++_}
 use mathlib.Core.Logic.{_≢_}
 use native.Mathlib.Omega.{arith}
@@ -11,7 +11,7 @@ use Rattle.workspace.specs.Area.{fixed}
 use Rattle.folds.specs.Folds.{listed}
 use Rattle.folds.proofs.Loops.{listed-one}
 use Rattle.folds.proofs.Lists.{listed-cong, set-listed}
-use Rattle.planner.specs.Schedule.{Schedule, put}
+use Rattle.planner.specs.Schedule.{put}
 use Rattle.schedule.specs.Layout.{scheduleIn, putWords}
 
 module _ (w : List ℕ) (t k a b p o : ℕ) (long : fixed ≤ length w) (t-small : t < 256) (p-small : p < 256) where

@@ -1,6 +1,6 @@
 -- What the words of the schedule say, and that words written elsewhere leave it as it was.
 use Prim.Native.Nat.{ℕ, _+_, _≤_, _<_}
-use mathlib.Core.Path.{_≡_, refl, ap, sym, _∙_}
+use mathlib.Core.Path.{_≡_, ap, sym, _∙_}
 use mathlib.Core.List.{List}
 use native.Mathlib.Omega.{arith}
 use lib.ListN.{length, getD}
@@ -9,8 +9,7 @@ use Rattle.folds.proofs.Lists.{length-listed, getD-listed, listed-cong}
 use Rattle.sheet.specs.Sheet.{Sheet, taskCount}
 use Rattle.sheet.specs.Tables.{sheetIn}
 use Rattle.sheet.proofs.Rows.{tasks-in}
-use Rattle.graph.specs.Graph.{level}
-use Rattle.planner.specs.Schedule.{Schedule, nowhere, placeOf, startOf, finishOf}
+use Rattle.planner.specs.Schedule.{nowhere, placeOf, startOf, finishOf}
 use Rattle.levelling.specs.Found.{Levelled}
 use Rattle.schedule.specs.Layout.{scheduleIn}
 

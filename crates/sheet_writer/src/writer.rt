@@ -1,8 +1,8 @@
 // Writes a sheet's bytes from its values. Each part is handed what is left of the output.
 ghost use mathlib.Core.Path.{_≡_};
-ghost use mathlib.Core.List.{[], _∷_, _++_};
+ghost use mathlib.Core.List.{_∷_, _++_};
 ghost use Prim.Native.Nat.{_+_, _*_, _/_, _%_, _≤_, _<_};
-ghost use lib.ListN.{length, getD};
+ghost use lib.ListN.{length};
 ghost use Rattle.numbers.specs.Number.{numberBytes, stored};
 ghost use Rattle.folds.specs.Folds.{listed};
 ghost use Rattle.sheet.specs.Writing.{boardBytes, taskBytes, linkBytes, taskValue, linkValue, valueBytes, Narrow};

@@ -1,27 +1,24 @@
 -- The fresh state in words.
-use Prim.Native.Nat.{ℕ, zero, suc, _+_, _*_, _%_, _<_, _≤_, min}
+use Prim.Native.Nat.{ℕ, suc, _+_, _%_, _<_, _≤_, min}
 use mathlib.Core.Path.{_≡_, refl, sym, ap, _∙_, subst}
-use mathlib.Core.Option.{Option, none, some, Option·none-ne-some}
+use mathlib.Core.Option.{Option, none, Option·none-ne-some}
 use mathlib.Core.Logic.{_⊎_, inl, inr, ⊎-elim}
-use mathlib.Core.List.{List, [], _∷_}
+use mathlib.Core.List.{List}
 use native.Mathlib.Omega.{arith}
 use native.Mathlib.Numerals.{add-one}
-use native.Mathlib.Decide.{decLt, ℕ-discrete}
+use native.Mathlib.Decide.{decLt}
 use lib.ListN.{length, getD, set, drop, length-set, length-replicate, List·getD-eq-default}
 use lib.Seq.{getD-set-same, getD-set-other}
 use Rattle.folds.proofs.Tests.{below-suc}
 use Rattle.folds.proofs.Lists.{getD-replicate}
-use Rattle.sheet.specs.Sheet.{Sheet, taskCount, linkCount}
-use Rattle.bundle.specs.Bundle.{Bundle, Command, programmeCount, programmeOf}
-use Rattle.bundle.specs.Lies.{Lies, Laid}
+use Rattle.sheet.specs.Sheet.{taskCount, linkCount}
+use Rattle.bundle.specs.Bundle.{programmeCount, programmeOf}
 use Rattle.bundle.proofs.Lying.{lies-le}
 use Rattle.messages.specs.Counting.{whole, each}
-use Rattle.messages.specs.Fields.{Fields}
 use Rattle.messages.proofs.Walking.{laid-by}
-use Rattle.machine.specs.Machine.{State, Processor, freshProcessor, freshState, processorOf, stampOf}
+use Rattle.machine.specs.Machine.{Processor, freshProcessor, freshState, processorOf, stampOf}
 use Rattle.machine.specs.Runs.{left}
 use Rattle.state.specs.Words.{stampIn}
-use Rattle.state.specs.Keeps.{Keeps}
 use Rattle.starting.specs.Starts.{WipeIs, FirstIs, StartIs, TakeIs}
 use Rattle.machine.proofs.Runs.{fresh-processor, fresh-left}
 

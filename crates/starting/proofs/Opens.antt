@@ -1,27 +1,24 @@
 -- Starting the machine on any bytes: 21 to 28, or the fresh state.
-use Prim.Native.Nat.{ℕ, _+_, _-_, _<_, _≤_}
+use Prim.Native.Nat.{ℕ, _-_, _<_, _≤_}
 use mathlib.Core.Path.{_≡_, refl, sym, ap, _∙_}
 use mathlib.Core.List.{List}
 use native.Mathlib.Omega.{arith}
 use lib.ListN.{length, getD}
 use borrow.Rule.Slice.PartMut.{midOf, putMid}
-use Rattle.folds.specs.Answers.{Answer, value, refused, andThen}
-use Rattle.folds.proofs.Tests.{andThen-value, not-value}
+use Rattle.folds.specs.Answers.{value}
+use Rattle.folds.proofs.Tests.{andThen-value}
 use Rattle.sheet.specs.Sheet.{Sheet, taskCount, linkCount}
 use Rattle.sheet.specs.Tables.{sheetIn, Loaded}
 use Rattle.bundle.specs.Bundle.{Bundle, programmeCount}
 use Rattle.bundle.specs.Format.{readBundle}
 use Rattle.bundle.specs.Counts.{commandCount}
 use Rattle.bundle.proofs.Rounds.{read-formed}
-use Rattle.messages.specs.Counting.{whole, each}
-use Rattle.messages.specs.Admitted.{admitted, admittedBytes, judgedOf, Known, JudgeIs}
+use Rattle.messages.specs.Admitted.{admitted, admittedBytes, judgedOf, JudgeIs}
 use Rattle.messages.specs.declared.Judged.{Judged}
 use Rattle.messages.specs.declared.Judged.the-variants.{Fit, Refused}
 use Rattle.messages.proofs.Few.{few-of-read, commands-whole}
 use Rattle.messages.proofs.Admits.{admitted-published}
 use Rattle.messages.proofs.Areas.{part-long, part-low, known-in}
-use Rattle.machine.specs.Machine.{freshState}
-use Rattle.state.specs.Keeps.{Keeps}
 use Rattle.starting.specs.Starts.{StartIs, AdmitIs, OpenIs}
 
 module _ (sheet bundle w u state : List ℕ) (p n l limit : ℕ) (f : Judged) (h : JudgeIs sheet bundle w u p n l limit f) where

@@ -1,5 +1,4 @@
 // The fresh state in lent words, for a bundle whose programmes' offsets are known.
-ghost use mathlib.Core.Path.{_≡_};
 ghost use Prim.Native.Nat.{_≤_, _<_};
 ghost use lib.ListN.{length};
 ghost use Rattle.sheet.specs.Tables.{Loaded};

@@ -5,8 +5,7 @@ use mathlib.Core.Bool.{Bool, false}
 use mathlib.Core.Option.{Option, none, some}
 use mathlib.Core.List.{List}
 use lib.ListN.{length, getD, drop}
-use Rattle.numbers.specs.Number.{numberAt}
-use Rattle.sheet.specs.Sheet.{Sheet, taskCount, linkCount, workOf, storeOf, costOf, bytesOf}
+use Rattle.sheet.specs.Sheet.{Sheet, taskCount, linkCount}
 use Rattle.bundle.specs.Bundle.{Bundle, programmeCount, programmeOf}
 use Rattle.bundle.specs.Lies.{Lies}
 use Rattle.messages.specs.Counting.{each}

@@ -1,6 +1,5 @@
 // A state of the machine in lent words, and what is asked of it. Every function is safe on any words; what it gives is promised for words that
 // keep a state.
-ghost use mathlib.Core.Path.{_≡_};
 ghost use Rattle.state.specs.Keeps.{LeftIs, ClockIs, PositionIs, StoreIs, StampIs};
 
 // The commands still to do.

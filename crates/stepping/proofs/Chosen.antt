@@ -2,8 +2,8 @@
 use Prim.Native.Nat.{ℕ, zero, suc, _+_, _*_, _-_, _%_, _<_, _≤_, max}
 use mathlib.Core.Path.{_≡_, refl, sym, ap, _∙_, subst}
 use mathlib.Core.Bool.{Bool, true, false, not, true≢false}
-use mathlib.Core.Option.{Option, none, some, Option·some-injective}
-use mathlib.Core.List.{List, [], _∷_}
+use mathlib.Core.Option.{none, some, Option·some-injective}
+use mathlib.Core.List.{List}
 use mathlib.Core.Logic.{⊎-elim}
 use native.Mathlib.Omega.{arith}
 use native.Mathlib.Numerals.{add-one}
@@ -18,10 +18,10 @@ use Rattle.sheet.specs.Sheet.{Sheet, taskCount, linkCount, workOf, storeOf, cos
 use Rattle.bundle.specs.Bundle.{Command, run, send, receive, Bundle, programmeCount, programmeOf}
 use Rattle.bundle.specs.Lies.{sizeOf, Lies}
 use Rattle.bundle.proofs.Lying.{lies-le}
-use Rattle.messages.specs.Counting.{each, need}
+use Rattle.messages.specs.Counting.{each}
 use Rattle.messages.proofs.Weights.{programme-or}
 use Rattle.messages.proofs.Walking.{stands-run, stands-send, stands-receive}
-use Rattle.machine.specs.Machine.{State, processorOf, stampOf, next, waits, takes, moved, step, canStep}
+use Rattle.machine.specs.Machine.{State, processorOf, stampOf, next, waits, moved, step, canStep}
 use Rattle.machine.specs.Runs.{left}
 use Rattle.state.specs.Words.{stampIn, movedWords, ranWords, sentWords, gotWords}
 use Rattle.state.specs.Keeps.{Keeps, chosen, StepIs}

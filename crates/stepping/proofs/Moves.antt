@@ -1,11 +1,11 @@
 -- Words that keep a state, after a move.
-use Prim.Native.Nat.{ℕ, zero, suc, _+_, _*_, _-_, _<_, _≤_, max}
-use mathlib.Core.Path.{_≡_, refl, sym, ap, _∙_, subst}
-use mathlib.Core.Option.{Option, none, some}
-use mathlib.Core.List.{List, [], _∷_}
+use Prim.Native.Nat.{ℕ, suc, _+_, _*_, _-_, _<_, _≤_, max}
+use mathlib.Core.Path.{_≡_, sym, _∙_, subst}
+use mathlib.Core.Option.{none, some}
+use mathlib.Core.List.{List}
 use native.Mathlib.Omega.{arith}
 use native.Mathlib.Decide.{ℕ-discrete}
-use lib.ListN.{length, getD, drop, set, length-set}
+use lib.ListN.{getD, drop, length-set}
 use Rattle.sheet.specs.Sheet.{Sheet, taskCount, linkCount}
 use Rattle.bundle.specs.Bundle.{Command, Bundle, programmeCount, programmeOf}
 use Rattle.bundle.specs.Lies.{sizeOf, Stands, Lies}
@@ -17,7 +17,7 @@ use Rattle.machine.specs.Runs.{left}
 use Rattle.state.specs.Words.{stampIn}
 use Rattle.state.specs.Keeps.{Keeps}
 use Rattle.machine.proofs.Steps.{other, self, left-moved, length-posted}
-use Rattle.stepping.proofs.Lows.{Away, Low}
+use Rattle.stepping.proofs.Lows.{Low}
 
 module _ (s : Sheet) (b : Bundle) (sheet bundle w : List ℕ) (σ : State) (h : Keeps s b sheet bundle w σ) (k : ℕ) where
   pub ended : k < programmeCount b → getD w (suc k) 0 ≤ getD w (32 + k) 0 → next b σ k ≡ none

@@ -10,7 +10,6 @@ use lib.Dec.{ltb}
 use Rattle.folds.specs.Folds.{pick}
 use Rattle.numbers.specs.Number.{numberAt}
 use Rattle.trials.specs.Records.{nameEnd, sheetEnd, recordAt}
-use Rattle.trials.specs.declared.Record.{Record}
 use Rattle.trials.specs.declared.Record.the-variants.{Whole, Cut}
 
 -- the parts of a whole record, one behind the other

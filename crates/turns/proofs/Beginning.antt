@@ -1,5 +1,5 @@
 -- Before the first turn: the schedule emptied (w₁), what is kept beside it cleared (w₂), chains out (w₃) and in (w₄), links gathered (w₅).
-use Prim.Native.Nat.{ℕ, _+_, _*_, _≤_, _<_}
+use Prim.Native.Nat.{ℕ, _≤_, _<_}
 use mathlib.Core.Path.{_≡_, refl, ap, ap₂, sym, _∙_, subst}
 use mathlib.Core.Bool.{true}
 use mathlib.Core.List.{List}

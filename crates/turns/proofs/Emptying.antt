@@ -1,6 +1,6 @@
 -- The words of the empty schedule.
 use Prim.Native.Nat.{ℕ, _+_, _≤_, _<_}
-use mathlib.Core.Path.{_≡_, refl, ap, sym, _∙_, subst}
+use mathlib.Core.Path.{_≡_, ap, sym, _∙_, subst}
 use mathlib.Core.Logic.{_≢_}
 use mathlib.Core.List.{List, []}
 use native.Mathlib.Omega.{arith}
@@ -16,7 +16,6 @@ use Rattle.sheet.specs.Tables.{sheetIn, Loaded}
 use Rattle.sheet.proofs.Rows.{tasks-in, ranged}
 use Rattle.planner.specs.Schedule.{empty}
 use Rattle.schedule.specs.Layout.{scheduleIn}
-use Rattle.chains.specs.Frames.{Only}
 use Rattle.chains.proofs.Frames.{only-none, only-set}
 use Rattle.turns.specs.Turns.{Cleared, Emptied}
 

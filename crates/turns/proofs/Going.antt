@@ -16,14 +16,14 @@ use Rattle.levelling.specs.Found.{Levelled}
 use Rattle.schedule.specs.Layout.{scheduleIn, putWords}
 use Rattle.schedule.proofs.Rows.{schedule-frame, levelled-frame}
 use Rattle.schedule.proofs.Puts.{put-low, put-high, put-long, put-placed, schedule-put}
-use Rattle.chains.specs.Chains.{headAt, Chained}
+use Rattle.chains.specs.Chains.{Chained}
 use Rattle.chains.specs.Frames.{Only}
 use Rattle.chains.specs.declared.End.{End}
 use Rattle.chains.specs.declared.End.the-variants.{Source, Target}
 use Rattle.chains.proofs.Frames.{same-sheet, same-loaded}
 use Rattle.chains.proofs.Building.{head-place}
 use Rattle.chains.proofs.Walks.{chained-frame}
-use Rattle.arrivals.specs.Kept.{known, Gathered, Counted, Ends, Caches, Kept}
+use Rattle.arrivals.specs.Kept.{known, Counted, Ends, Caches}
 use Rattle.arrivals.specs.Steps.{upTo, Beside, Placeable, Landed, Released, Enough}
 use Rattle.arrivals.proofs.Walks.{counted-frame, gathered-frame, ends-frame, beside-sheet, beside-loaded, beside-schedule}
 use Rattle.arrivals.proofs.Placing as placing

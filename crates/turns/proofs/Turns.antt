@@ -1,11 +1,10 @@
 -- What a turn answers, and the loop of turns.
-use Prim.Native.Nat.{ℕ, zero, suc, _+_, _-_, _≤_, _<_}
-use mathlib.Core.Path.{_≡_, refl, ap, sym, _∙_, subst}
-use mathlib.Core.Option.{Option, none, some}
-use mathlib.Core.Bool.{Bool, true, false}
+use Prim.Native.Nat.{ℕ, suc, _+_, _-_, _≤_, _<_}
+use mathlib.Core.Path.{_≡_, ap, sym, _∙_}
+use mathlib.Core.Option.{none, some}
+use mathlib.Core.Bool.{Bool, true}
 use mathlib.Core.List.{List}
 use native.Mathlib.Omega.{arith}
-use lib.ListN.{length}
 use Rattle.folds.specs.Answers.{Answer, value, refused, andThen}
 use Rattle.sheet.specs.Sheet.{Sheet, taskCount}
 use Rattle.sheet.specs.Tables.{sheetIn}
@@ -17,7 +16,7 @@ use Rattle.schedule.specs.Layout.{scheduleIn}
 use Rattle.turns.specs.Turns.{answerOf, Going}
 use Rattle.turns.specs.declared.Planned.{Planned}
 use Rattle.turns.specs.declared.Planned.the-variants.{Done, Refused}
-use Rattle.turns.proofs.Going.{own, after}
+use Rattle.turns.proofs.Going.{after}
 
 module _ (s : Sheet) (σ : Schedule) where
   abbrev guard : Schedule → ℕ → ℕ → Bool

@@ -4,7 +4,6 @@ use mathlib.Core.Path.{_≡_}
 use mathlib.Core.List.{List}
 use lib.ListN.{length, getD}
 use Rattle.folds.specs.Answers.{Answer, value, refused}
-use Rattle.sheet.specs.Sheet.{Sheet, taskCount}
 use Rattle.sheet.specs.Tables.{sheetIn, Loaded}
 use Rattle.planner.specs.Schedule.{Schedule, empty, finishOf}
 use Rattle.levelling.specs.Found.{Levelled}

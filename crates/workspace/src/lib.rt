@@ -1,6 +1,6 @@
 // The work area that a caller lends: words of 32 bits.
 ghost use mathlib.Core.Path.{_≡_};
-ghost use Prim.Native.Nat.{_<_, _%_};
+ghost use Prim.Native.Nat.{_<_};
 ghost use lib.ListN.{length, getD, replicate};
 ghost use Rattle.workspace.specs.Area.{fixed};
 

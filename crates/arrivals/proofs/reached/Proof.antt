@@ -1,6 +1,4 @@
-use mathlib.Core.Path.{_∙_, ap, sym}
-use lib.Dec.{ltb}
-use Rattle.folds.specs.Folds.{pick}
+use mathlib.Core.Path.{_∙_}
 use Rattle.arrivals.proofs.Choices.{further-is, other-is, three}
 use borrow.Author.Needs.{needs}
 use Rattle.arrivals.proofs.reached.Statement.{statement}

@@ -1,6 +1,5 @@
 -- `lines::list` meets its contract.
 use denote.Ref.{now}
-use native.Mathlib.Omega.{arith}
 use Rattle.levelling.proofs.Opens.{open-loaded, open-levelled}
 use Rattle.lines.proofs.Opened.{list-refused, list-read, open-single}
 use borrow.Author.Needs.{needs}

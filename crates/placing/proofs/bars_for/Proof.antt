@@ -1,6 +1,5 @@
 use mathlib.Core.Path.{ap₂}
 use Prim.Native.Nat.{_+_}
-use native.Mathlib.Omega.{arith}
 use denote.Ref.{now}
 use Rattle.placing.proofs.Guards.{bars-done, bars-here, bars-late, bars-never, main-of}
 use borrow.Author.Needs.{needs}

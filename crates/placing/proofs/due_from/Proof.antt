@@ -10,7 +10,6 @@ use Rattle.schedule.specs.Layout.{scheduleIn}
 use Rattle.sheet.specs.Tables.{sheetIn}
 use Rattle.folds.specs.Folds.{sum}
 use Rattle.folds.proofs.Loops.{sum-at}
-use borrow.Author.Needs.{needs}
 use Rattle.placing.proofs.due_from.Statement.{statement}
 use Rattle.placing.proofs.due_from.Tie as tie
 

@@ -1,9 +1,7 @@
 use Rattle.readiness.proofs.Renewing.{Walking, walk-begins, walk-more, walk-done}
-use Prim.Native.Nat.{_-_, _≤_, _<_}
-use mathlib.Core.Path.{_≡_}
+use Prim.Native.Nat.{_-_}
 use native.Mathlib.Omega.{arith}
 use Rattle.schedule.specs.Layout.{scheduleIn}
-use Rattle.sheet.specs.Sheet.{linkCount, sourceOf}
 use Rattle.sheet.specs.Tables.{sheetIn}
 use borrow.Author.Needs.{needs}
 use Rattle.readiness.proofs.renew_targets.Statement.{statement}
