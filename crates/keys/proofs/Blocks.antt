@@ -30,6 +30,12 @@ most-of-half {q} k a h =
     blocks 16 (λ i. getD q (256 * a + i) 0) (λ b. getD q (512 + 16 * a + b) 0)
     (λ b l. ap (λ (x : ℕ). getD q x 0) (omega arith) ∙ k .most (16 * a + b) (omega arith) ∙ greatest-cong 16 _ _ (λ i m. ap (λ (x : ℕ). getD q x 0) (omega arith)))
 
+-- sixteen keys in two halves
+pub two-halves : (q : List ℕ) (at : ℕ) → max (greatest 8 (keyBy q at)) (greatest 8 (keyBy q (at + 8))) ≡ greatest 16 (keyBy q at)
+unfolding keyBy
+two-halves q at =
+    sym (greatest-split 8 8 (keyBy q at) ∙ ap (max (greatest 8 (keyBy q at))) (greatest-cong 8 (λ i. keyBy q at (8 + i)) (keyBy q (at + 8)) (λ i h. ap (λ (x : ℕ). getD q x 0) (omega arith))))
+
 -- key i becomes x
 module _ {q : List ℕ} (k : Blocked q) (i x : ℕ) (h : i < 512) where
   block : List ℕ → ℕ

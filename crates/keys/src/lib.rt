@@ -12,18 +12,20 @@ fn greater(a: u64, b: u64) -> u64
     if a < b { b } else { a }
 }
 
-// The greatest of the sixteen from `at` on.
+// The greatest of the sixteen from `at` on, as the greater of two halves, so that neither waits for the other.
 pub fn greatest_of(q: &[u64], at: usize) -> u64
     requires { ⌜ at + 16 ≤ length (now q) ⌝ }
     ensures { λ r. ⌜ r ≡ greatest 16 (keyBy (now (q .entry)) at) ⌝ }
 {
-    let mut best: u64 = 0;
+    let mut low: u64 = 0;
+    let mut high: u64 = 0;
     let mut i: usize = 0;
-    while i < 16 {
-        best = greater(best, q[at + i]);
+    while i < 8 {
+        low = greater(low, q[at + i]);
+        high = greater(high, q[at + 8 + i]);
         i += 1;
     }
-    best
+    greater(low, high)
 }
 
 // Key i becomes x. Its block is searched anew only where its greatest may have left it.

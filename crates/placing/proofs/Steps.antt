@@ -1,18 +1,28 @@
 -- What the greatest key of each placing step gives, and the steps one after the other.
-use Prim.Native.Nat.{ℕ, _<_, _≤_}
-use mathlib.Core.Path.{_≡_, ap, ap₂, sym, _∙_}
-use mathlib.Core.Bool.{Bool, true, false, not}
+use Prim.Native.Nat.{ℕ, _+_, _<_, _≤_}
+use mathlib.Core.Path.{_≡_, refl, ap, ap₂, sym, _∙_}
+use mathlib.Core.Bool.{Bool, true, false, not, true≢false}
+use mathlib.Core.List.{List}
+use native.Mathlib.Omega.{arith}
+use native.Mathlib.Decide.{decLt}
+use lib.ListN.{getD}
 use mathlib.Core.Option.{Option, none, some}
 use borrow.Author.Tests.{le-leb, lt-leb}
 use lib.Dec.{eqb, ltb, leb}
-use Rattle.folds.specs.Folds.{pick, both, greatest}
-use Rattle.folds.proofs.Tests.{both-false}
-use Rattle.sheet.specs.Sheet.{Sheet}
+use Rattle.folds.specs.Folds.{pick, both, greatest, any, sum}
+use Rattle.folds.proofs.Tests.{both-false, parts-both}
+use Rattle.folds.proofs.Laws.{any-each, greatest-le}
+use Rattle.sheet.specs.Sheet.{Sheet, linkCount}
+use Rattle.sheet.specs.Tables.{sheetIn}
+use Rattle.schedule.specs.Layout.{scheduleIn}
 use Rattle.planner.specs.Schedule.{Schedule}
 use Rattle.planner.specs.Placing.{arrival, endOf, startOn, fits, holdsPredecessor, barred, spent}
 use Rattle.planner.specs.Planner.{mayJoin, join, mayTake, idle, another, lastResort, choice}
-use Rattle.placing.specs.Ranks.{lowKey, highKey, processorOf, joinKey, idleKey, lastKey}
+use Rattle.placing.specs.Ranks.{lowKey, highKey, processorOf, joinKey, idleKey, lastKey, mayBeIdle}
 use Rattle.placing.specs.Guards.{Bars}
+use Rattle.placing.specs.Choosing.{Choosing, dueBy}
+use Rattle.placing.specs.declared.Senders.the-variants.{All}
+use Rattle.placing.proofs.Spent.{spent-more}
 use Rattle.placing.proofs.Ranks.{least-by-key, latest-by-key}
 
 module _ (s : Sheet) (σ : Schedule) (t : ℕ) where
@@ -80,3 +90,24 @@ module _ (s : Sheet) (σ : Schedule) (t : ℕ) where
   pub choice-last : {o : Option ℕ} → none ≡ join s guard σ t → none ≡ idle s guard σ t → none ≡ another s guard σ t → o ≡ lastResort s guard σ t → o ≡ choice s guard σ t
   unfolding choice
   choice-last a b d e = rw (← a, ← b, ← d) e
+
+-- where no processor may be idle, step 2 gives none
+module _ (w : List ℕ) (t : ℕ) (c : Choosing w t) {a d : ℕ} (ea : a ≡ arrival (sheetIn w) (scheduleIn w) t) (ed : d ≡ sum (linkCount (sheetIn w)) (dueBy (sheetIn w) (scheduleIn w) t All)) where
+  no-key : (k : ℕ) → k < 16 → mayBeIdle w a d k ≡ false → idleKey (sheetIn w) (scheduleIn w) t k ≡ 0
+  unfolding mayBeIdle
+  no-key k h e = go (decLt d (getD w (13360 + k) 0)) (decLt a (getD w (13328 + k) 0))
+    where
+      go : Dec (d < getD w (13360 + k) 0) → Dec (a < getD w (13328 + k) 0) → idleKey (sheetIn w) (scheduleIn w) t k ≡ 0
+      go (yes l) b = sym (idle-waits (sheetIn w) (scheduleIn w) t k (sym (spent-more w t k c h refl ed l)))
+      go (no l) (yes b) = sym (idle-late (sheetIn w) (scheduleIn w) t k (c .kept .caches .ends .ends k h) ea b)
+      go (no l) (no b) = absurd (true≢false (sym (parts-both (leb (getD w (13328 + k) 0) a) (leb (getD w (13360 + k) 0) d) (le-leb (getD w (13328 + k) 0) a (omega arith)) (le-leb (getD w (13360 + k) 0) d (omega arith))) ∙ e))
+
+  pub none-idle : {n : ℕ} → n ≡ scheduleIn w .opened → any n (mayBeIdle w a d) ≡ false → none ≡ idle (sheetIn w) (barred (sheetIn w)) (scheduleIn w) t
+  none-idle {n} en e =
+      let few = c .kept .few-opened in
+      idle-is (sheetIn w) (scheduleIn w) t few {g = 0}
+      (omega (
+        arith,
+        greatest-le (scheduleIn w .opened) (idleKey (sheetIn w) (scheduleIn w) t) 0
+            (λ k h. omega (arith, no-key k (omega arith) (any-each n (mayBeIdle w a d) e k (omega arith)))),
+      ))

@@ -1,7 +1,11 @@
 -- A processor's key in a placing step says in one number how good it is: by its value, then by the lower number.
 use Prim.Native.Nat.{ℕ, zero, suc, _+_, _*_, _-_, _%_}
 use mathlib.Core.Option.{Option, none, some}
-use Rattle.folds.specs.Folds.{pick}
+use mathlib.Core.Bool.{Bool}
+use mathlib.Core.List.{List}
+use lib.ListN.{getD}
+use lib.Dec.{leb}
+use Rattle.folds.specs.Folds.{pick, both}
 use Rattle.sheet.specs.Sheet.{Sheet}
 use Rattle.planner.specs.Schedule.{Schedule}
 use Rattle.planner.specs.Placing.{endOf, startOn, fits, barred}
@@ -30,3 +34,7 @@ module _ (s : Sheet) (σ : Schedule) (t : ℕ) where
 
   unfoldable pub lastKey : ℕ → ℕ
   lastKey k = pick (fits s σ t k) (lowKey (startOn s σ t k) k) 0
+
+-- by its words in the area, k ends by a, and no more than d links from it wait
+unfoldable pub mayBeIdle : List ℕ → ℕ → ℕ → ℕ → Bool
+mayBeIdle w a d k = both (leb (getD w (13328 + k) 0) a) (leb (getD w (13360 + k) 0) d)

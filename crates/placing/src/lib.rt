@@ -2,9 +2,10 @@
 ghost use mathlib.Core.Path.{_≡_};
 ghost use mathlib.Core.Option.{none};
 ghost use Prim.Native.Nat.{_+_, _*_, _<_, _≤_, max};
-ghost use lib.ListN.{getD};
+ghost use lib.ListN.{getD, length};
 ghost use lib.Dec.{eqb};
-ghost use Rattle.folds.specs.Folds.{pick, both, sum};
+ghost use Rattle.folds.specs.Folds.{pick, both, either, any, sum};
+ghost use Rattle.workspace.specs.Area.{fixed};
 ghost use Rattle.sheet.specs.Sheet.{taskCount, linkCount};
 ghost use Rattle.sheet.specs.Tables.{sheetIn};
 ghost use Rattle.planner.specs.Placing.{arrival, endOf, startFrom, startOn, fits, holdsPredecessor, barred, spent};
@@ -14,7 +15,7 @@ ghost use Rattle.arrivals.specs.Kept.{Kept};
 ghost use Rattle.readiness.specs.Found.{foundOf, Below};
 ghost use Rattle.readiness.specs.Keyed.{Keyed};
 ghost use Rattle.placing.specs.Choosing.{Choosing, knownInto, dueBy, OnBoard};
-ghost use Rattle.placing.specs.Ranks.{lowKey, highKey, processorOf, joinKey, idleKey};
+ghost use Rattle.placing.specs.Ranks.{lowKey, highKey, processorOf, joinKey, idleKey, mayBeIdle};
 ghost use Rattle.placing.specs.Guards.{BarsFor, Bars};
 use chains::End;
 use readiness::Found;
@@ -35,11 +36,10 @@ fn reach_of(w: &[u32], t: usize, k: usize) -> usize
     requires { ⌜ t < taskCount (sheetIn (now w)) ⌝ }
     ensures { λ r. ⌜ (r ≡ pick (eqb k (getD (now (w .entry)) (13072 + t) 0)) (getD (now (w .entry)) (12816 + t) 0) (getD (now (w .entry)) (12560 + t) 0)) × (r < 4294967296) ⌝ }
 {
-    if k == workspace::word(w, 13072 + t) {
-        workspace::word(w, 12816 + t)
-    } else {
-        workspace::word(w, 12560 + t)
-    }
+    let at = workspace::word(w, 13072 + t);
+    let other = workspace::word(w, 12816 + t);
+    let most = workspace::word(w, 12560 + t);
+    if k == at { other } else { most }
 }
 
 // The start of t on k, if k ends at e.
@@ -256,14 +256,37 @@ fn idle_key(w: &[u32], t: usize, a: usize, d: usize, k: usize) -> usize
     0
 }
 
-// Step 2: idle.
-fn idle_on(w: &[u32], t: usize, a: usize) -> Found
+// One of the two holds; without a branch.
+fn is_either(a: bool, b: bool) -> bool
+    ensures { λ r. ⌜ r ≡ either a b ⌝ }
+{
+    if a { true } else { b }
+}
+
+// Some processor below n ends by a, and no more than d links from it wait: mostly none does, and then step 2 gives none.
+fn may_be_idle(w: &[u32], n: usize, a: usize, d: usize) -> bool
+    requires { ⌜ (fixed ≤ length (now w)) × (n ≤ 16) ⌝ }
+    ensures { λ r. ⌜ r ≡ any n (mayBeIdle (now (w .entry)) a d) ⌝ }
+{
+    let mut found = false;
+    let mut k: usize = 0;
+    while k < n {
+        let e = workspace::word(w, 13328 + k);
+        let p = workspace::word(w, 13360 + k);
+        found = is_either(found, are_both(e <= a, p <= d));
+        k += 1;
+    }
+    found
+}
+
+// Step 2 over all open processors; d is what is due from all of them.
+fn idle_among(w: &[u32], t: usize, a: usize, d: usize) -> Found
     requires { ⌜ Choosing (now w) t ⌝ }
     requires { ⌜ a ≡ arrival (sheetIn (now w)) (scheduleIn (now w)) t ⌝ }
+    requires { ⌜ d ≡ sum (linkCount (sheetIn (now w))) (dueBy (sheetIn (now w)) (scheduleIn (now w)) t Senders.All) ⌝ }
     ensures { λ r. ⌜ (foundOf r ≡ idle (sheetIn (now (w .entry))) (barred (sheetIn (now (w .entry)))) (scheduleIn (now (w .entry))) t) × Below 16 r ⌝ }
 {
     let n = schedule::opened(w);
-    let d = due_from(w, t, Senders::All);
     let mut best: usize = 0;
     let mut k: usize = 0;
     while k < n {
@@ -271,6 +294,19 @@ fn idle_on(w: &[u32], t: usize, a: usize) -> Found
         k += 1;
     }
     processor_of(best)
+}
+
+// Step 2: idle.
+fn idle_on(w: &[u32], t: usize, a: usize) -> Found
+    requires { ⌜ Choosing (now w) t ⌝ }
+    requires { ⌜ a ≡ arrival (sheetIn (now w)) (scheduleIn (now w)) t ⌝ }
+    ensures { λ r. ⌜ (foundOf r ≡ idle (sheetIn (now (w .entry))) (barred (sheetIn (now (w .entry)))) (scheduleIn (now (w .entry))) t) × Below 16 r ⌝ }
+{
+    let d = due_from(w, t, Senders::All);
+    if may_be_idle(w, schedule::opened(w), a, d) {
+        return idle_among(w, t, a, d);
+    }
+    Found::Nothing
 }
 
 // Step 3: the next processor.

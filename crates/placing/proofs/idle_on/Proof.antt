@@ -1,47 +1,20 @@
-use Prim.Native.Nat.{_-_, _≤_}
-use mathlib.Core.Path.{_≡_, _∙_, sym}
-use native.Mathlib.Omega.{arith}
-use Rattle.folds.specs.Folds.{greatest}
-use Rattle.folds.proofs.Loops.{greatest-at, greatest-more, greatest-zero}
-use Rattle.placing.specs.Ranks.{idleKey}
-use Rattle.placing.proofs.Steps.{idle-is}
-use Rattle.schedule.specs.Layout.{scheduleIn}
-use Rattle.sheet.specs.Tables.{sheetIn}
+use mathlib.Core.Path.{_∙_, sym}
+use denote.Ref.{now}
+use Rattle.placing.proofs.Steps.{none-idle}
 use borrow.Author.Needs.{needs}
 use Rattle.placing.proofs.idle_on.Statement.{statement}
 use Rattle.placing.proofs.idle_on.Tie as tie
 
-abbrev Inv-loop : tie.InvT-loop
-Inv-loop w t a n d best₀ k₀ best k = (k ≤ n) × (best ≡ greatest k (idleKey (sheetIn w) (scheduleIn w) t))
-
-abbrev μ-loop : tie.MeasureT-loop
-μ-loop w t a n d best₀ k₀ best k = n - k
-
-loop-holds : tie.Need-loop-holds Inv-loop μ-loop
-loop-holds c = (omega arith, sym (greatest-zero _))
-
-idle-key-requires : tie.Need-idle-key-requires Inv-loop μ-loop
-idle-key-requires c κs = let a = c .before .before .before .before .before in (a .pre .0, ((a .pre .1, omega (arith, c .loop-test .taken, c .before .before .before .opened .ensures .1)), c .before .before .due-from .ensures))
-
-loop-again : tie.Need-loop-again Inv-loop μ-loop
-loop-again c = (omega (arith, c .before .before .loop-test .taken), greatest-more _ _ (c .before .before .before .loop .inv .1) (c .before .idle-key .ensures) (c .later .ensures))
-
-returns : tie.Need-returns Inv-loop μ-loop
-returns c = let a = c .before .before .before .before .before .before in (c .processor-of .ensures .0 ∙ idle-is _ _ (a .args .t) (a .pre .0 .kept .few-opened) (greatest-at _ _ _ (c .before .before .loop .inv .1) (omega (arith, c .before .before .loop .inv .0, c .before .loop-test .left, c .before .before .before .before .opened .ensures .0))), c .processor-of .ensures .1)
+returns-2 : tie.Need-returns-2
+returns-2 c = let a = c .before .before .before .before .before in (none-idle (now (a .args .w)) (a .args .t) (a .pre .0) (a .pre .1) (c .before .before .before .due-from .ensures) (c .before .before .opened .ensures .0) (sym (c .before .may-be-idle .ensures) ∙ c .if1 .left), tt)
 
 pub idle-on-spec : {M : Type 1} → statement M
 idle-on-spec =
     tie.close
     (tie.spec
-    Inv-loop
-    μ-loop
     (λ c κs. search needs)
     (λ c κs. search needs)
-    loop-holds
-    idle-key-requires
+    (λ c κs. search needs)
     (λ c κs. search needs)
     (λ c. search needs)
-    (λ c. search needs)
-    loop-again
-    (λ c κs. search needs)
-    returns)
+    returns-2)

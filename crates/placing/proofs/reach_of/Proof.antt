@@ -4,10 +4,10 @@ use Rattle.placing.proofs.reach_of.Statement.{statement}
 use Rattle.placing.proofs.reach_of.Tie as tie
 
 returns : tie.Need-returns
-returns c = (simp (← c .before .before .word .ensures .0, eq-eqb _ _ (c .before .if1 .taken)) (c .word2 .ensures .0), c .word2 .ensures .1)
+returns c = (simp (← c .before .before .before .word .ensures .0, eq-eqb _ _ (c .if1 .taken)) (c .before .before .word2 .ensures .0), c .before .before .word2 .ensures .1)
 
 returns-2 : tie.Need-returns-2
-returns-2 c = (simp (← c .before .before .word .ensures .0, ne-eqb _ _ (c .before .if1 .left)) (c .word3 .ensures .0), c .word3 .ensures .1)
+returns-2 c = (simp (← c .before .before .before .word .ensures .0, ne-eqb _ _ (c .if1 .left)) (c .before .word3 .ensures .0), c .before .word3 .ensures .1)
 
 pub reach-of-spec : {M : Type 1} → statement M
 reach-of-spec =
