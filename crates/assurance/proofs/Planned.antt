@@ -128,7 +128,7 @@ module _ (s : Sheet) (proper : Proper s) (φ : Schedule) (b : Bundle) where
             rests = λ j h. ⊎-elim (λ q. rw q (r .1 .rests)) (λ d. rw (r .1 .others j d) (at .rests j h ∙ rw (ne-eqb (placeOf φ t) j (λ q. d (sym q ∙ home))))) (equal-or j k);
             clock =
                 λ j h. ⊎-elim (λ q. rw q (r .1 .clock ∙ sym (end-same s proper fair p)))
-                (λ d. rw (r .1 .others j d) (at .clock j h ∙ sym (end-other s proper fair p j (omega (arith, proper .board-few)) d))) (equal-or j k);
+                (λ d. rw (r .1 .others j d) (at .clock j h ∙ sym (end-other s proper fair p j (omega (arith, proper .form .board-few)) d))) (equal-or j k);
             stamp = stamped;
           },
         )
@@ -141,7 +141,7 @@ module _ (s : Sheet) (proper : Proper s) (φ : Schedule) (b : Bundle) where
       let f′ = fair-place s proper f p in
       let i = plan-of s proper f′ n in
       let home : placeOf φ t ≡ k = i .on t (placed-same s proper f p) ∙ on-same s proper f p in
-      let mine = i .fair .home t (rw home (lt-ltb k nowhere (omega (arith, p .room .board, proper .board-few)))) in
+      let mine = i .fair .home t (rw home (lt-ltb k nowhere (omega (arith, p .room .board, proper .form .board-few)))) in
       and-on (after-block f p at (i .fair .opened) (omega (arith, home, mine)) home (plan-of s proper f (placing p n) .on)) (λ o x. runs f′ n o x)
 
 module _ (s : Sheet) (proper : Proper s) {φ : Schedule} {ts : List ℕ} (how : Built s (empty s) φ ts) (complete : Whole s φ) where

@@ -69,7 +69,7 @@ plan-checked sheet out y e =
     let p = proper sheet s (r .1) in
     let a = plan-accepted s p (proper-sized sheet s (record { small = y }) (r .1)) (barred s) (q .0) (q .1) in
     let w : bundleBytes b ≡ out = cc (q .2) in
-    (b, check-is sheet out s b (r .1) (subst (λ o. readBundle s o ≡ value b) w (read-back s b (omega (arith, p .links)) (a .1))) ∙ a .0)
+    (b, check-is sheet out s b (r .1) (subst (λ o. readBundle s o ≡ value b) w (read-back s b (omega (arith, p .form .links)) (a .1))) ∙ a .0)
 
 -- what a call that returned 0 was answered
 check-value : (sheet bundle work work′ : List ℕ) (p : ℕ) → GivesCheck sheet bundle work work′ p 0 → (b : Bundle) × (check sheet bundle ≡ value b)

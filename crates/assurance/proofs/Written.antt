@@ -85,18 +85,18 @@ module _ (s : Sheet) (proper : Proper s) {φ : Schedule} {ts : List ℕ} (how : 
     to = placeOf φ tgt
 
     sent : (x : Bool) → stands φ tgt from ≡ x → whole b (is (send l)) ≡ bit (not x)
-    sent x e = whole-is (is (send l)) ∙ total-send s φ l h ts ∙ rw (e, once src (proper .source l h))
+    sent x e = whole-is (is (send l)) ∙ total-send s φ l h ts ∙ rw (e, once src (proper .form .source l h))
 
     got : (x : Bool) → stands φ src to ≡ x → whole b (is (receive l)) ≡ bit (not x)
-    got x e = whole-is (is (receive l)) ∙ total-receive s φ l h ts ∙ rw (e, once tgt (proper .target l h))
+    got x e = whole-is (is (receive l)) ∙ total-receive s φ l h ts ∙ rw (e, once tgt (proper .form .target l h))
 
     inside-ok : from ≡ to → insideOk s b l to ≡ true
     unfolding insideOk stands
     inside-ok q =
         parts-both (eqb (whole b (is (send l)) + whole b (is (receive l))) 0) _
         (eq-eqb (whole b (is (send l)) + whole b (is (receive l))) 0 (omega (arith, sent true (eq-eqb to from (sym q)), got true (eq-eqb from to q))))
-        (rw (programme-is to (at-home tgt (proper .target l h)))
-        (run-in-order s φ proper (empty-fair s proper) how l h (empty-free s proper src) (empty-free s proper tgt) (complete tgt (proper .target l h)) q))
+        (rw (programme-is to (at-home tgt (proper .form .target l h)))
+        (run-in-order s φ proper (empty-fair s proper) how l h (empty-free s proper src) (empty-free s proper tgt) (complete tgt (proper .form .target l h)) q))
 
     across-ok : from ≢ to → acrossOk s b l from to ≡ true
     unfolding acrossOk stands
@@ -106,12 +106,12 @@ module _ (s : Sheet) (proper : Proper s) {φ : Schedule} {ts : List ℕ} (how : 
         parts-both (eqb (whole b (is (send l))) 1) _ (eq-eqb _ 1 (sent false x))
         (parts-both (eqb (whole b (is (receive l))) 1) _ (eq-eqb _ 1 (got false y))
         (parts-both (before (run src) (send l) (programmeOf b from)) _
-        (rw (programme-is from (at-home src (proper .source l h))) (send-in-order s φ l h x ts (omega (arith, once src (proper .source l h)))))
-        (rw (programme-is to (at-home tgt (proper .target l h))) (receive-in-order s φ l h y ts (omega (arith, once tgt (proper .target l h)))))))
+        (rw (programme-is from (at-home src (proper .form .source l h))) (send-in-order s φ l h x ts (omega (arith, once src (proper .form .source l h)))))
+        (rw (programme-is to (at-home tgt (proper .form .target l h))) (receive-in-order s φ l h y ts (omega (arith, once tgt (proper .form .target l h)))))))
 
     link-ok : linkOk s b l (home b (run src)) (home b (run tgt)) ≡ true
     link-ok =
-        rw (home-of src (proper .source l h), home-of tgt (proper .target l h))
+        rw (home-of src (proper .form .source l h), home-of tgt (proper .form .target l h))
         (⊎-elim (λ q. rw (eq-eqb from to q) (inside-ok q)) (λ d. rw (ne-eqb from to d) (across-ok d)) (equal-or from to))
 
   pub published : Published s b
@@ -129,11 +129,11 @@ module _ (s : Sheet) (proper : Proper s) {φ : Schedule} {ts : List ℕ} (how : 
       omega (
         arith,
         sum-cong (taskCount s) (λ u. tally u ts * storeBy s φ k u) (storeBy s φ k) (λ u l. rw (once u l) (omega arith)),
-        sum-cong (linkCount s) (λ l. tally (targetOf s l) ts * bytesBy s φ k l) (bytesBy s φ k) (λ l m. rw (once (targetOf s l) (proper .target l m)) (omega arith)),
+        sum-cong (linkCount s) (λ l. tally (targetOf s l) ts * bytesBy s φ k l) (bytesBy s φ k) (λ l m. rw (once (targetOf s l) (proper .form .target l m)) (omega arith)),
       )
 
   pub few : φ .opened ≤ nowhere
-  few = omega (arith, proper .board-few, plan .fair .opened)
+  few = omega (arith, proper .form .board-few, plan .fair .opened)
 
   pub within : (k : ℕ) → wholeOf b (need s) k ≤ s .limit
   unfolding wholeOf weigh
@@ -171,7 +171,7 @@ module _ (s : Sheet) (proper : Proper s) {φ : Schedule} {ts : List ℕ} (how : 
       record {
         formed =
             record {
-              busy = omega (arith, programmes, plan .fair .home 0 (complete 0 (proper .some)));
+              busy = omega (arith, programmes, plan .fair .home 0 (complete 0 (proper .form .some)));
               few = omega (arith, programmes, plan .fair .opened);
               known = each-listed (Each (Known s)) (φ .opened) (programme s φ) (λ k h. subst (λ o. Each (Known s) (blocks s φ k o)) (sym (plan .order)) (known-blocks k ts (each-below how)));
             };

@@ -58,6 +58,9 @@ pick-le false x y b h k = k
 pub not-value : {A : Type 0} {B : Type 0} {n at : ℕ} {a : A} → _≡_ {A = Answer A} (refused n at) (value a) → B
 not-value e = let z : _≡_ {A = ℕ} 0 1 = cc in absurd (omega arith)
 
+pub value-same : {A : Type 0} {x y : A} → _≡_ {A = Answer A} (value x) (value y) → x ≡ y
+value-same h = cc
+
 pub not-some : {A : Type 0} {B : Type 0} {a : A} → _≡_ {A = Option A} none (some a) → B
 not-some e = let z : _≡_ {A = ℕ} 0 1 = cc in absurd (omega arith)
 

@@ -1,31 +1,23 @@
 -- What holds of a sheet that was read from bytes, and what levels and circles are for it, in plain words.
-use Prim.Native.Nat.{ℕ, _≤_, _<_}
+use Prim.Native.Nat.{ℕ, _<_}
 use native.Mathlib.Omega.{arith}
 use mathlib.Core.Option.{Option, none, some}
 use mathlib.Core.Path.{_≡_, refl, sym, ap, _∙_}
 use mathlib.Core.List.{List}
 use Rattle.folds.specs.Answers.{Answer, value, refused, unless, andThen}
-use Rattle.folds.proofs.Tests.{andThen-value, unless-value, not-value}
-use Rattle.sheet.specs.Sheet.{Sheet, taskCount, linkCount, workOf, sourceOf, targetOf}
+use Rattle.folds.proofs.Tests.{andThen-value, unless-value, not-value, value-same}
+use Rattle.sheet.specs.Sheet.{Sheet, taskCount}
 use Rattle.sheet.specs.Format.{readForm}
 use Rattle.graph.specs.Graph.{circle, level, readSheet}
 use Rattle.graph.specs.Paths.{LevelIs, LowestOnCircle}
 use Rattle.graph.proofs.Reaches.{Declared}
 use Rattle.graph.proofs.Plain.{level-plain, circle-lowest, lowest-circle}
 use Rattle.sheet.proofs.Numbers.{form-numbered}
-use Rattle.graph.proofs.Forms.{Bytes, Sized, form-read, form-sizes}
+use Rattle.graph.proofs.Forms.{Bytes, Formed, Sized, form-read, form-sizes}
 
 -- a sheet that `readSheet` gives; the widths of its numbers are in `Sized`, where its bytes are bytes
 pub record Proper (s : Sheet) : Type 0 where
-  pub some : 0 < taskCount s
-  pub tasks : taskCount s ≤ 256
-  pub links : linkCount s ≤ 1024
-  pub board-some : 1 ≤ s .processors
-  pub board-few : s .processors ≤ 16
-  pub works : (t : ℕ) → t < taskCount s → 1 ≤ workOf s t
-  pub source : (l : ℕ) → l < linkCount s → sourceOf s l < taskCount s
-  pub target : (l : ℕ) → l < linkCount s → targetOf s l < taskCount s
-  pub single : (i j : ℕ) → i < linkCount s → j < linkCount s → sourceOf s i ≡ sourceOf s j → targetOf s i ≡ targetOf s j → i ≡ j
+  pub form : Formed s
   pub free : circle s ≡ none
 
 pub read-form : (b : List ℕ) (s : Sheet) → readSheet b ≡ value s → (readForm b ≡ value s) × (circle s ≡ none)
@@ -33,34 +25,17 @@ unfolding readSheet
 read-form b s e =
     let m = andThen-value (readForm b) (λ s. unless 10 (circle s) (value s)) s e in
     let u = unless-value 10 (circle (m .0)) (value (m .0)) s (m .2) in
-    let q : m .0 ≡ s = same (u .1) in
+    let q : m .0 ≡ s = value-same (u .1) in
     (m .1 ∙ ap value q, ap circle (sym q) ∙ u .0)
-  where
-    same : {x y : Sheet} → _≡_ {A = Answer Sheet} (value x) (value y) → x ≡ y
-    same h = cc
 
 pub form-declared : (b : List ℕ) (s : Sheet) → readForm b ≡ value s → Declared s
 form-declared b s e = let f = form-read b s e in record { source = f .source; target = f .target }
 
 pub proper : (b : List ℕ) (s : Sheet) → readSheet b ≡ value s → Proper s
-proper b s e =
-    let q = read-form b s e in
-    let f = form-read b s (q .0) in
-    record {
-      some = f .some;
-      tasks = f .tasks;
-      links = f .links;
-      board-some = f .board-some;
-      board-few = f .board-few;
-      works = f .works;
-      source = f .source;
-      target = f .target;
-      single = f .single;
-      free = q .1;
-    }
+proper b s e = let q = read-form b s e in record { form = form-read b s (q .0); free = q .1 }
 
 pub proper-declared : {s : Sheet} → Proper s → Declared s
-proper-declared p = record { source = p .source; target = p .target }
+proper-declared p = record { source = p .form .source; target = p .form .target }
 
 pub proper-sized : (b : List ℕ) (s : Sheet) → Bytes b → readSheet b ≡ value s → Sized s
 proper-sized b s h e = form-sizes b s h (read-form b s e .0)

@@ -6,7 +6,7 @@ use mathlib.Core.List.{List}
 use native.Mathlib.Omega.{arith}
 use lib.ListN.{length, getD}
 use Rattle.folds.specs.Answers.{Answer, value, refused, unless, andThen}
-use Rattle.folds.proofs.Tests.{not-value}
+use Rattle.folds.proofs.Tests.{not-value, value-same}
 use Rattle.sheet.specs.Sheet.{Sheet}
 use Rattle.sheet.specs.Format.{readForm}
 use Rattle.sheet.specs.Tables.{sheetIn, Loaded}
@@ -19,9 +19,6 @@ use Rattle.levelling.specs.Found.{foundOf, Levelled, LevelsAre}
 use Rattle.levelling.specs.Opened.{OpenIs}
 use Rattle.levelling.specs.declared.Found.{Found}
 use Rattle.levelling.specs.declared.Found.the-variants.{At, Nothing}
-
-same : {s t : Sheet} → _≡_ {A = Answer Sheet} (value s) (value t) → s ≡ t
-same e = cc
 
 -- a refusal leaves nothing to say of the tables
 open-refused : (a : Answer Sheet) (w last : List ℕ) (r e : ℕ) → length last ≡ length w → a ≡ refused r e → OpenIs a w last (Refused r e)
@@ -48,8 +45,8 @@ module _ (w last : List ℕ) (f : Found) (l : Loaded w) (h : LevelsAre w last f)
         long = h .kept .long;
         answer = sym (ap readingOf a);
         loaded = λ s q. loaded-frame w last (h .kept .low) l (h .kept .long);
-        held = λ s q. sheet-frame w last (h .kept .low) (l .tasks) (l .links) ∙ same (sym a ∙ q);
-        levelled = λ s q. subst (λ (x : Sheet). Levelled x last) (same (sym a ∙ q)) (h .levels clear);
+        held = λ s q. sheet-frame w last (h .kept .low) (l .tasks) (l .links) ∙ value-same (sym a ∙ q);
+        levelled = λ s q. subst (λ (x : Sheet). Levelled x last) (value-same (sym a ∙ q)) (h .levels clear);
       }
 
 -- an answer that was read is a value, and one that was refused a refusal

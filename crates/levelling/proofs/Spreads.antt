@@ -27,7 +27,7 @@ use Rattle.graph.proofs.Reaches.{Declared, link-reaches, reaches-along, reaches
 use Rattle.peeling.proofs.Frames.{loaded-declared, beside-sheet, beside-held, beside-none, beside-trans, beside-chained, beside-set, beside-own, beside-from}
 use Rattle.peeling.proofs.Pushes.{queued-few, queued-room, queued-push, push-here, push-else, push-beside}
 use Rattle.peeling.proofs.Walks.{up-none, up-hop, up-end, up-same, up-late, up-else}
-use Rattle.peeling.proofs.Starts.{queued-none}
+use Rattle.peeling.proofs.Starts.{queued-none, done-none}
 use Rattle.peeling.proofs.Turns.{chain-here}
 
 -- a task is noted
@@ -214,10 +214,6 @@ emptied-more {w} t h d = record { at = λ u k. go u k (ℕ-discrete u t) }
 pub emptied-at : {n t : ℕ} {w : List ℕ} → Emptied t w → t ≡ n → Emptied n w
 emptied-at {n} {t} {w} d e = subst (λ (x : ℕ). Emptied x w) e d
 
-done-first : (s : Sheet) (w : List ℕ) (l : ℕ) → doneBy s 0 w l ≡ false
-unfolding doneBy
-done-first s w l = le-ltb (getD w (6672 + targetOf s l) 0) 0 (omega arith)
-
 pub search-starts : {s : Sheet} {goal : ℕ} {w w′ : List ℕ} → taskCount s ≤ 256 → fixed ≤ length w → goal < taskCount s → Emptied (taskCount s) w → w′ ≡ pushed w 0 goal → Beside w w′ × Searched s goal 0 1 w′
 search-starts {s} {goal} {w} {w′} few long g blank e =
     let q : Queued (taskCount s) 0 w = queued-none (blank .at) in
@@ -231,8 +227,8 @@ search-starts {s} {goal} {w} {w′} few long g blank e =
           queued = queued-push (taskCount s) 0 goal w few long g free q;
           goal-in = rw there (omega arith);
           sound = λ t h a d. absurd (omega (arith, else t d, blank .at t h));
-          closed = λ l h x. absurd (true≢false (sym x ∙ done-first s (pushed w 0 goal) l));
-          apart = λ l h x. absurd (true≢false (sym x ∙ done-first s (pushed w 0 goal) l));
+          closed = λ l h x. absurd (true≢false (sym x ∙ done-none s (pushed w 0 goal) l));
+          apart = λ l h x. absurd (true≢false (sym x ∙ done-none s (pushed w 0 goal) l));
         };
       },
     )

@@ -12,7 +12,7 @@ use Rattle.folds.specs.Answers.{value}
 use Rattle.sheet.specs.Format.{readForm}
 use Rattle.sheet.specs.Tables.{Ranged}
 use Rattle.sheet.specs.Writing.{boardBytes, taskBytes, linkBytes, sheetBytes}
-use Rattle.sheet.proofs.Rounds.{bytes-again, read-ranged}
+use Rattle.sheet.proofs.Rounds.{bytes-again, read-ranged, task-bytes-length}
 use Rattle.messages.specs.Fields.{Fields}
 
 -- a number behind some bytes, and one byte
@@ -32,10 +32,6 @@ taskFront t = 0x54 ∷ (numberBytes 2 (t .work) ++ numberBytes 2 (t .store))
 
 linkFront : Link → List ℕ
 linkFront l = 0x45 ∷ l .source ∷ l .target ∷ (numberBytes 2 (l .cost) ++ numberBytes 2 (l .bytes))
-
-length-tasks : (ts : List Task) → length (taskBytes ts) ≡ 5 * length ts
-length-tasks [] = refl
-length-tasks (t ∷ ts) = omega (arith, length-tasks ts)
 
 -- task t
 work-at : (ts : List Task) (r : List ℕ) (t : ℕ) → t < length ts → getD ts t noTask .work < 65536 → numberAt 2 (taskBytes ts ++ r) (1 + 5 * t) ≡ getD ts t noTask .work
@@ -90,13 +86,13 @@ module _ (s : Sheet) where
   past-tasks : (i j : ℕ) → j ≡ 6 + 5 * taskCount s + i → numberAt 2 (sheetBytes s) j ≡ numberAt 2 tail i
   unfolding taskCount
   past-tasks i j e =
-      past-board (length (taskBytes (s .tasks)) + i) j (omega (arith, length-tasks (s .tasks))) ∙
+      past-board (length (taskBytes (s .tasks)) + i) j (omega (arith, task-bytes-length (s .tasks))) ∙
       behind (taskBytes (s .tasks)) tail i (length (taskBytes (s .tasks)) + i) refl
 
   byte-past-tasks : (i j : ℕ) → j ≡ 6 + 5 * taskCount s + i → getD (sheetBytes s) j 0 ≡ getD tail i 0
   unfolding sheetBytes taskCount
   byte-past-tasks i j e =
-      byte-behind front (taskBytes (s .tasks) ++ tail) (length (taskBytes (s .tasks)) + i) j (omega (arith, length-tasks (s .tasks))) ∙
+      byte-behind front (taskBytes (s .tasks) ++ tail) (length (taskBytes (s .tasks)) + i) j (omega (arith, task-bytes-length (s .tasks))) ∙
       byte-behind (taskBytes (s .tasks)) tail i (length (taskBytes (s .tasks)) + i) refl
 
   pub written-fields : Ranged s → Fields s (sheetBytes s)

@@ -88,7 +88,7 @@ module _ (s : Sheet) (w : List ℕ) (l : ℕ) (declared : Declared s) (few : tas
           getD-set-other w (6160 + sourceOf s l) (6160 + t) e 0 (λ x. q (omega arith)) ∙ omega (arith, p .degree t k, sum-one l (dueBy s never t), due-other s never t l (λ x. q (sym x)))
 
 -- nothing is in the queue yet
-done-none : (s : Sheet) (w : List ℕ) (l : ℕ) → doneBy s 0 w l ≡ false
+pub done-none : (s : Sheet) (w : List ℕ) (l : ℕ) → doneBy s 0 w l ≡ false
 unfolding doneBy
 done-none s w l = le-ltb (getD w (6672 + targetOf s l) 0) 0 (omega arith)
 

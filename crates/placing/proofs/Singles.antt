@@ -9,4 +9,4 @@ use Rattle.graph.proofs.Proper.{proper}
 use Rattle.placing.specs.Choosing.{Single}
 
 pub read-single : (b : List ℕ) (s : Sheet) → readSheet b ≡ value s → Single s
-read-single b s e = record { once = proper b s e .single }
+read-single b s e = record { once = proper b s e .form .single }

@@ -82,8 +82,8 @@ module _ (s : Sheet) (proper : Proper s) where
   bound-le sized φ =
       omega (
         arith,
-        proper .tasks,
-        proper .links,
+        proper .form .tasks,
+        proper .form .links,
         sum-le (taskCount s) 65535 (workUpTo φ) (λ u l. pick-le (placed φ u) (workOf s u) 0 65535 (sized .works u l) (omega arith)),
         sum-le (linkCount s) 65535 (costUpTo φ) (λ l m. pick-le (placed φ (targetOf s l)) (costOf s l) 0 65535 (sized .costs l m) (omega arith)),
       )

@@ -91,7 +91,7 @@ module _ (s : Sheet) (proper : Proper s) {σ : Schedule} (fair : Fair s σ) {t k
 
   pub placed-same : placed (place s σ t k) t ≡ true
   unfolding placed
-  placed-same = rw on-same (lt-ltb k nowhere (omega (arith, p .room .board, proper .board-few)))
+  placed-same = rw on-same (lt-ltb k nowhere (omega (arith, p .room .board, proper .form .board-few)))
 
   pub placed-other : (u : ℕ) → u ≢ t → placed (place s σ t k) u ≡ placed σ u
   unfolding placed

@@ -58,7 +58,7 @@ module _ (s : Sheet) (proper : Proper s) {σ : Schedule} (fair : Fair s σ) {t k
     past : (l : ℕ) → l < linkCount s → (x : Bool) → stands σ (sourceOf s l) k ≡ x
         → max (endOf s σ k) (pick (not x) (messageAt s σ l) 0) ≡ max (endOf s σ k) (finishOf σ (sourceOf s l) + pick x 0 (costOf s l))
     unfolding endOf endBy
-    past l h true q = omega (arith, term-le-greatest (taskCount s) (endBy s σ k) (sourceOf s l) (proper .source l h), ap (λ x. pick x (finishOf σ (sourceOf s l)) 0) q)
+    past l h true q = omega (arith, term-le-greatest (taskCount s) (endBy s σ k) (sourceOf s l) (proper .form .source l h), ap (λ x. pick x (finishOf σ (sourceOf s l)) 0) q)
     past l h false q = refl
 
     pub starts : max (endOf s σ k) (greatest (linkCount s) (broughtBy s σ φ k t)) ≡ startOn s σ t k

@@ -1,5 +1,5 @@
 -- A sheet that is read: it has exactly the bytes that it was read from, and its numbers are as the reader asks.
-use Prim.Native.Nat.{ℕ, zero, suc, _+_, _<_, _≤_}
+use Prim.Native.Nat.{ℕ, zero, suc, _+_, _*_, _<_, _≤_}
 use mathlib.Core.Path.{_≡_, refl, sym, ap, ap₂, subst, _∙_}
 use mathlib.Core.Bool.{Bool, true, false, false≢true, true≢false}
 use mathlib.Core.Option.{Option, none, some}
@@ -26,6 +26,11 @@ use Rattle.sheet.specs.Writing.{boardBytes, taskBytes, linkBytes, sheetB
 use Rattle.sheet.specs.Tables.{Ranged}
 use Rattle.sheet.specs.Faults.{begun}
 use Rattle.sheet.proofs.Judging.{sound-of}
+
+-- a task has five bytes
+pub task-bytes-length : (ts : List Task) → length (taskBytes ts) ≡ 5 * length ts
+task-bytes-length [] = refl
+task-bytes-length (t ∷ ts) = omega (arith, task-bytes-length ts)
 
 -- what an accepted end says
 pub ended-value : (s t : Sheet) (e : ℕ) (d : List ℕ) → ended (begun s) e d ≡ value t → (d ≡ []) × (0 < taskCount s) × (s ≡ t)

@@ -26,13 +26,9 @@ use Rattle.sheet.specs.Format.{Kind, board, task, link, end, Progress, fresh, t
 use Rattle.sheet.specs.Writing.{boardBytes, taskBytes, linkBytes, sheetBytes, taskValue, linkValue, sheetOfValues, linkValueBytes, taskValueBytes, valueBytes, taskValues, linkValues}
 use Rattle.sheet.specs.Faults.{begun, taskFault, linkFault}
 use Rattle.sheet_reader.proofs.Given.{judge-task, judge-link, cut-task, cut-link, at-end, opening, taskTail, linkTail}
-use Rattle.sheet.proofs.Rounds.{ended-value, Proper, TaskFits, LinkFits, read-shaped, proper}
+use Rattle.sheet.proofs.Rounds.{task-bytes-length, ended-value, Proper, TaskFits, LinkFits, read-shaped, proper}
 
 -- lengths
-pub task-bytes-length : (ts : List Task) → length (taskBytes ts) ≡ 5 * length ts
-task-bytes-length [] = refl
-task-bytes-length (t ∷ ts) = omega (arith, task-bytes-length ts)
-
 pub link-bytes-length : (ls : List Link) → length (linkBytes ls) ≡ 7 * length ls
 link-bytes-length [] = refl
 link-bytes-length (l ∷ ls) = omega (arith, link-bytes-length ls)

@@ -13,7 +13,7 @@ use lib.Seq.{getD-drop, drop-drop, getD-set-same, getD-set-other}
 use lib.Dec.{eqb, ltb, leb}
 use Rattle.folds.specs.Folds.{pick, both, either, listed}
 use Rattle.folds.specs.Answers.{Answer, value, refused}
-use Rattle.folds.proofs.Tests.{equal-or, not-value, either-none, both-parts}
+use Rattle.folds.proofs.Tests.{equal-or, not-value, either-none, both-parts, value-same}
 use Rattle.folds.proofs.Loops.{listed-zero}
 use Rattle.numbers.specs.Number.{numberAt}
 use Rattle.numbers.proofs.Laws.{numberAt-drop, number-lt}
@@ -45,11 +45,8 @@ read-value a w last long l h =
       long = long;
       answer = sym (ap readingOf h);
       loaded = λ s q. l;
-      held = λ s q. same (sym h ∙ q);
+      held = λ s q. value-same (sym h ∙ q);
     }
-  where
-    same : {s t : Sheet} → _≡_ {A = Answer Sheet} (value s) (value t) → s ≡ t
-    same e = cc
 
 -- a task or a link comes
 pub task-comes : (o : Outcome Kind) → isTask o ≡ true → o ≡ go task
