@@ -1,4 +1,4 @@
--- Words written from 8192 on leave the sheet as it was.
+-- Words written behind the tables leave the sheet as it was.
 use Prim.Native.Nat.{ℕ, _≤_, _<_}
 use mathlib.Core.Path.{_≡_, refl, _∙_}
 use mathlib.Core.List.{List}
@@ -29,8 +29,8 @@ same-sheet w w′ h f = sheet-frame w w′ (λ i k. f i (omega arith)) (h .tasks
 pub same-loaded : (w w′ : List ℕ) → Loaded w → ((i : ℕ) → i < 8192 → getD w′ i 0 ≡ getD w i 0) → length w′ ≡ length w → Loaded w′
 same-loaded w w′ h f e = loaded-frame w w′ (λ i k. f i (omega arith)) h e
 
-pub only-sheet : {a b : ℕ} {w w′ : List ℕ} → 8192 ≤ a → Loaded w → Only a b w w′ → sheetIn w′ ≡ sheetIn w
-only-sheet {a} {b} {w} {w′} h l p = same-sheet w w′ l (λ i k. p .low i (omega arith))
+pub only-sheet : {a b : ℕ} {w w′ : List ℕ} → 4624 ≤ a → Loaded w → Only a b w w′ → sheetIn w′ ≡ sheetIn w
+only-sheet {a} {b} {w} {w′} h l p = sheet-frame w w′ (λ i k. p .low i (omega arith)) (l .tasks) (l .links)
 
-pub only-loaded : {a b : ℕ} {w w′ : List ℕ} → 8192 ≤ a → Loaded w → Only a b w w′ → Loaded w′
-only-loaded {a} {b} {w} {w′} h l p = same-loaded w w′ l (λ i k. p .low i (omega arith)) (p .long)
+pub only-loaded : {a b : ℕ} {w w′ : List ℕ} → 4624 ≤ a → Loaded w → Only a b w w′ → Loaded w′
+only-loaded {a} {b} {w} {w′} h l p = loaded-frame w w′ (λ i k. p .low i (omega arith)) l (p .long)

@@ -27,11 +27,11 @@ fn end_of(w: &[u32], e: End, l: usize) -> usize
 
 // Where the chains stand.
 fn heads(e: End) -> usize
-    ensures { λ r. ⌜ (r ≡ headAt e) × (9232 ≤ r) × (r ≤ 10512) ⌝ }
+    ensures { λ r. ⌜ (r ≡ headAt e) × (4880 ≤ r) × (r ≤ 9232) ⌝ }
 {
     match e {
         End::Source => 9232,
-        End::Target => 10512,
+        End::Target => 4880,
     }
 }
 

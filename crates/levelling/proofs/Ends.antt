@@ -15,14 +15,17 @@ use Rattle.folds.proofs.Laws.{sum-zeros, sum-mono}
 use Rattle.sheet.specs.Sheet.{Sheet, taskCount, linkCount, workOf, sourceOf, targetOf}
 use Rattle.sheet.specs.Tables.{sheetIn, Loaded}
 use Rattle.graph.specs.Graph.{circle, level}
-use Rattle.peeling.specs.Words.{Held, Kept, Beside, ChainedFrom, inQueue, doneBy}
+use Rattle.chains.specs.Frames.{Only}
+use Rattle.chains.specs.Chains.{Chained}
+use Rattle.chains.specs.declared.End.the-variants.{Target}
+use Rattle.peeling.specs.Words.{Held, Kept, Beside, inQueue, doneBy}
 use Rattle.peeling.specs.Peeling.{dueBy, levelIn, Peeled}
 use Rattle.levelling.specs.Found.{foundOf, Levelled, LevelsAre}
 use Rattle.levelling.specs.declared.Found.{Found}
 use Rattle.levelling.specs.declared.Found.the-variants.{At, Nothing}
 use Rattle.graph.proofs.Reaches.{Declared}
 use Rattle.graph.proofs.Ranks.{Ranked, Solved, ranked-none, rankOf, none-ranked, level-is}
-use Rattle.peeling.proofs.Frames.{held, kept-held, kept-sheet, kept-trans, beside-held, beside-own, loaded-declared, beside-chained}
+use Rattle.peeling.proofs.Frames.{held, only-kept, kept-held, kept-sheet, kept-trans, beside-held, beside-own, loaded-declared, beside-chained}
 use Rattle.peeling.proofs.Pushes.{in-queue, queued-all, queued-few}
 use Rattle.peeling.proofs.Lights.{due-lit, due-other}
 use Rattle.peeling.proofs.Turns.{chain-here}
@@ -46,9 +49,9 @@ module _ (s : Sheet) (k : ℕ) (w : List ℕ) (declared : Declared s) (p : Peele
   pub peeled-free : circle s ≡ none
   peeled-free = ranked-none s (λ t. getD w (6672 + t) 0) ranked
 
-  pub peeled-levels : Levelled s w
+  pub peeled-levels : Chained Target s w → Levelled s w
   unfolding levelIn
-  peeled-levels = record { levels = λ t h. sym (level-is s (λ u. getD w (6672 + u) 0) (levelIn w) (declared .target) ranked solved t h) }
+  peeled-levels inward = record { inward = inward; levels = λ t h. sym (level-is s (λ u. getD w (6672 + u) 0) (levelIn w) (declared .target) ranked solved t h) }
 
 sum-ones : (n : ℕ) → n ≤ sum n (λ t. 1)
 unfolding sum
@@ -82,28 +85,30 @@ module _ (s : Sheet) (k : ℕ) (w : List ℕ) (declared : Declared s) (p : Peele
       omega (arith, p .peel .queued .count, queued-few (p .peel .queued), sum-ones (taskCount s))
 
 -- the whole, from what its parts say
-pub peel-asks : {w w₁ : List ℕ} → Held w → Kept w w₁ × ChainedFrom (sheetIn w) 0 w₁ → Held w₁ × ChainedFrom (sheetIn w₁) 0 w₁
-peel-asks {w} {w₁} h d = (kept-held h (d .0), subst (λ (s : Sheet). ChainedFrom s 0 w₁) (sym (kept-sheet h (d .0))) (d .1))
+pub peel-asks : {w w₁ : List ℕ} → Held w → Only 4880 6160 w w₁ × Chained Target (sheetIn w) w₁ → Held w₁ × Chained Target (sheetIn w₁) w₁
+peel-asks {w} {w₁} h d = let k = only-kept (d .0) in (kept-held h k, subst (λ (s : Sheet). Chained Target s w₁) (sym (kept-sheet h k)) (d .1))
 
-pub find-goes : {w w₁ w₂ : List ℕ} → Held w → Kept w w₁ × ChainedFrom (sheetIn w) 0 w₁ → Beside w₁ w₂ → Held w₂ × ChainedFrom (sheetIn w₂) 0 w₂
+pub find-goes : {w w₁ w₂ : List ℕ} → Held w → Only 4880 6160 w w₁ × Chained Target (sheetIn w) w₁ → Beside w₁ w₂ → Held w₂ × Chained Target (sheetIn w₂) w₂
 find-goes {w} {w₁} {w₂} h d b =
     let q = peel-asks h d in
-    (beside-held (q .0) b, beside-own (λ (s : Sheet). ChainedFrom s 0 w₂) (q .0) b (chain-here (q .0) (q .1) b))
+    (beside-held (q .0) b, beside-own (λ (s : Sheet). Chained Target s w₂) (q .0) b (chain-here (q .0) (q .1) b))
 
-pub levels-free : {w w₁ w₂ : List ℕ} {k n : ℕ} → Held w → Kept w w₁ → Beside w₁ w₂ × Peeled (sheetIn w₁) k k 0 0 w₂ → n ≡ taskCount (sheetIn w₂) → k ≡ n → LevelsAre w w₂ Nothing
-levels-free {w} {w₁} {w₂} {k} {n} h b d e q =
+pub levels-free : {w w₁ w₂ : List ℕ} {k n : ℕ} → Held w → Only 4880 6160 w w₁ × Chained Target (sheetIn w) w₁ → Beside w₁ w₂ × Peeled (sheetIn w₁) k k 0 0 w₂ → n ≡ taskCount (sheetIn w₂) → k ≡ n → LevelsAre w w₂ Nothing
+levels-free {w} {w₁} {w₂} {k} {n} h c d e q =
+    let b : Kept w w₁ = only-kept (c .0) in
     let same : sheetIn w₁ ≡ sheetIn w = kept-sheet h b in
     let kept : Kept w w₂ = kept-trans b (d .0 .kept) in
     let p : Peeled (sheetIn w) k k 0 0 w₂ = subst (λ (s : Sheet). Peeled s k k 0 0 w₂) same (d .1) in
     let all : k ≡ taskCount (sheetIn w) = q ∙ e ∙ ap taskCount (kept-sheet h kept) in
     record {
       answer = sym (peeled-free (sheetIn w) k w₂ (loaded-declared (h .loaded)) p all);
-      levels = λ f. peeled-levels (sheetIn w) k w₂ (loaded-declared (h .loaded)) p all;
+      levels = λ f. peeled-levels (sheetIn w) k w₂ (loaded-declared (h .loaded)) p all (beside-chained (sheetIn w) w₁ w₂ (h .few-tasks) (h .few-links) (d .0) (c .1));
       kept = kept;
     }
 
-pub levels-found : {w w₁ w₂ w₃ : List ℕ} {k n : ℕ} {r : Found} → Held w → Kept w w₁ → Beside w₁ w₂ × Peeled (sheetIn w₁) k k 0 0 w₂ → n ≡ taskCount (sheetIn w₂) → (k ≡ n → ⊥) → Beside w₂ w₃ × (foundOf r ≡ circle (sheetIn w₂)) → LevelsAre w w₃ r
-levels-found {w} {w₁} {w₂} {w₃} {k} {n} {r} h b d e q t =
+pub levels-found : {w w₁ w₂ w₃ : List ℕ} {k n : ℕ} {r : Found} → Held w → Only 4880 6160 w w₁ → Beside w₁ w₂ × Peeled (sheetIn w₁) k k 0 0 w₂ → n ≡ taskCount (sheetIn w₂) → (k ≡ n → ⊥) → Beside w₂ w₃ × (foundOf r ≡ circle (sheetIn w₂)) → LevelsAre w w₃ r
+levels-found {w} {w₁} {w₂} {w₃} {k} {n} {r} h o d e q t =
+    let b : Kept w w₁ = only-kept o in
     let same : sheetIn w₁ ≡ sheetIn w = kept-sheet h b in
     let kept : Kept w w₂ = kept-trans b (d .0 .kept) in
     let same₂ : sheetIn w₂ ≡ sheetIn w = kept-sheet h kept in

@@ -18,7 +18,9 @@ use Rattle.folds.proofs.Loops.{first-passed, first-at}
 use Rattle.sheet.specs.Sheet.{Sheet, taskCount, linkCount, sourceOf, targetOf}
 use Rattle.sheet.specs.Tables.{sheetIn}
 use Rattle.graph.specs.Graph.{reaches, onCircle, circle}
-use Rattle.peeling.specs.Words.{Held, Beside, ChainedFrom, Queued, pushed, doneBy, doneUpTo}
+use Rattle.chains.specs.Chains.{Chained}
+use Rattle.chains.specs.declared.End.the-variants.{Target}
+use Rattle.peeling.specs.Words.{Held, Beside, Queued, pushed, doneBy, doneUpTo}
 use Rattle.peeling.specs.Peeling.{Emptied, Noted, Search, Searched, Spreading}
 use Rattle.levelling.specs.Found.{SpreadIs}
 use Rattle.levelling.specs.declared.search.Spread.{Spread}
@@ -141,13 +143,13 @@ pub record SpreadTo (w₀ : List ℕ) (goal v k l : ℕ) (w : List ℕ) : Type 0
   pub own : l < linkCount (sheetIn w₀) → targetOf (sheetIn w₀) l ≡ v
   pub spreading : Spreading (sheetIn w₀) goal (getD w₀ (6672 + v) 0) k l v w
 
-pub spread-starts : (w : List ℕ) (goal v k r : ℕ) → Held w → ChainedFrom (sheetIn w) 0 w → Spreading (sheetIn w) goal (getD w (6672 + v) 0) k 0 v w → r ≡ getD w (4880 + v) 0 → SpreadTo w goal v k r w
+pub spread-starts : (w : List ℕ) (goal v k r : ℕ) → Held w → Chained Target (sheetIn w) w → Spreading (sheetIn w) goal (getD w (6672 + v) 0) k 0 v w → r ≡ getD w (4880 + v) 0 → SpreadTo w goal v k r w
 spread-starts w goal v k r h d p e =
     record {
       beside = beside-none w;
       here = rw e (d .head-few v (p .task));
       own = λ g. ap (targetOf (sheetIn w)) e ∙ d .head-own v (p .task) (rw e at g);
-      spreading = spread-hop (sheetIn w) w goal (getD w (6672 + v) 0) k 0 r v p (omega arith) (λ l g a b. d .head-none v (p .task) l a (rw e at b));
+      spreading = spread-hop (sheetIn w) w goal (getD w (6672 + v) 0) k 0 r v p (omega arith) (λ l g a b. d .head-none v (p .task) l (rw e at b));
     }
 
 -- what a turn asks
@@ -162,26 +164,26 @@ pub spread-closes : {w₀ w : List ℕ} {goal v k l u : ℕ} → Held w₀ → S
 spread-closes {w₀} {w} {goal} {v} {k} {l} {u} h p g e q =
     spread-back (sheetIn w₀) (loaded-declared (h .loaded)) (h .few-tasks) goal (getD w₀ (6672 + v) 0) l v k w (p .spreading) g (p .own g) (ap (λ (s : Sheet). sourceOf s l) (sym (beside-sheet h (p .beside))) ∙ sym e ∙ q)
 
-pub spread-goes : {w₀ w w′ : List ℕ} {goal v k k′ l u r : ℕ} → Held w₀ → ChainedFrom (sheetIn w₀) 0 w₀ → SpreadTo w₀ goal v k l w → l < linkCount (sheetIn w₀) → u ≡ sourceOf (sheetIn w) l → (u ≡ goal → ⊥)
+pub spread-goes : {w₀ w w′ : List ℕ} {goal v k k′ l u r : ℕ} → Held w₀ → Chained Target (sheetIn w₀) w₀ → SpreadTo w₀ goal v k l w → l < linkCount (sheetIn w₀) → u ≡ sourceOf (sheetIn w) l → (u ≡ goal → ⊥)
     → Beside w w′ × Noted (taskCount (sheetIn w)) k u k′ w w′ → r ≡ getD w′ (5136 + l) 0 → SpreadTo w₀ goal v k′ r w′
 spread-goes {w₀} {w} {w′} {goal} {v} {k} {k′} {l} {u} {r} h d p g e o t q =
     let b : Beside w₀ w′ = beside-trans (p .beside) (t .0) in
-    let c : ChainedFrom (sheetIn w₀) 0 w′ = chain-here h d b in
+    let c : Chained Target (sheetIn w₀) w′ = chain-here h d b in
     let to = p .own g in
     let n : Noted (taskCount (sheetIn w₀)) k u k′ w w′ = beside-from (λ (s : Sheet). Noted (taskCount s) k u k′ w w′) h (p .beside) (t .1) in
     let m : Spreading (sheetIn w₀) goal (getD w₀ (6672 + v) 0) k′ (l + 1) v w′ =
     spread-turns (sheetIn w₀) (loaded-declared (h .loaded)) (h .few-tasks) goal (getD w₀ (6672 + v) 0) l v k w (p .spreading) g to w′ (e ∙ ap (λ (s : Sheet). sourceOf s l) (beside-sheet h (p .beside))) o n in
     record {
       beside = b;
-      here = rw q (c .next-few l (omega arith) g);
-      own = λ a. ap (targetOf (sheetIn w₀)) q ∙ c .next-own l (omega arith) g (rw q at a) ∙ to;
-      spreading = spread-hop (sheetIn w₀) w′ goal (getD w₀ (6672 + v) 0) k′ (l + 1) r v m (let x = c .next-more l (omega arith) g in omega arith) (λ j a x y z. c .next-none l (omega arith) g j (omega arith) (rw q at y) (z ∙ sym to));
+      here = rw q (c .next-few l g);
+      own = λ a. ap (targetOf (sheetIn w₀)) q ∙ c .next-own l g (rw q at a) ∙ to;
+      spreading = spread-hop (sheetIn w₀) w′ goal (getD w₀ (6672 + v) 0) k′ (l + 1) r v m (let x = c .next-more l g in omega arith) (λ j a x y z. c .next-none l g j (omega arith) (rw q at y) (z ∙ sym to));
     }
 
-pub spread-less : {w₀ w w′ : List ℕ} {goal v k l r : ℕ} → Held w₀ → ChainedFrom (sheetIn w₀) 0 w₀ → SpreadTo w₀ goal v k l w → l < linkCount (sheetIn w₀) → Beside w w′ → r ≡ getD w′ (5136 + l) 0 → l < r
+pub spread-less : {w₀ w w′ : List ℕ} {goal v k l r : ℕ} → Held w₀ → Chained Target (sheetIn w₀) w₀ → SpreadTo w₀ goal v k l w → l < linkCount (sheetIn w₀) → Beside w w′ → r ≡ getD w′ (5136 + l) 0 → l < r
 spread-less {w₀} {w} {w′} {goal} {v} {k} {l} {r} h d p g t e =
-    let c : ChainedFrom (sheetIn w₀) 0 w′ = chain-here h d (beside-trans (p .beside) t) in
-    let x = c .next-more l (omega arith) g in
+    let c : Chained Target (sheetIn w₀) w′ = chain-here h d (beside-trans (p .beside) t) in
+    let x = c .next-more l g in
     omega arith
 
 pub spread-ends : {w₀ w : List ℕ} {goal v k l : ℕ} → Held w₀ → SpreadTo w₀ goal v k l w → linkCount (sheetIn w₀) ≤ l → Searched (sheetIn w₀) goal (getD w₀ (6672 + v) 0 + 1) k w
@@ -277,9 +279,9 @@ goal-first {w} {w₁} {w₂} {goal} h g d e =
     let q = search-starts {s = sheetIn w} (h .few-tasks) (beside-held h (d .0) .long) g (d .1) e in
     (beside-trans (d .0) (q .0), q .1)
 
-pub goal-asks : {w w₂ : List ℕ} {goal : ℕ} → Held w → ChainedFrom (sheetIn w) 0 w → goal < taskCount (sheetIn w) → Beside w w₂ × Searched (sheetIn w) goal 0 1 w₂
-    → Held w₂ × (ChainedFrom (sheetIn w₂) 0 w₂ × ((goal < taskCount (sheetIn w₂)) × Searched (sheetIn w₂) goal 0 1 w₂))
-goal-asks {w} {w₂} {goal} h c g d = (beside-held h (d .0), beside-own (λ (s : Sheet). ChainedFrom s 0 w₂ × ((goal < taskCount s) × Searched s goal 0 1 w₂)) h (d .0) (chain-here h c (d .0), (g, d .1)))
+pub goal-asks : {w w₂ : List ℕ} {goal : ℕ} → Held w → Chained Target (sheetIn w) w → goal < taskCount (sheetIn w) → Beside w w₂ × Searched (sheetIn w) goal 0 1 w₂
+    → Held w₂ × (Chained Target (sheetIn w₂) w₂ × ((goal < taskCount (sheetIn w₂)) × Searched (sheetIn w₂) goal 0 1 w₂))
+goal-asks {w} {w₂} {goal} h c g d = (beside-held h (d .0), beside-own (λ (s : Sheet). Chained Target s w₂ × ((goal < taskCount s) × Searched s goal 0 1 w₂)) h (d .0) (chain-here h c (d .0), (g, d .1)))
 
 pub goal-ends : {w w₂ w₃ : List ℕ} (goal : ℕ) {r : Bool} → Held w → Beside w w₂ → Beside w₂ w₃ × (r ≡ onCircle (sheetIn w₂) goal) → Beside w w₃ × (r ≡ onCircle (sheetIn w) goal)
 goal-ends {w} {w₂} {w₃} goal {r} h b d = (beside-trans b (d .0), beside-from (λ (s : Sheet). r ≡ onCircle s goal) h b (d .1))
@@ -287,8 +289,8 @@ goal-ends {w} {w₂} {w₃} goal {r} h b d = (beside-trans b (d .0), beside-from
 pub look-index : {s : Sheet} {goal i k : ℕ} {w : List ℕ} → Searched s goal i k w → i < k → i < taskCount s
 look-index p h = omega (arith, queued-few (p .search .queued))
 
-pub look-asks : {w₀ w : List ℕ} {goal i k : ℕ} → Held w₀ → ChainedFrom (sheetIn w₀) 0 w₀ → Beside w₀ w → i < k → Searched (sheetIn w₀) goal i k w → Held w × (ChainedFrom (sheetIn w) 0 w × ((i < k) × Searched (sheetIn w) goal i k w))
-look-asks {w₀} {w} {goal} {i} {k} h c b g p = (beside-held h b, beside-own (λ (s : Sheet). ChainedFrom s 0 w × ((i < k) × Searched s goal i k w)) h b (chain-here h c b, (g, p)))
+pub look-asks : {w₀ w : List ℕ} {goal i k : ℕ} → Held w₀ → Chained Target (sheetIn w₀) w₀ → Beside w₀ w → i < k → Searched (sheetIn w₀) goal i k w → Held w × (Chained Target (sheetIn w) w × ((i < k) × Searched (sheetIn w) goal i k w))
+look-asks {w₀} {w} {goal} {i} {k} h c b g p = (beside-held h b, beside-own (λ (s : Sheet). Chained Target s w × ((i < k) × Searched s goal i k w)) h b (chain-here h c b, (g, p)))
 
 pub look-back : {w₀ w w′ : List ℕ} {goal i : ℕ} {r : Spread} → Held w₀ → Beside w₀ w → r ≡ Back → SpreadIs (sheetIn w) goal i w′ r → true ≡ onCircle (sheetIn w₀) goal
 look-back {w₀} {w} {w′} {goal} {i} {r} h b e p = sym (beside-from (λ (s : Sheet). onCircle s goal ≡ true) h b (p .back e))
@@ -310,8 +312,8 @@ pub look-is : {s : Sheet} {goal i j : ℕ} {w′ : List ℕ} {r : Spread} → j 
 look-is {s} {goal} {i} {j} {w′} {r} e p = subst (λ (x : ℕ). SpreadIs s goal (x + 1) w′ r) e p
 
 -- the lowest task on a circle
-pub find-asks : {w₀ w : List ℕ} {t : ℕ} → Held w₀ → ChainedFrom (sheetIn w₀) 0 w₀ → Beside w₀ w → t < taskCount (sheetIn w₀) → Held w × (ChainedFrom (sheetIn w) 0 w × (t < taskCount (sheetIn w)))
-find-asks {w₀} {w} {t} h c b g = (beside-held h b, beside-own (λ (s : Sheet). ChainedFrom s 0 w × (t < taskCount s)) h b (chain-here h c b, g))
+pub find-asks : {w₀ w : List ℕ} {t : ℕ} → Held w₀ → Chained Target (sheetIn w₀) w₀ → Beside w₀ w → t < taskCount (sheetIn w₀) → Held w × (Chained Target (sheetIn w) w × (t < taskCount (sheetIn w)))
+find-asks {w₀} {w} {t} h c b g = (beside-held h b, beside-own (λ (s : Sheet). Chained Target s w × (t < taskCount s)) h b (chain-here h c b, g))
 
 pub find-hit : {w₀ w : List ℕ} (t : ℕ) {r : Bool} → Held w₀ → Beside w₀ w → t < taskCount (sheetIn w₀) → first t (onCircle (sheetIn w₀)) ≡ none → r ≡ onCircle (sheetIn w) t → r ≡ true → some t ≡ circle (sheetIn w₀)
 unfolding circle

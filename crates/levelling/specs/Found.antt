@@ -8,6 +8,8 @@ use lib.ListN.{length, getD}
 use Rattle.sheet.specs.Sheet.{Sheet, taskCount}
 use Rattle.sheet.specs.Tables.{sheetIn}
 use Rattle.graph.specs.Graph.{onCircle, circle, level}
+use Rattle.chains.specs.Chains.{Chained}
+use Rattle.chains.specs.declared.End.the-variants.{Target}
 use Rattle.peeling.specs.Words.{Kept}
 use Rattle.peeling.specs.Peeling.{Searched}
 use Rattle.levelling.specs.declared.search.Spread.{Spread}
@@ -20,8 +22,9 @@ abbrev pub foundOf : Found → Option ℕ
 foundOf (At t) = some t
 foundOf Nothing = none
 
--- the level words hold the levels
+-- what the search leaves where there is no circle: the level of each task, and the chains of the links into it
 pub record Levelled (s : Sheet) (w : List ℕ) : Type 0 where
+  pub inward : Chained Target s w
   pub levels : (t : ℕ) → t < taskCount s → getD w (4624 + t) 0 ≡ level s t
 
 -- the answer for the sheet that stands in w, the levels where there is no circle, and all else as it was

@@ -1,7 +1,7 @@
 // Circles and levels of a sheet that stands in the work area, and a sheet opened there with them.
 ghost use Rattle.sheet.specs.Tables.{Loaded};
 ghost use Rattle.levelling.specs.Found.{LevelsAre};
-use peeling::chaining;
+use chains::End;
 use peeling::peel;
 use sheet::tables;
 
@@ -20,7 +20,7 @@ pub fn levels(w: &mut [u32]) -> Found
     requires { ⌜ Loaded (now w) ⌝ }
     ensures { λ r. ⌜ LevelsAre (now (w .entry)) (now (w .exit)) r ⌝ }
 {
-    chaining::chain(w);
+    chains::chain(w, End::Target);
     let k = peel::peel(w);
     let n = tables::tasks(w);
     if k == n {

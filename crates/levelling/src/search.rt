@@ -5,11 +5,13 @@ ghost use lib.ListN.{getD, length};
 ghost use Rattle.sheet.specs.Sheet.{taskCount};
 ghost use Rattle.sheet.specs.Tables.{sheetIn};
 ghost use Rattle.graph.specs.Graph.{onCircle, circle};
-ghost use Rattle.peeling.specs.Words.{Held, Beside, ChainedFrom, Queued};
+ghost use Rattle.chains.specs.Chains.{Chained};
+ghost use Rattle.chains.specs.declared.End.the-variants.{Target};
+ghost use Rattle.peeling.specs.Words.{Held, Beside, Queued};
 ghost use Rattle.peeling.specs.Peeling.{Emptied, Noted, Searched, Spreading};
 ghost use Rattle.levelling.specs.Found.{foundOf, SpreadIs};
 use crate::Found;
-use peeling::chaining;
+use chains::End;
 use peeling::queue;
 use sheet::tables;
 
@@ -36,20 +38,20 @@ fn note(w: &mut [u32], k: usize, u: usize) -> usize
 // The links into v: their sources are in the queue of k tasks, or go into it, unless one is the goal.
 fn walk_into(w: &mut [u32], goal: usize, k: usize, v: usize) -> Spread
     requires { ⌜ Held (now w) ⌝ }
-    requires { ⌜ ChainedFrom (sheetIn (now w)) 0 (now w) ⌝ }
+    requires { ⌜ Chained Target (sheetIn (now w)) (now w) ⌝ }
     requires { ⌜ Spreading (sheetIn (now w)) goal (getD (now w) (6672 + v) 0) k 0 v (now w) ⌝ }
     ensures { λ r. ⌜ Beside (now (w .entry)) (now (w .exit)) × SpreadIs (sheetIn (now (w .entry))) goal (getD (now (w .entry)) (6672 + v) 0 + 1) (now (w .exit)) r ⌝ }
 {
     let m = tables::links(w);
     let mut q = k;
-    let mut l = chaining::head(w, v);
+    let mut l = chains::first(w, End::Target, v);
     while l < m {
         let u = tables::source(w, l);
         if u == goal {
             return Spread::Back;
         }
         q = note(w, q, u);
-        l = chaining::next(w, l);
+        l = chains::next(w, End::Target, l);
     }
     Spread::On(q)
 }
@@ -57,7 +59,7 @@ fn walk_into(w: &mut [u32], goal: usize, k: usize, v: usize) -> Spread
 // Task i of the queue of k tasks is looked at.
 fn look(w: &mut [u32], goal: usize, i: usize, k: usize) -> Spread
     requires { ⌜ Held (now w) ⌝ }
-    requires { ⌜ ChainedFrom (sheetIn (now w)) 0 (now w) ⌝ }
+    requires { ⌜ Chained Target (sheetIn (now w)) (now w) ⌝ }
     requires { ⌜ i < k ⌝ }
     requires { ⌜ Searched (sheetIn (now w)) goal i k (now w) ⌝ }
     ensures { λ r. ⌜ Beside (now (w .entry)) (now (w .exit)) × SpreadIs (sheetIn (now (w .entry))) goal (i + 1) (now (w .exit)) r ⌝ }
@@ -69,7 +71,7 @@ fn look(w: &mut [u32], goal: usize, i: usize, k: usize) -> Spread
 // All of the queue, which begins with the goal.
 fn look_all(w: &mut [u32], goal: usize) -> bool
     requires { ⌜ Held (now w) ⌝ }
-    requires { ⌜ ChainedFrom (sheetIn (now w)) 0 (now w) ⌝ }
+    requires { ⌜ Chained Target (sheetIn (now w)) (now w) ⌝ }
     requires { ⌜ goal < taskCount (sheetIn (now w)) ⌝ }
     requires { ⌜ Searched (sheetIn (now w)) goal 0 1 (now w) ⌝ }
     ensures { λ r. ⌜ Beside (now (w .entry)) (now (w .exit)) × (r ≡ onCircle (sheetIn (now (w .entry))) goal) ⌝ }
@@ -105,7 +107,7 @@ fn empty(w: &mut [u32])
 // Whether a path leads from the goal back to it.
 fn on_circle(w: &mut [u32], goal: usize) -> bool
     requires { ⌜ Held (now w) ⌝ }
-    requires { ⌜ ChainedFrom (sheetIn (now w)) 0 (now w) ⌝ }
+    requires { ⌜ Chained Target (sheetIn (now w)) (now w) ⌝ }
     requires { ⌜ goal < taskCount (sheetIn (now w)) ⌝ }
     ensures { λ r. ⌜ Beside (now (w .entry)) (now (w .exit)) × (r ≡ onCircle (sheetIn (now (w .entry))) goal) ⌝ }
 {
@@ -116,7 +118,7 @@ fn on_circle(w: &mut [u32], goal: usize) -> bool
 
 pub fn find(w: &mut [u32]) -> Found
     requires { ⌜ Held (now w) ⌝ }
-    requires { ⌜ ChainedFrom (sheetIn (now w)) 0 (now w) ⌝ }
+    requires { ⌜ Chained Target (sheetIn (now w)) (now w) ⌝ }
     ensures { λ r. ⌜ Beside (now (w .entry)) (now (w .exit)) × (foundOf r ≡ circle (sheetIn (now (w .entry)))) ⌝ }
 {
     let n = tables::tasks(w);

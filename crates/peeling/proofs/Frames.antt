@@ -8,7 +8,11 @@ use lib.Seq.{getD-set-same, getD-set-other}
 use Rattle.sheet.specs.Sheet.{Sheet, taskCount, linkCount}
 use Rattle.sheet.specs.Tables.{sheetIn, Loaded, Ranged}
 use Rattle.sheet.proofs.Rows.{sheet-frame, loaded-frame, ranged}
-use Rattle.peeling.specs.Words.{Held, Kept, Beside, ChainedFrom}
+use Rattle.chains.specs.Frames.{Only}
+use Rattle.chains.specs.Chains.{Chained}
+use Rattle.chains.specs.declared.End.the-variants.{Target}
+use Rattle.chains.proofs.Walks.{chained-frame}
+use Rattle.peeling.specs.Words.{Held, Kept, Beside}
 use Rattle.graph.proofs.Reaches.{Declared}
 
 pub kept-none : (w : List ℕ) → Kept w w
@@ -24,6 +28,10 @@ kept-set {w} {w′} j v l h k =
       low = λ i p. getD-set-other w′ j i v 0 (omega arith) ∙ k .low i p;
       high = λ i p. getD-set-other w′ j i v 0 (omega arith) ∙ k .high i p;
     }
+
+-- what writes the chains alone
+pub only-kept : {w w′ : List ℕ} → Only 4880 6160 w w′ → Kept w w′
+only-kept o = record { long = o .long; low = λ i h. o .low i (omega arith); high = λ i h. o .high i (omega arith) }
 
 pub kept-sheet : {w w′ : List ℕ} → Held w → Kept w w′ → sheetIn w′ ≡ sheetIn w
 kept-sheet {w} {w′} h k = sheet-frame w w′ (k .low) (h .loaded .tasks) (h .loaded .links)
@@ -62,20 +70,8 @@ pub beside-sheet : {w w′ : List ℕ} → Held w → Beside w w′ → sheetIn 
 beside-sheet h b = kept-sheet h (b .kept)
 
 -- the chains of an area whose chains are as they were
-pub beside-chained : (s : Sheet) (w w′ : List ℕ) → taskCount s ≤ 256 → linkCount s ≤ 1024 → Beside w w′ → ChainedFrom s 0 w → ChainedFrom s 0 w′
-beside-chained s w w′ n m b d =
-    let head : (t : ℕ) → t < taskCount s → getD w′ (4880 + t) 0 ≡ getD w (4880 + t) 0 = λ t h. b .chains (4880 + t) (omega arith) (omega arith) in
-    let next : (i : ℕ) → i < linkCount s → getD w′ (5136 + i) 0 ≡ getD w (5136 + i) 0 = λ i h. b .chains (5136 + i) (omega arith) (omega arith) in
-    record {
-      head-few = λ t h. rw (head t h) (d .head-few t h);
-      head-low = λ t h. omega arith;
-      head-own = λ t h. rw (head t h) (d .head-own t h);
-      head-none = λ t h i k. rw (head t h) (d .head-none t h i k);
-      next-few = λ i k h. rw (next i h) (d .next-few i k h);
-      next-more = λ i k h. rw (next i h) (d .next-more i k h);
-      next-own = λ i k h. rw (next i h) (d .next-own i k h);
-      next-none = λ i k h. rw (next i h) (d .next-none i k h);
-    }
+pub beside-chained : (s : Sheet) (w w′ : List ℕ) → taskCount s ≤ 256 → linkCount s ≤ 1024 → Beside w w′ → Chained Target s w → Chained Target s w′
+beside-chained s w w′ n m b = chained-frame n m (λ i h k. b .chains i h k)
 
 -- what is said of the sheet before holds of the sheet after, and the other way round
 pub beside-own : (P : Sheet → Type 0) {w w′ : List ℕ} → Held w → Beside w w′ → P (sheetIn w) → P (sheetIn w′)

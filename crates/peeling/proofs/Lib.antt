@@ -1,5 +1,4 @@
 pub mod Frames
-pub mod Heads
 pub mod Pushes
 pub mod Lights
 pub mod Walks

@@ -16,7 +16,7 @@ use Rattle.folds.proofs.Loops.{sum-zero, sum-one}
 use Rattle.folds.proofs.Laws.{sum-le, sum-cong, sum-zeros, greatest-le}
 use Rattle.sheet.specs.Sheet.{Sheet, taskCount, linkCount, sourceOf, targetOf}
 use Rattle.sheet.specs.Tables.{sheetIn}
-use Rattle.peeling.specs.Words.{Held, Beside, ChainedFrom, Queued, inQueue, pushed, doneBy}
+use Rattle.peeling.specs.Words.{Held, Beside, Queued, inQueue, pushed, doneBy}
 use Rattle.peeling.specs.Peeling.{dueBy, gaveBy, never, Peel, Peeled, Counted, Filled}
 use Rattle.graph.proofs.Reaches.{Declared, bit-le}
 use Rattle.peeling.proofs.Frames.{beside-none, beside-trans, beside-level, beside-set, beside-sheet, beside-held, beside-own, beside-from, loaded-declared}

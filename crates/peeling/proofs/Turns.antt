@@ -5,9 +5,11 @@ use mathlib.Core.List.{List}
 use native.Mathlib.Omega.{arith}
 use lib.ListN.{length, getD, set}
 use Rattle.sheet.specs.Sheet.{Sheet, taskCount, linkCount, workOf, sourceOf, targetOf, costOf}
-use Rattle.sheet.specs.Tables.{sheetIn}
+use Rattle.sheet.specs.Tables.{sheetIn, Loaded}
 use Rattle.sheet.proofs.Rows.{ranged}
-use Rattle.peeling.specs.Words.{Held, Beside, ChainedFrom, pushed}
+use Rattle.chains.specs.Chains.{Chained}
+use Rattle.chains.specs.declared.End.the-variants.{Target}
+use Rattle.peeling.specs.Words.{Held, Beside, pushed}
 use Rattle.peeling.specs.Peeling.{Peeled, Walking, Counted, Filled}
 use Rattle.peeling.proofs.Frames.{loaded-declared, beside-sheet, beside-held, beside-none, beside-trans, beside-chained, beside-own, beside-from}
 use Rattle.peeling.proofs.Pushes.{queued-few}
@@ -41,7 +43,7 @@ pub record WalkTo (w₀ : List ℕ) (v k l : ℕ) (w : List ℕ) : Type 0 where
   pub own : l < linkCount (sheetIn w₀) → targetOf (sheetIn w₀) l ≡ v
   pub walking : Walking (sheetIn w₀) (getD w₀ (6672 + v) 0) k l v 0 0 w
 
-pub walk-starts : (w : List ℕ) (v k r : ℕ) → Held w → ChainedFrom (sheetIn w) 0 w → Walking (sheetIn w) (getD w (6672 + v) 0) k 0 v 0 0 w → r ≡ getD w (4880 + v) 0 → WalkTo w v k r w
+pub walk-starts : (w : List ℕ) (v k r : ℕ) → Held w → Chained Target (sheetIn w) w → Walking (sheetIn w) (getD w (6672 + v) 0) k 0 v 0 0 w → r ≡ getD w (4880 + v) 0 → WalkTo w v k r w
 walk-starts w v k r h d p e =
     let q = walks.walk-begins (sheetIn w) w (loaded-declared (h .loaded)) (h .few-tasks) (h .long) (getD w (6672 + v) 0) k v r d p e in
     record { beside = beside-none w; here = q .0; own = q .1; walking = q .2 }
@@ -60,16 +62,16 @@ walk-asks {w₀} {w} {v} {k} {l} h p g =
     )
 
 -- the chains are as they were
-pub next-asks : {w₀ w : List ℕ} {l : ℕ} → Held w₀ → ChainedFrom (sheetIn w₀) 0 w₀ → Beside w₀ w → l < linkCount (sheetIn w₀) → Held w × (ChainedFrom (sheetIn w) 0 w × (l < linkCount (sheetIn w)))
+pub next-asks : {w₀ w : List ℕ} {l : ℕ} → Held w₀ → Chained Target (sheetIn w₀) w₀ → Beside w₀ w → l < linkCount (sheetIn w₀) → Loaded w × (Chained Target (sheetIn w) w × (l < linkCount (sheetIn w)))
 next-asks {w₀} {w} {l} h d b g =
     let e : sheetIn w ≡ sheetIn w₀ = beside-sheet h b in
-    (beside-held h b, (subst (λ (s : Sheet). ChainedFrom s 0 w) (sym e) (beside-chained (sheetIn w₀) w₀ w (h .few-tasks) (h .few-links) b d), rw e g))
+    (beside-held h b .loaded, (subst (λ (s : Sheet). Chained Target s w) (sym e) (beside-chained (sheetIn w₀) w₀ w (h .few-tasks) (h .few-links) b d), rw e g))
 
-pub chain-here : {w₀ w : List ℕ} → Held w₀ → ChainedFrom (sheetIn w₀) 0 w₀ → Beside w₀ w → ChainedFrom (sheetIn w₀) 0 w
+pub chain-here : {w₀ w : List ℕ} → Held w₀ → Chained Target (sheetIn w₀) w₀ → Beside w₀ w → Chained Target (sheetIn w₀) w
 chain-here {w₀} {w} h d b = beside-chained (sheetIn w₀) w₀ w (h .few-tasks) (h .few-links) b d
 
 -- a turn, and on to the next link
-pub walk-turns : {w₀ w w′ : List ℕ} {v k k′ l r : ℕ} → Held w₀ → ChainedFrom (sheetIn w₀) 0 w₀ → WalkTo w₀ v k l w → l < linkCount (sheetIn w₀)
+pub walk-turns : {w₀ w w′ : List ℕ} {v k k′ l r : ℕ} → Held w₀ → Chained Target (sheetIn w₀) w₀ → WalkTo w₀ v k l w → l < linkCount (sheetIn w₀)
     → Beside w w′ × Walking (sheetIn w) (getD w (6672 + v) 0) k′ (l + 1) v 0 0 w′ → r ≡ getD w′ (5136 + l) 0 → WalkTo w₀ v k′ r w′
 walk-turns {w₀} {w} {w′} {v} {k} {k′} {l} {r} h d p g t e =
     let b : Beside w₀ w′ = beside-trans (p .beside) (t .0) in
@@ -80,7 +82,7 @@ walk-turns {w₀} {w} {w′} {v} {k} {k′} {l} {r} h d p g t e =
     record { beside = b; here = m .0; own = m .1; walking = m .2 }
 
 -- the links left become fewer
-pub walk-less : {w₀ w w′ : List ℕ} {v k l r : ℕ} → Held w₀ → ChainedFrom (sheetIn w₀) 0 w₀ → WalkTo w₀ v k l w → l < linkCount (sheetIn w₀) → Beside w w′ → r ≡ getD w′ (5136 + l) 0 → l < r
+pub walk-less : {w₀ w w′ : List ℕ} {v k l r : ℕ} → Held w₀ → Chained Target (sheetIn w₀) w₀ → WalkTo w₀ v k l w → l < linkCount (sheetIn w₀) → Beside w w′ → r ≡ getD w′ (5136 + l) 0 → l < r
 walk-less {w₀} {w} {w′} {v} {k} {l} {r} h d p g t e =
     let b : Beside w₀ w′ = beside-trans (p .beside) t in
     walks.walk-far (sheetIn w₀) w′ (loaded-declared (h .loaded)) (h .few-tasks) (beside-held h b .long) l r (chain-here h d b) g e
@@ -104,10 +106,10 @@ module _ (w : List ℕ) (h : Held w) (i k : ℕ) (left : i < k) (p : Peeled (she
       → Beside w w′ × Walking (sheetIn w) (getD w′ (6672 + v) 0) k 0 v 0 0 w′ × (getD w′ (6672 + v) 0 ≡ i)
   taken = walks.taken (sheetIn w) w (loaded-declared (h .loaded)) (h .few-tasks) (h .long) i k p left v-is
 
-pub take-walks : {w w′ : List ℕ} {k v i : ℕ} → Held w → ChainedFrom (sheetIn w) 0 w → Beside w w′ × Walking (sheetIn w) (getD w′ (6672 + v) 0) k 0 v 0 0 w′ × (getD w′ (6672 + v) 0 ≡ i)
-    → Held w′ × (ChainedFrom (sheetIn w′) 0 w′ × Walking (sheetIn w′) (getD w′ (6672 + v) 0) k 0 v 0 0 w′)
+pub take-walks : {w w′ : List ℕ} {k v i : ℕ} → Held w → Chained Target (sheetIn w) w → Beside w w′ × Walking (sheetIn w) (getD w′ (6672 + v) 0) k 0 v 0 0 w′ × (getD w′ (6672 + v) 0 ≡ i)
+    → Held w′ × (Chained Target (sheetIn w′) w′ × Walking (sheetIn w′) (getD w′ (6672 + v) 0) k 0 v 0 0 w′)
 take-walks {w} {w′} {k} {v} {i} h d t =
-    (beside-held h (t .0), beside-own (λ (s : Sheet). ChainedFrom s 0 w′ × Walking s (getD w′ (6672 + v) 0) k 0 v 0 0 w′) h (t .0) (chain-here h d (t .0), t .1))
+    (beside-held h (t .0), beside-own (λ (s : Sheet). Chained Target s w′ × Walking s (getD w′ (6672 + v) 0) k 0 v 0 0 w′) h (t .0) (chain-here h d (t .0), t .1))
 
 pub take-done : {w w′ w″ : List ℕ} {k r v i : ℕ} → Held w → Beside w w′ × Walking (sheetIn w) (getD w′ (6672 + v) 0) k 0 v 0 0 w′ × (getD w′ (6672 + v) 0 ≡ i)
     → Beside w′ w″ × Peeled (sheetIn w′) (getD w′ (6672 + v) 0 + 1) r 0 0 w″ → Beside w w″ × Peeled (sheetIn w) (i + 1) r 0 0 w″
@@ -115,10 +117,10 @@ take-done {w} {w′} {w″} {k} {r} {v} {i} h t u =
     (beside-trans (t .0) (u .0), subst (λ (j : ℕ). Peeled (sheetIn w) (j + 1) r 0 0 w″) (t .2) (beside-from (λ (s : Sheet). Peeled s (getD w′ (6672 + v) 0 + 1) r 0 0 w″) h (t .0) (u .1)))
 
 -- what taking off goes on with
-pub take-asks : {w₀ w : List ℕ} {i k : ℕ} → Held w₀ → ChainedFrom (sheetIn w₀) 0 w₀ → Beside w₀ w → i < k → Peeled (sheetIn w₀) i k 0 0 w
-    → Held w × (ChainedFrom (sheetIn w) 0 w × ((i < k) × Peeled (sheetIn w) i k 0 0 w))
+pub take-asks : {w₀ w : List ℕ} {i k : ℕ} → Held w₀ → Chained Target (sheetIn w₀) w₀ → Beside w₀ w → i < k → Peeled (sheetIn w₀) i k 0 0 w
+    → Held w × (Chained Target (sheetIn w) w × ((i < k) × Peeled (sheetIn w) i k 0 0 w))
 take-asks {w₀} {w} {i} {k} h d b g p =
-    (beside-held h b, beside-own (λ (s : Sheet). ChainedFrom s 0 w × ((i < k) × Peeled s i k 0 0 w)) h b (chain-here h d b, (g, p)))
+    (beside-held h b, beside-own (λ (s : Sheet). Chained Target s w × ((i < k) × Peeled s i k 0 0 w)) h b (chain-here h d b, (g, p)))
 
 pub take-turns : {w₀ w w′ : List ℕ} {i k : ℕ} → Held w₀ → Beside w₀ w → Beside w w′ × Peeled (sheetIn w) i k 0 0 w′ → Beside w₀ w′ × Peeled (sheetIn w₀) i k 0 0 w′
 take-turns {w₀} {w} {w′} {i} {k} h b d = (beside-trans b (d .0), beside-from (λ (s : Sheet). Peeled s i k 0 0 w′) h b (d .1))
@@ -133,5 +135,5 @@ peel-counts {w} {w′} h d = (beside-held h (d .0), beside-own (λ (s : Sheet). 
 pub peel-fills : {w w′ : List ℕ} → Held w → Beside w w′ × Filled (sheetIn w) 0 0 w′ → Held w′ × Filled (sheetIn w′) 0 0 w′
 peel-fills {w} {w′} h d = (beside-held h (d .0), beside-own (λ (s : Sheet). Filled s 0 0 w′) h (d .0) (d .1))
 
-pub peel-takes : {w w′ : List ℕ} {k : ℕ} → Held w → ChainedFrom (sheetIn w) 0 w → Beside w w′ × Peeled (sheetIn w) 0 k 0 0 w′ → Held w′ × (ChainedFrom (sheetIn w′) 0 w′ × Peeled (sheetIn w′) 0 k 0 0 w′)
-peel-takes {w} {w′} {k} h c d = (beside-held h (d .0), beside-own (λ (s : Sheet). ChainedFrom s 0 w′ × Peeled s 0 k 0 0 w′) h (d .0) (chain-here h c (d .0), d .1))
+pub peel-takes : {w w′ : List ℕ} {k : ℕ} → Held w → Chained Target (sheetIn w) w → Beside w w′ × Peeled (sheetIn w) 0 k 0 0 w′ → Held w′ × (Chained Target (sheetIn w′) w′ × Peeled (sheetIn w′) 0 k 0 0 w′)
+peel-takes {w} {w′} {k} h c d = (beside-held h (d .0), beside-own (λ (s : Sheet). Chained Target s w′ × Peeled s 0 k 0 0 w′) h (d .0) (chain-here h c (d .0), d .1))

@@ -33,17 +33,6 @@ pub record Beside (w w′ : List ℕ) : Type 0 where
   pub kept : Kept w w′
   pub chains : (i : ℕ) → 4880 ≤ i → i < 6160 → getD w′ i 0 ≡ getD w i 0
 
--- the links from l on are chained by their targets, in rising number
-pub record ChainedFrom (s : Sheet) (l : ℕ) (w : List ℕ) : Type 0 where
-  pub head-few : (t : ℕ) → t < taskCount s → getD w (4880 + t) 0 ≤ linkCount s
-  pub head-low : (t : ℕ) → t < taskCount s → l ≤ getD w (4880 + t) 0
-  pub head-own : (t : ℕ) → t < taskCount s → getD w (4880 + t) 0 < linkCount s → targetOf s (getD w (4880 + t) 0) ≡ t
-  pub head-none : (t : ℕ) → t < taskCount s → (i : ℕ) → l ≤ i → i < getD w (4880 + t) 0 → targetOf s i ≡ t → ⊥
-  pub next-few : (i : ℕ) → l ≤ i → i < linkCount s → getD w (5136 + i) 0 ≤ linkCount s
-  pub next-more : (i : ℕ) → l ≤ i → i < linkCount s → i < getD w (5136 + i) 0
-  pub next-own : (i : ℕ) → l ≤ i → i < linkCount s → getD w (5136 + i) 0 < linkCount s → targetOf s (getD w (5136 + i) 0) ≡ targetOf s i
-  pub next-none : (i : ℕ) → l ≤ i → i < linkCount s → (j : ℕ) → i < j → j < getD w (5136 + i) 0 → targetOf s j ≡ targetOf s i → ⊥
-
 -- the queue holds k tasks below n, each once
 unfoldable pub inQueue : List ℕ → ℕ → ℕ
 inQueue w t = bit (ltb (getD w (6672 + t) 0) 256)

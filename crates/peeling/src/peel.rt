@@ -5,10 +5,12 @@ ghost use Prim.Native.Nat.{_+_, _<_};
 ghost use lib.ListN.{getD, length};
 ghost use Rattle.sheet.specs.Sheet.{taskCount, linkCount, targetOf};
 ghost use Rattle.sheet.specs.Tables.{sheetIn};
-ghost use Rattle.peeling.specs.Words.{Held, Beside, ChainedFrom};
+ghost use Rattle.chains.specs.Chains.{Chained};
+ghost use Rattle.chains.specs.declared.End.the-variants.{Target};
+ghost use Rattle.peeling.specs.Words.{Held, Beside};
 ghost use Rattle.peeling.specs.Peeling.{Peeled, Walking, Counted, Filled};
-use crate::chaining;
 use crate::queue;
+use chains::End;
 use sheet::tables;
 
 // Link l into v, which is taken off, is counted off at its source and gives it its level; a source without other links goes into
@@ -37,16 +39,16 @@ fn visit(w: &mut [u32], k: usize, v: usize, l: usize) -> usize
 // The links into v, which is taken off.
 fn walk(w: &mut [u32], k: usize, v: usize) -> usize
     requires { ⌜ Held (now w) ⌝ }
-    requires { ⌜ ChainedFrom (sheetIn (now w)) 0 (now w) ⌝ }
+    requires { ⌜ Chained Target (sheetIn (now w)) (now w) ⌝ }
     requires { ⌜ Walking (sheetIn (now w)) (getD (now w) (6672 + v) 0) k 0 v 0 0 (now w) ⌝ }
     ensures { λ r. ⌜ Beside (now (w .entry)) (now (w .exit)) × Peeled (sheetIn (now (w .entry))) (getD (now (w .entry)) (6672 + v) 0 + 1) r 0 0 (now (w .exit)) ⌝ }
 {
     let m = tables::links(w);
     let mut q = k;
-    let mut l = chaining::head(w, v);
+    let mut l = chains::first(w, End::Target, v);
     while l < m {
         q = visit(w, q, v, l);
-        l = chaining::next(w, l);
+        l = chains::next(w, End::Target, l);
     }
     q
 }
@@ -54,7 +56,7 @@ fn walk(w: &mut [u32], k: usize, v: usize) -> usize
 // Task i of the queue of k tasks is taken off.
 fn take(w: &mut [u32], i: usize, k: usize) -> usize
     requires { ⌜ Held (now w) ⌝ }
-    requires { ⌜ ChainedFrom (sheetIn (now w)) 0 (now w) ⌝ }
+    requires { ⌜ Chained Target (sheetIn (now w)) (now w) ⌝ }
     requires { ⌜ i < k ⌝ }
     requires { ⌜ Peeled (sheetIn (now w)) i k 0 0 (now w) ⌝ }
     ensures { λ r. ⌜ Beside (now (w .entry)) (now (w .exit)) × Peeled (sheetIn (now (w .entry))) (i + 1) r 0 0 (now (w .exit)) ⌝ }
@@ -69,7 +71,7 @@ fn take(w: &mut [u32], i: usize, k: usize) -> usize
 // All that can be taken off, from a queue of k tasks on; the answer is how many.
 fn take_all(w: &mut [u32], k: usize) -> usize
     requires { ⌜ Held (now w) ⌝ }
-    requires { ⌜ ChainedFrom (sheetIn (now w)) 0 (now w) ⌝ }
+    requires { ⌜ Chained Target (sheetIn (now w)) (now w) ⌝ }
     requires { ⌜ Peeled (sheetIn (now w)) 0 k 0 0 (now w) ⌝ }
     ensures { λ r. ⌜ Beside (now (w .entry)) (now (w .exit)) × Peeled (sheetIn (now (w .entry))) r r 0 0 (now (w .exit)) ⌝ }
 {
@@ -156,7 +158,7 @@ fn count(w: &mut [u32])
 // The whole; the answer is how many tasks could be taken off.
 pub fn peel(w: &mut [u32]) -> usize
     requires { ⌜ Held (now w) ⌝ }
-    requires { ⌜ ChainedFrom (sheetIn (now w)) 0 (now w) ⌝ }
+    requires { ⌜ Chained Target (sheetIn (now w)) (now w) ⌝ }
     ensures { λ r. ⌜ Beside (now (w .entry)) (now (w .exit)) × Peeled (sheetIn (now (w .entry))) r r 0 0 (now (w .exit)) ⌝ }
 {
     blank(w);

@@ -6,9 +6,10 @@ use native.Mathlib.Omega.{arith}
 use lib.ListN.{length, getD}
 use Rattle.folds.specs.Folds.{listed}
 use Rattle.folds.proofs.Lists.{length-listed, getD-listed, listed-cong}
-use Rattle.sheet.specs.Sheet.{Sheet, taskCount}
+use Rattle.sheet.specs.Sheet.{Sheet, taskCount, linkCount}
 use Rattle.sheet.specs.Tables.{sheetIn}
 use Rattle.sheet.proofs.Rows.{tasks-in}
+use Rattle.chains.proofs.Walks.{chained-frame}
 use Rattle.planner.specs.Schedule.{nowhere, placeOf, startOf, finishOf}
 use Rattle.levelling.specs.Found.{Levelled}
 use Rattle.schedule.specs.Layout.{scheduleIn}
@@ -59,5 +60,5 @@ module _ (w w′ : List ℕ) (few-tasks : getD w 0 0 ≤ 256) (few-placed : getD
       let order = table 8960 (getD w 9217 0) (getD w′ 9217 0) (omega arith) (omega arith) (same 9217 (omega arith) (omega arith)) few-placed in
       λ x. record { on = on x; start = start x; finish = finish x; order = order x; opened = same 9216 (omega arith) (omega arith) x }
 
-pub levelled-frame : {s : Sheet} {w w′ : List ℕ} → taskCount s ≤ 256 → ((i : ℕ) → i < 8192 → getD w′ i 0 ≡ getD w i 0) → Levelled s w → Levelled s w′
-levelled-frame few same d = record { levels = λ t h. same (4624 + t) (omega arith) ∙ d .levels t h }
+pub levelled-frame : {s : Sheet} {w w′ : List ℕ} → taskCount s ≤ 256 → linkCount s ≤ 1024 → ((i : ℕ) → i < 8192 → getD w′ i 0 ≡ getD w i 0) → Levelled s w → Levelled s w′
+levelled-frame few links same d = record { inward = chained-frame few links (λ i h k. same i (omega arith)) (d .inward); levels = λ t h. same (4624 + t) (omega arith) ∙ d .levels t h }

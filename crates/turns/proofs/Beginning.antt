@@ -1,4 +1,4 @@
--- Before the first turn: the schedule emptied (w₁), what is kept beside it cleared (w₂), chains out (w₃) and in (w₄), links gathered (w₅).
+-- Before the first turn: the schedule emptied (w₁), what is kept beside it cleared (w₂), the links out of each task chained (w₃), links gathered (w₄).
 use Prim.Native.Nat.{ℕ, _≤_, _<_}
 use mathlib.Core.Path.{_≡_, refl, ap, ap₂, sym, _∙_, subst}
 use mathlib.Core.Bool.{true}
@@ -66,113 +66,100 @@ module _ {w w₁ : List ℕ} (loaded : Loaded w) (levelled : Levelled (sheetIn w
       sheet₃ : sheetIn w₃ ≡ s
       sheet₃ = same-sheet w w₃ loaded low₃
 
-      module _ {w₄ : List ℕ} (o₄ : Only 10512 11792 w₃ w₄) (inward : Chained Target (sheetIn w₃) w₄) where
+      nought₃ : (i : ℕ) → 11792 ≤ i → i < 22528 → getD w₃ i 0 ≡ 0
+      nought₃ i h l = o₃ .high i (omega arith) ∙ zero .at i h l
+
+      pub gather₃ : GatheredTo (sheetIn w₃) 0 w₃
+      gather₃ = gather-none (ranged w₃ loaded₃ .few-tasks) (λ i h l. nought₃ i h (omega arith))
+
+      module _ {w₄ : List ℕ} (o₄ : Only 11792 12304 w₃ w₄) (gathered : GatheredTo (sheetIn w₃) (linkCount (sheetIn w₃)) w₄) where
         low₄ : (i : ℕ) → i < 8192 → getD w₄ i 0 ≡ getD w i 0
         low₄ i h = o₄ .low i (omega arith) ∙ low₃ i h
 
         long₄ : length w₄ ≡ length w
         long₄ = o₄ .long ∙ long₃
 
-        pub loaded₄ : Loaded w₄
+        loaded₄ : Loaded w₄
         loaded₄ = same-loaded w w₄ loaded low₄ long₄
 
         sheet₄ : sheetIn w₄ ≡ s
         sheet₄ = same-sheet w w₄ loaded low₄
 
-        nought₄ : (i : ℕ) → 11792 ≤ i → i < 22528 → getD w₄ i 0 ≡ 0
-        nought₄ i h l = o₄ .high i h ∙ o₃ .high i (omega arith) ∙ zero .at i h l
+        -- the words of the schedule are those of w₁
+        kept₄ : (i : ℕ) → i < 9232 → getD w₄ i 0 ≡ getD w₁ i 0
+        kept₄ i h = o₄ .low i (omega arith) ∙ o₃ .low i h ∙ o₂ .low i (omega arith)
 
-        pub gather₄ : GatheredTo (sheetIn w₄) 0 w₄
-        gather₄ = gather-none (ranged w₄ loaded₄ .few-tasks) (λ i h l. nought₄ i h (omega arith))
+        schedule₄ : scheduleIn w₄ ≡ empty s
+        schedule₄ = schedule-frame w₁ w₄ (loaded₁ .tasks) (omega (arith, e₁ .placed)) (kept₄ 0 (omega arith)) (λ i h l. kept₄ i l) ∙ e₁ .schedule
 
-        module _ {w₅ : List ℕ} (o₅ : Only 11792 12304 w₄ w₅) (gathered : GatheredTo (sheetIn w₄) (linkCount (sheetIn w₄)) w₅) where
-          low₅ : (i : ℕ) → i < 8192 → getD w₅ i 0 ≡ getD w i 0
-          low₅ i h = o₅ .low i (omega arith) ∙ low₄ i h
+        empty₄ : (u : ℕ) → placeOf (scheduleIn w₄) u ≡ 16
+        unfolding placeOf
+        empty₄ u = ap (λ (σ : Schedule). getD (σ .on) u nowhere) schedule₄ ∙ getD-replicate (taskCount s) u nowhere
 
-          long₅ : length w₅ ≡ length w
-          long₅ = o₅ .long ∙ long₄
+        standing₄ : (u : ℕ) → placed (scheduleIn w₄) u ≡ true → placeOf (scheduleIn w₄) u < scheduleIn w₄ .opened
+        unfolding placed
+        standing₄ u e = absurd (omega (arith, empty₄ u, ltb-true (placeOf (scheduleIn w₄) u) 16 e))
 
-          loaded₅ : Loaded w₅
-          loaded₅ = same-loaded w w₅ loaded low₅ long₅
+        nought₄ : (i : ℕ) → 12304 ≤ i → i < 22528 → getD w₄ i 0 ≡ 0
+        nought₄ i h l = o₄ .high i h ∙ nought₃ i (omega arith) l
 
-          sheet₅ : sheetIn w₅ ≡ s
-          sheet₅ = same-sheet w w₅ loaded low₅
+        caches₄ : Caches s (scheduleIn w₄) w₄
+        caches₄ =
+            let r = ranged w loaded in
+            record {
+              outward = chained-frame (r .few-tasks) (r .few-links) (λ i h l. o₄ .low i (omega arith)) (subst (λ (x : Sheet). Chained Source x w₃) sheet₂ outward);
+              inward = chained-frame (r .few-tasks) (r .few-links) (λ i h l. low₄ i (omega arith)) (levelled .inward);
+              gathered = gathered-all (subst (λ (x : Sheet). GatheredTo x (linkCount x) w₄) sheet₃ gathered);
+              counted = counted-zero s (scheduleIn w₄) empty₄ (r .few-tasks) nought₄;
+              ends = ends-zero s (scheduleIn w₄) empty₄ nought₄;
+              closed = closed-zero s (scheduleIn w₄) empty₄;
+            }
 
-          -- the words of the schedule are those of w₁
-          kept₅ : (i : ℕ) → i < 9232 → getD w₅ i 0 ≡ getD w₁ i 0
-          kept₅ i h = o₅ .low i (omega arith) ∙ o₄ .low i (omega arith) ∙ o₃ .low i h ∙ o₂ .low i (omega arith)
+        going₄ : Going w 0 w₄
+        going₄ =
+            record {
+              long = long₄;
+              low = low₄;
+              sheet = sheet₄;
+              kept =
+                  record {
+                    loaded = loaded₄;
+                    ranged = ranged w₄ loaded₄;
+                    few-opened = rw schedule₄ (omega arith);
+                    standing = standing₄;
+                    caches = subst (λ (x : Sheet). Caches x (scheduleIn w₄) w₄) (sym sheet₄) caches₄;
+                  };
+              levelled = subst (λ (x : Sheet). Levelled x w₄) (sym sheet₄) (levelled-frame (ranged w loaded .few-tasks) (ranged w loaded .few-links) low₄ levelled);
+              single = subst Single (sym sheet₄) single;
+              timely = subst (Timely 0) (sym schedule₄) (empty-timely s);
+              placed = omega (arith, kept₄ 9217 (omega arith), e₁ .placed);
+            }
 
-          schedule₅ : scheduleIn w₅ ≡ empty s
-          schedule₅ = schedule-frame w₁ w₅ (loaded₁ .tasks) (omega (arith, e₁ .placed)) (kept₅ 0 (omega arith)) (λ i h l. kept₅ i l) ∙ e₁ .schedule
+        pub going-first : Going w₄ 0 w₄
+        going-first =
+            let g = going₄ in
+            record { long = refl; low = λ i h. refl; sheet = refl; kept = g .kept; levelled = g .levelled; single = g .single; timely = g .timely; placed = g .placed }
 
-          empty₅ : (u : ℕ) → placeOf (scheduleIn w₅) u ≡ 16
-          unfolding placeOf
-          empty₅ u = ap (λ (σ : Schedule). getD (σ .on) u nowhere) schedule₅ ∙ getD-replicate (taskCount s) u nowhere
+        planned-by : {a : Answer Schedule} → a ≡ turns (sheetIn w₄) (barred (sheetIn w₄)) (taskCount (sheetIn w₄)) (scheduleIn w₄) → a ≡ planned s
+        unfolding planned plannedBy
+        planned-by e = e ∙ ap₂ (λ (x : Sheet) (σ : Schedule). turns x (barred x) (taskCount x) σ) sheet₄ schedule₄
 
-          standing₅ : (u : ℕ) → placed (scheduleIn w₅) u ≡ true → placeOf (scheduleIn w₅) u < scheduleIn w₅ .opened
-          unfolding placed
-          standing₅ u e = absurd (omega (arith, empty₅ u, ltb-true (placeOf (scheduleIn w₅) u) 16 e))
-
-          nought₅ : (i : ℕ) → 12304 ≤ i → i < 22528 → getD w₅ i 0 ≡ 0
-          nought₅ i h l = o₅ .high i h ∙ nought₄ i (omega arith) l
-
-          caches₅ : Caches s (scheduleIn w₅) w₅
-          caches₅ =
-              let r = ranged w loaded in
+        -- and after the last
+        module _ {w₅ : List ℕ} {j : ℕ} (g : Going w₄ j w₅) (few : j ≤ 256) where
+          afterwards : Afterwards w w₅
+          afterwards =
+              let sheet : sheetIn w₅ ≡ s = g .sheet ∙ sheet₄ in
               record {
-                outward = chained-frame (r .few-tasks) (r .few-links) (λ i h l. o₅ .low i (omega arith) ∙ o₄ .low i l) (subst (λ (x : Sheet). Chained Source x w₃) sheet₂ outward);
-                inward = chained-frame (r .few-tasks) (r .few-links) (λ i h l. o₅ .low i l) (subst (λ (x : Sheet). Chained Target x w₄) sheet₃ inward);
-                gathered = gathered-all (subst (λ (x : Sheet). GatheredTo x (linkCount x) w₅) sheet₄ gathered);
-                counted = counted-zero s (scheduleIn w₅) empty₅ (r .few-tasks) nought₅;
-                ends = ends-zero s (scheduleIn w₅) empty₅ nought₅;
-                closed = closed-zero s (scheduleIn w₅) empty₅;
+                long = g .long ∙ long₄;
+                low = λ i h. g .low i h ∙ low₄ i h;
+                loaded = g .kept .loaded;
+                sheet = sheet;
+                outward = subst (λ (x : Sheet). Chained Source x w₅) sheet (g .kept .caches .outward);
+                inward = subst (λ (x : Sheet). Chained Target x w₅) sheet (g .kept .caches .inward);
+                few-opened = g .kept .few-opened;
+                few-placed = omega (arith, order-long w₅, g .placed);
+                early = λ t. omega (arith, g .timely .early t);
               }
 
-          going₅ : Going w 0 w₅
-          going₅ =
-              record {
-                long = long₅;
-                low = low₅;
-                sheet = sheet₅;
-                kept =
-                    record {
-                      loaded = loaded₅;
-                      ranged = ranged w₅ loaded₅;
-                      few-opened = rw schedule₅ (omega arith);
-                      standing = standing₅;
-                      caches = subst (λ (x : Sheet). Caches x (scheduleIn w₅) w₅) (sym sheet₅) caches₅;
-                    };
-                levelled = subst (λ (x : Sheet). Levelled x w₅) (sym sheet₅) (levelled-frame (ranged w loaded .few-tasks) low₅ levelled);
-                single = subst Single (sym sheet₅) single;
-                timely = subst (Timely 0) (sym schedule₅) (empty-timely s);
-                placed = omega (arith, kept₅ 9217 (omega arith), e₁ .placed);
-              }
-
-          pub going-first : Going w₅ 0 w₅
-          going-first =
-              let g = going₅ in
-              record { long = refl; low = λ i h. refl; sheet = refl; kept = g .kept; levelled = g .levelled; single = g .single; timely = g .timely; placed = g .placed }
-
-          planned-by : {a : Answer Schedule} → a ≡ turns (sheetIn w₅) (barred (sheetIn w₅)) (taskCount (sheetIn w₅)) (scheduleIn w₅) → a ≡ planned s
-          unfolding planned plannedBy
-          planned-by e = e ∙ ap₂ (λ (x : Sheet) (σ : Schedule). turns x (barred x) (taskCount x) σ) sheet₅ schedule₅
-
-          -- and after the last
-          module _ {w₆ : List ℕ} {j : ℕ} (g : Going w₅ j w₆) (few : j ≤ 256) where
-            afterwards : Afterwards w w₆
-            afterwards =
-                let sheet : sheetIn w₆ ≡ s = g .sheet ∙ sheet₅ in
-                record {
-                  long = g .long ∙ long₅;
-                  low = λ i h. g .low i h ∙ low₅ i h;
-                  loaded = g .kept .loaded;
-                  sheet = sheet;
-                  outward = subst (λ (x : Sheet). Chained Source x w₆) sheet (g .kept .caches .outward);
-                  inward = subst (λ (x : Sheet). Chained Target x w₆) sheet (g .kept .caches .inward);
-                  few-opened = g .kept .few-opened;
-                  few-placed = omega (arith, order-long w₆, g .placed);
-                  early = λ t. omega (arith, g .timely .early t);
-                }
-
-            pub scheduled : {a : Answer Schedule} → a ≡ turns (sheetIn w₅) (barred (sheetIn w₅)) (taskCount (sheetIn w₅)) (scheduleIn w₅) → (a ≡ planned s) × Afterwards w w₆
-            scheduled e = (planned-by e, afterwards)
+          pub scheduled : {a : Answer Schedule} → a ≡ turns (sheetIn w₄) (barred (sheetIn w₄)) (taskCount (sheetIn w₄)) (scheduleIn w₄) → (a ≡ planned s) × Afterwards w w₅
+          scheduled e = (planned-by e, afterwards)

@@ -18,10 +18,8 @@ use Rattle.schedule.proofs.Rows.{schedule-frame, levelled-frame}
 use Rattle.schedule.proofs.Puts.{put-low, put-high, put-long, put-placed, schedule-put}
 use Rattle.chains.specs.Chains.{Chained}
 use Rattle.chains.specs.Frames.{Only}
-use Rattle.chains.specs.declared.End.{End}
 use Rattle.chains.specs.declared.End.the-variants.{Source, Target}
 use Rattle.chains.proofs.Frames.{same-sheet, same-loaded}
-use Rattle.chains.proofs.Building.{head-place}
 use Rattle.chains.proofs.Walks.{chained-frame}
 use Rattle.arrivals.specs.Kept.{known, Counted, Ends, Caches}
 use Rattle.arrivals.specs.Steps.{upTo, Beside, Placeable, Landed, Released, Enough}
@@ -125,11 +123,11 @@ module _ {w w₁ : List ℕ} {j t k a f p o : ℕ} (u : Putting w j t k a f p o)
       pub task₃ : t < taskCount (sheetIn w₃)
       task₃ = rw sheet₃ (u .can .task)
 
-      chain₃ : (e : End) → Chained e s w → Chained e s w₃
-      chain₃ e = chained-frame (range .few-tasks) (range .few-links) (λ i h l. high₃ i (omega (arith, head-place e)) ∙ low₂ i (omega (arith, head-place e)))
+      chain₃ : Chained Source s w₃
+      chain₃ = chained-frame (range .few-tasks) (range .few-links) (λ i h l. high₃ i (omega arith) ∙ low₂ i (omega arith)) (u .going .kept .caches .outward)
 
       pub outward₃ : Chained Source (sheetIn w₃) w₃
-      outward₃ = subst (λ (x : Sheet). Chained Source x w₃) (sym sheet₃) (chain₃ Source (u .going .kept .caches .outward))
+      outward₃ = subst (λ (x : Sheet). Chained Source x w₃) (sym sheet₃) chain₃
 
       pub landed₃ : Landed (sheetIn w₃) (scheduleIn w₃) t k f
       landed₃ =
@@ -149,14 +147,14 @@ module _ {w w₁ : List ℕ} {j t k a f p o : ℕ} (u : Putting w j t k a f p o)
         pub schedule₄ : scheduleIn w₄ ≡ σ′
         schedule₄ = beside-schedule loaded₃ b₄ few₃ ∙ schedule₃
 
-        chain₄ : (e : End) → Chained e s w → Chained e s w₄
-        chain₄ e d = chained-frame (range .few-tasks) (range .few-links) (λ i h l. b₄ .low i (omega (arith, head-place e))) (chain₃ e d)
+        low₄ : (i : ℕ) → i < 8192 → getD w₄ i 0 ≡ getD w i 0
+        low₄ i h = b₄ .low i (omega arith) ∙ low₃ i h
 
         caches₄ : Caches s σ′ w₄
         caches₄ =
             record {
-              outward = chain₄ Source (u .going .kept .caches .outward);
-              inward = chain₄ Target (u .going .kept .caches .inward);
+              outward = chained-frame (range .few-tasks) (range .few-links) (λ i h l. b₄ .low i (omega arith)) chain₃;
+              inward = chained-frame (range .few-tasks) (range .few-links) (λ i h l. low₄ i (omega arith)) (u .going .kept .caches .inward);
               gathered = gathered-frame (range .few-tasks) (λ i h l. b₄ .low i (omega arith) ∙ high₃ i (omega arith) ∙ low₂ i (omega arith)) (u .going .kept .caches .gathered);
               counted = subst (λ (τ : Schedule). Counted s τ (known s τ) w₄) schedule₃ (subst (λ (x : Sheet). Counted x (scheduleIn w₃) (known x (scheduleIn w₃)) w₄) sheet₃ counted);
               ends = ends-frame (λ i h l. b₄ .mid i h l ∙ high₃ i (omega arith) ∙ r₂ .low i l) ends;
@@ -169,9 +167,6 @@ module _ {w w₁ : List ℕ} {j t k a f p o : ℕ} (u : Putting w j t k a f p o)
             go : Dec (v ≡ t) → placeOf σ′ v < σ′ .opened
             go (yes d) = omega (arith, ap (placeOf σ′) d, placing.place-same s σ t k a f (u .can))
             go (no d) = omega (arith, placing.place-other s σ t k a f (u .can) v d, u .going .kept .standing v (sym (placing.placed-other s σ t k a f (u .can) v d) ∙ e))
-
-        low₄ : (i : ℕ) → i < 8192 → getD w₄ i 0 ≡ getD w i 0
-        low₄ i h = b₄ .low i (omega arith) ∙ low₃ i h
 
         pub going₄ : Going w (j + 1) w₄
         going₄ =
@@ -187,7 +182,7 @@ module _ {w w₁ : List ℕ} {j t k a f p o : ℕ} (u : Putting w j t k a f p o)
                     standing = rw schedule₄ standing₄;
                     caches = subst (λ (x : Sheet). Caches x (scheduleIn w₄) w₄) (sym sheet₄) (subst (λ (τ : Schedule). Caches s τ w₄) (sym schedule₄) caches₄);
                   };
-              levelled = subst (λ (x : Sheet). Levelled x w₄) (sym sheet₄) (levelled-frame (range .few-tasks) low₄ (u .going .levelled));
+              levelled = subst (λ (x : Sheet). Levelled x w₄) (sym sheet₄) (levelled-frame (range .few-tasks) (range .few-links) low₄ (u .going .levelled));
               single = subst Single (sym sheet₄) (u .going .single);
               timely = subst (Timely (j + 1)) (sym schedule₄) (put-timely σ j t k a f (u .going .timely) (u .early));
               placed = omega (arith, b₄ .low 9217 (omega arith), placed₃, u .placed-is, u .going .placed);

@@ -146,7 +146,6 @@ pub fn schedule(w: &mut [u32]) -> Planned
     clear(w);
     arrivals::clear(w);
     chains::chain(w, End::Source);
-    chains::chain(w, End::Target);
     arrivals::gather(w);
     take_turns(w)
 }

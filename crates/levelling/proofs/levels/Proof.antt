@@ -5,7 +5,7 @@ use Rattle.levelling.proofs.levels.Statement.{statement}
 use Rattle.levelling.proofs.levels.Tie as tie
 
 chain-requires : tie.Need-chain-requires
-chain-requires c κs = held (c .before .before .pre)
+chain-requires c κs = c .before .before .pre
 
 peel-requires : tie.Need-peel-requires
 peel-requires c κs = peel-asks (held (c .before .before .before .before .before .before .pre)) (c .before .before .before .chain .ensures)
@@ -14,7 +14,7 @@ tasks-requires : tie.Need-tasks-requires
 tasks-requires c κs = find-goes (held (c .before .before .before .before .before .before .before .before .before .before .pre)) (c .before .before .before .before .before .before .before .chain .ensures) (c .before .before .before .peel .ensures .0) .0 .loaded
 
 returns : tie.Need-returns
-returns c = levels-free (held (c .before .before .before .before .before .before .before .before .before .before .before .before .pre)) (c .before .before .before .before .before .before .before .before .before .chain .ensures .0) (c .before .before .before .before .before .peel .ensures) (c .before .tasks .ensures .0) (c .if1 .taken)
+returns c = levels-free (held (c .before .before .before .before .before .before .before .before .before .before .before .before .pre)) (c .before .before .before .before .before .before .before .before .before .chain .ensures) (c .before .before .before .before .before .peel .ensures) (c .before .tasks .ensures .0) (c .if1 .taken)
 
 find-requires : tie.Need-find-requires
 find-requires c κs = find-goes (held (c .before .before .before .before .before .before .before .before .before .before .before .before .before .pre)) (c .before .before .before .before .before .before .before .before .before .before .chain .ensures) (c .before .before .before .before .before .before .peel .ensures .0)

@@ -14,11 +14,11 @@ Inv-loop w₀ goal k v m q₀ l₀ w q l = SpreadTo w₀ goal v q l w
 abbrev μ-loop : tie.MeasureT-loop
 μ-loop w₀ goal k v m q₀ l₀ w q l = m - l
 
-head-requires : tie.Need-head-requires Inv-loop μ-loop
-head-requires c κs = (c .before .before .before .before .pre .0, (c .before .before .before .before .pre .1 .0, c .before .before .before .before .pre .1 .1 .task))
+first-requires : tie.Need-first-requires Inv-loop μ-loop
+first-requires c κs = (c .before .before .before .before .pre .0 .loaded, (c .before .before .before .before .pre .1 .0, c .before .before .before .before .pre .1 .1 .task))
 
 loop-holds : tie.Need-loop-holds Inv-loop μ-loop
-loop-holds c = let a = c .before .before .before .before .before in spread-starts (now (a .args .w)) (a .args .goal) (a .args .v) (a .args .k) (c .head .result) (a .pre .0) (a .pre .1 .0) (a .pre .1 .1) (c .head .ensures .0)
+loop-holds c = let a = c .before .before .before .before .before in spread-starts (now (a .args .w)) (a .args .goal) (a .args .v) (a .args .k) (c .first .result) (a .pre .0) (a .pre .1 .0) (a .pre .1 .1) (c .first .ensures .0)
 
 source-requires : tie.Need-source-requires Inv-loop μ-loop
 source-requires c κs = let v = c .before .before .loop .inv in (beside-held (c .before .before .before .before .before .before .before .before .pre .0) (v .beside) .loaded, spread-source (c .before .before .before .before .before .before .before .before .pre .0) v (omega (arith, c .before .loop-test .taken, c .before .before .before .before .before .links .ensures .0)))
@@ -54,7 +54,7 @@ walk-into-spec =
     Inv-loop
     μ-loop
     (λ c κs. search needs)
-    head-requires
+    first-requires
     loop-holds
     source-requires
     same-length

@@ -13,11 +13,11 @@ Inv-loop w₀ k v m q₀ l₀ w q l = WalkTo w₀ v q l w
 abbrev μ-loop : tie.MeasureT-loop
 μ-loop w₀ k v m q₀ l₀ w q l = m - l
 
-head-requires : tie.Need-head-requires Inv-loop μ-loop
-head-requires c κs = (c .before .before .before .before .pre .0, (c .before .before .before .before .pre .1 .0, c .before .before .before .before .pre .1 .1 .task))
+first-requires : tie.Need-first-requires Inv-loop μ-loop
+first-requires c κs = (c .before .before .before .before .pre .0 .loaded, (c .before .before .before .before .pre .1 .0, c .before .before .before .before .pre .1 .1 .task))
 
 loop-holds : tie.Need-loop-holds Inv-loop μ-loop
-loop-holds c = let a = c .before .before .before .before .before in walk-starts (now (a .args .w)) (a .args .v) (a .args .k) (c .head .result) (a .pre .0) (a .pre .1 .0) (a .pre .1 .1) (c .head .ensures .0)
+loop-holds c = let a = c .before .before .before .before .before in walk-starts (now (a .args .w)) (a .args .v) (a .args .k) (c .first .result) (a .pre .0) (a .pre .1 .0) (a .pre .1 .1) (c .first .ensures .0)
 
 visit-requires : tie.Need-visit-requires Inv-loop μ-loop
 visit-requires c κs = walk-asks (c .before .before .before .before .before .before .before .before .pre .0) (c .before .before .loop .inv) (omega (arith, c .before .loop-test .taken, c .before .before .before .before .before .links .ensures .0))
@@ -44,7 +44,7 @@ walk-spec =
     Inv-loop
     μ-loop
     (λ c κs. search needs)
-    head-requires
+    first-requires
     loop-holds
     visit-requires
     next-requires
