@@ -1,3 +1,4 @@
+-- The laws of `answers`.
 pub mod Opening
 pub mod Bundling
 pub mod Running

@@ -1,2 +1,3 @@
+-- The definitions of `answers`.
 pub mod Values
 pub mod Parts

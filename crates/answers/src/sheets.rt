@@ -29,7 +29,7 @@ fn copy_levels(w: &[u32], out: &mut [u32])
     let n = tables::tasks(w);
     let mut t: usize = 0;
     while t < n {
-        out[t] = w[4624 + t];
+        out[t] = w[2320 + t];
         t += 1;
     }
 }

@@ -8,10 +8,11 @@ use borrow.Author.Tests.{ne-eqb, le-ltb}
 use lib.ListN.{getD}
 use Rattle.folds.specs.Folds.{pick, both, sum, greatest}
 use Rattle.folds.proofs.Laws.{sum-zeros, greatest-le}
-use Rattle.sheet.specs.Sheet.{Sheet, taskCount, linkCount, sourceOf, targetOf, bytesOf}
+use Rattle.sheet.specs.Sheet.{Sheet, taskCount, linkCount, sourceOf, targetOf}
 use Rattle.planner.specs.Schedule.{Schedule, placed, stands, placeOf}
 use Rattle.planner.specs.Placing.{endBy, endOf, storeBy, bytesBy, storeOn}
 use Rattle.arrivals.specs.Kept.{countedBy, into, intoFrom, intoOff, waits, reachBy, oneBy, known, Counted, Ends, Closed}
+use Rattle.arrivals.proofs.Fours.{four-zero}
 
 module _ (s : Sheet) (σ : Schedule) (free : (u : ℕ) → placeOf σ u ≡ 16) where
   not-placed : (u : ℕ) → placed σ u ≡ false
@@ -36,16 +37,15 @@ module _ (s : Sheet) (σ : Schedule) (free : (u : ℕ) → placeOf σ u ≡ 16) 
   no-most : (q : ℕ → Bool) (x : ℕ → ℕ) → greatest (linkCount s) (countedBy q x (known s σ)) ≡ 0
   no-most q x = omega (arith, greatest-le (linkCount s) (countedBy q x (known s σ)) 0 (λ l h. omega (arith, unknown q x l)))
 
-  pub counted-zero : {w : List ℕ} → taskCount s ≤ 256 → ((i : ℕ) → 12304 ≤ i → i < 22528 → getD w i 0 ≡ 0) → Counted s σ (known s σ) w
+  pub counted-zero : {w : List ℕ} → taskCount s ≤ 256 → ((i : ℕ) → 6688 ≤ i → i < 8816 → getD w i 0 ≡ 0) → Counted s σ (known s σ) w
   counted-zero {w} few z =
       record {
-        seen = λ t h. z (12304 + t) (omega arith) (omega arith) ∙ sym (no-sum (into s t) oneBy);
-        arrived = λ t h. z (12560 + t) (omega arith) (omega arith) ∙ sym (no-most (into s t) (reachBy s σ));
-        main = λ t h. z (12560 + t) (omega arith) (omega arith) ∙ sym (no-most (intoFrom s σ t (getD w (13072 + t) 0)) (reachBy s σ));
-        off = λ t h. z (12816 + t) (omega arith) (omega arith) ∙ sym (no-most (intoOff s σ t (getD w (13072 + t) 0)) (reachBy s σ));
-        pending = λ k h. z (13360 + k) (omega arith) (omega arith) ∙ sym (no-sum (waits s σ k) oneBy);
-        count = λ t k h g. z (14336 + (16 * t + k)) (omega arith) (omega arith) ∙ sym (no-sum (intoFrom s σ t k) oneBy);
-        local = λ t k h g. z (18432 + (16 * t + k)) (omega arith) (omega arith) ∙ sym (no-sum (intoFrom s σ t k) (bytesOf s));
+        seen = λ t h. z (6688 + t) (omega arith) (omega arith) ∙ sym (no-sum (into s t) oneBy);
+        arrived = λ t h. z (6944 + t) (omega arith) (omega arith) ∙ sym (no-most (into s t) (reachBy s σ));
+        main = λ t h. z (6944 + t) (omega arith) (omega arith) ∙ sym (no-most (intoFrom s σ t (getD w (7456 + t) 0)) (reachBy s σ));
+        off = λ t h. z (7200 + t) (omega arith) (omega arith) ∙ sym (no-most (intoOff s σ t (getD w (7456 + t) 0)) (reachBy s σ));
+        pending = λ k h. z (7744 + k) (omega arith) (omega arith) ∙ sym (no-sum (waits s σ k) oneBy);
+        packed = λ t j h g. z (7792 + (4 * t + j)) (omega arith) (omega arith) ∙ sym (four-zero _ (λ i p. no-sum (intoFrom s σ t (4 * j + i)) oneBy));
       }
 
   no-end : (k : ℕ) → k < 16 → endOf s σ k ≡ 0
@@ -61,9 +61,9 @@ module _ (s : Sheet) (σ : Schedule) (free : (u : ℕ) → placeOf σ u ≡ 16) 
         sum-zeros (linkCount s) (bytesBy s σ k) (λ l g. rw (nowhere-on (targetOf s l) k h)),
       )
 
-  pub ends-zero : {w : List ℕ} → ((i : ℕ) → 12304 ≤ i → i < 22528 → getD w i 0 ≡ 0) → Ends s σ w
+  pub ends-zero : {w : List ℕ} → ((i : ℕ) → 6688 ≤ i → i < 8816 → getD w i 0 ≡ 0) → Ends s σ w
   ends-zero z =
-      record { ends = λ k h. z (13328 + k) (omega arith) (omega arith) ∙ sym (no-end k h); stores = λ k h. z (13344 + k) (omega arith) (omega arith) ∙ sym (no-store k h) }
+      record { ends = λ k h. z (7712 + k) (omega arith) (omega arith) ∙ sym (no-end k h); stores = λ k h. z (7728 + k) (omega arith) (omega arith) ∙ sym (no-store k h) }
 
   pub closed-zero : Closed s σ
   closed-zero l h e = absurd (true≢false (sym e ∙ not-placed (targetOf s l)))

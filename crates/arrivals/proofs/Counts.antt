@@ -1,11 +1,12 @@
 -- Folds over the links that are counted: one more is counted.
-use Prim.Native.Nat.{ℕ, _+_, _≤_, _<_, max}
+use Prim.Native.Nat.{ℕ, zero, suc, _+_, _≤_, _<_, max}
 use mathlib.Core.Bool.{Bool, true, false, not, true≢false}
 use mathlib.Core.Path.{_≡_, refl, sym, _∙_}
 use mathlib.Core.Logic.{_≢_}
 use native.Mathlib.Omega.{arith}
-use Rattle.folds.specs.Folds.{pick, both, sum, greatest}
-use Rattle.folds.proofs.Laws.{sum-point, greatest-point, greatest-le, greatest-mono, term-le-greatest}
+use native.Mathlib.Decide.{decLt}
+use Rattle.folds.specs.Folds.{pick, both, either, any, sum, greatest}
+use Rattle.folds.proofs.Laws.{none-any, sum-mono, sum-point, greatest-point, greatest-le, greatest-mono, term-le-greatest}
 use Rattle.arrivals.specs.Kept.{countedBy}
 
 module _ (q : ℕ → Bool) (x : ℕ → ℕ) (c c′ : ℕ → Bool) (i : ℕ) (was : c i ≡ false) (now : c′ i ≡ true) where
@@ -48,6 +49,50 @@ count-agree q q′ x x′ c c′ l e h = go (c l) refl
     go : (b : Bool) → c l ≡ b → pick (both (q l) (c l)) (x l) 0 ≡ pick (both (q′ l) (c′ l)) (x′ l) 0
     go true p = let a = h p in rw (← e, a .0, a .1)
     go false p = rw (← e, p) (off (q l) (x l) ∙ sym (off (q′ l) (x′ l)))
+
+-- at most one i below n has p: the number of those with p is 1 or 0
+pub sum-single : (n : ℕ) (p : ℕ → Bool) → ((i j : ℕ) → i < n → j < n → p i ≡ true → p j ≡ true → i ≡ j) → sum n (λ i. pick (p i) 1 0) ≡ pick (any n p) 1 0
+unfolding sum any
+sum-single zero p h = refl
+sum-single (suc n) p h = go (p n) refl (sum-single n p (λ i j a b. h i j (omega arith) (omega arith)))
+  where
+    others : p n ≡ true → (i : ℕ) → i < n → p i ≡ false
+    others e i k = at (p i) refl
+      where
+        at : (b : Bool) → p i ≡ b → p i ≡ false
+        at true q = let z : i ≡ n = h i n (omega arith) (omega arith) q e in absurd (omega arith)
+        at false q = q
+
+    go : (b : Bool) → p n ≡ b → sum n (λ i. pick (p i) 1 0) ≡ pick (any n p) 1 0 → sum n (λ i. pick (p i) 1 0) + pick (p n) 1 0 ≡ pick (either (any n p) (p n)) 1 0
+    go true e ih =
+        let a : any n p ≡ false = none-any n p (others e) in
+        let b : sum n (λ i. pick (p i) 1 0) ≡ 0 = ih ∙ rw a in
+        rw (a, e) (omega arith)
+    go false e ih = rw e (last (any n p) ih)
+      where
+        last : (b : Bool) → sum n (λ i. pick (p i) 1 0) ≡ pick b 1 0 → sum n (λ i. pick (p i) 1 0) + 0 ≡ pick (either b false) 1 0
+        last true q = omega arith
+        last false q = omega arith
+
+-- a longer sum is no smaller
+pub sum-longer : (b a : ℕ) (f : ℕ → ℕ) → a ≤ b → sum a f ≤ sum b f
+unfolding sum
+sum-longer zero a f h = let e : a ≡ 0 = omega arith in rw e (omega arith)
+sum-longer (suc b) a f h = go (decLt b a) (sum-longer b a f)
+  where
+    go : Dec (b < a) → (a ≤ b → sum a f ≤ sum b f) → sum a f ≤ sum b f + f b
+    go (yes p) ih = let e : a ≡ suc b = omega arith in rw e (omega arith)
+    go (no p) ih = omega (arith, ih (omega arith))
+
+-- no more of the counted ones are asked for by two tests than by one
+pub counts-from-le : (n : ℕ) (q p c : ℕ → Bool) (x : ℕ → ℕ) → sum n (countedBy (λ l. both (q l) (p l)) x c) ≤ sum n (countedBy q x c)
+unfolding countedBy
+counts-from-le n q p c x = sum-mono n _ _ (λ l h. part (q l) (p l) (c l) (x l))
+  where
+    part : (a b d : Bool) (y : ℕ) → pick (both (both a b) d) y 0 ≤ pick (both a d) y 0
+    part true true d y = omega arith
+    part true false d y = omega arith
+    part false b d y = omega arith
 
 -- The two greatest: from those links that p marks, and from the others.
 module _ (n : ℕ) (q : ℕ → Bool) (x : ℕ → ℕ) (c : ℕ → Bool) where

@@ -2,13 +2,14 @@
 use Prim.Native.Nat.{ℕ, _+_, _*_, _≤_, _<_}
 use mathlib.Core.Bool.{Bool, true}
 use mathlib.Core.Path.{_≡_, refl, ap, ap₂, sym, _∙_, subst}
+use mathlib.Core.Logic.{inl, inr}
 use mathlib.Core.List.{List}
 use native.Mathlib.Omega.{arith}
 use native.Mathlib.Decide.{ℕ-discrete}
 use borrow.Author.Tests.{eq-eqb, ne-eqb}
 use lib.ListN.{length, getD, set, length-set}
 use lib.Seq.{getD-set-same, getD-set-other}
-use Rattle.workspace.specs.Area.{fixed}
+use Rattle.workspace.specs.Area.{fixed, ClearIs}
 use Rattle.folds.specs.Folds.{both, sum}
 use Rattle.folds.proofs.Tests.{pick-le}
 use Rattle.folds.proofs.Loops.{sum-zero, sum-one}
@@ -20,53 +21,44 @@ use Rattle.chains.proofs.Frames.{only-none, only-set, only-trans, only-sheet}
 use Rattle.arrivals.specs.Kept.{countedBy, into, oneBy, Gathered}
 use Rattle.arrivals.specs.Steps.{Zero, GatheredTo}
 
-pub zero-none : (w : List ℕ) → Zero 11792 w
-zero-none w = record { at = λ i h k. absurd (omega arith) }
+-- a range that was cleared
+pub cleared : {a e : ℕ} {w w′ : List ℕ} → ClearIs w w′ a e → Only a e w w′ × Zero a e w′
+cleared c = (record { long = c .long; low = λ i h. c .other i (inl h); high = λ i h. c .other i (inr h) }, record { at = c .zeros })
 
-pub zero-more : {w : List ℕ} {e : ℕ} → e < length w → Zero e w → Zero (e + 1) (set w e 0)
-zero-more {w} {e} l z = record { at = λ i h k. go i h k (ℕ-discrete i e) }
-  where
-    go : (i : ℕ) → 11792 ≤ i → i < e + 1 → Dec (i ≡ e) → getD (set w e 0) i 0 ≡ 0
-    go i h k (yes q) = rw q (getD-set-same w e 0 0 l)
-    go i h k (no q) = getD-set-other w e i 0 0 q ∙ z .at i h (omega arith)
-
-pub zero-at : {w : List ℕ} {e f : ℕ} → f ≤ e → Zero e w → Zero f w
-zero-at l z = record { at = λ i h k. z .at i h (omega arith) }
-
-pub gather-none : {s : Sheet} {w : List ℕ} → taskCount s ≤ 256 → ((i : ℕ) → 11792 ≤ i → i < 12304 → getD w i 0 ≡ 0) → GatheredTo s 0 w
-gather-none few z = record { number = λ t h. z (11792 + t) (omega arith) (omega arith) ∙ sym (sum-zero _); bytes = λ t h. z (12048 + t) (omega arith) (omega arith) ∙ sym (sum-zero _) }
+pub gather-none : {s : Sheet} {w : List ℕ} → taskCount s ≤ 256 → ((i : ℕ) → 6176 ≤ i → i < 6688 → getD w i 0 ≡ 0) → GatheredTo s 0 w
+gather-none few z = record { number = λ t h. z (6176 + t) (omega arith) (omega arith) ∙ sym (sum-zero _); bytes = λ t h. z (6432 + t) (omega arith) (omega arith) ∙ sym (sum-zero _) }
 
 module _ (s : Sheet) (w : List ℕ) (l : ℕ) (long : fixed ≤ length w) (ranged : Ranged s) (l-in : l < linkCount s) (d : GatheredTo s l w) where
   abbrev v : ℕ
   v = targetOf s l
 
-  module _ (x y : ℕ) (ex : x ≡ getD w (11792 + targetOf s l) 0 + 1) (ey : y ≡ getD w (12048 + targetOf s l) 0 + bytesOf s l) where
+  module _ (x y : ℕ) (ex : x ≡ getD w (6176 + targetOf s l) 0 + 1) (ey : y ≡ getD w (6432 + targetOf s l) 0 + bytesOf s l) where
     abbrev next : List ℕ
-    next = set (set w (11792 + targetOf s l) x) (12048 + targetOf s l) y
+    next = set (set w (6176 + targetOf s l) x) (6432 + targetOf s l) y
 
     v-in : (v < taskCount s) × (taskCount s ≤ 256)
     v-in = (ranged .target l l-in, ranged .few-tasks)
 
-    number′ : (t : ℕ) → t < taskCount s → Dec (t ≡ v) → getD next (11792 + t) 0 ≡ sum (l + 1) (countedBy (into s t) oneBy (λ i. true))
+    number′ : (t : ℕ) → t < taskCount s → Dec (t ≡ v) → getD next (6176 + t) 0 ≡ sum (l + 1) (countedBy (into s t) oneBy (λ i. true))
     unfolding countedBy
     number′ t h (yes e) =
         let a = v-in in
-        rw e (getD-set-other (set w (11792 + v) x) (12048 + v) (11792 + v) y 0 (omega arith) ∙ getD-set-same w (11792 + v) x 0 (omega arith) ∙ ex ∙ ap (λ (z : ℕ). z + 1) (d .number v (a .0))
+        rw e (getD-set-other (set w (6176 + v) x) (6432 + v) (6176 + v) y 0 (omega arith) ∙ getD-set-same w (6176 + v) x 0 (omega arith) ∙ ex ∙ ap (λ (z : ℕ). z + 1) (d .number v (a .0))
         ∙ sym (sum-one l (countedBy (into s v) oneBy (λ i. true)) ∙ rw (eq-eqb v v refl)))
     number′ t h (no e) =
         let a = v-in in
-        getD-set-other (set w (11792 + v) x) (12048 + v) (11792 + t) y 0 (omega arith) ∙ getD-set-other w (11792 + v) (11792 + t) x 0 (λ q. e (omega arith)) ∙ d .number t h
+        getD-set-other (set w (6176 + v) x) (6432 + v) (6176 + t) y 0 (omega arith) ∙ getD-set-other w (6176 + v) (6176 + t) x 0 (λ q. e (omega arith)) ∙ d .number t h
         ∙ sym (sum-one l (countedBy (into s t) oneBy (λ i. true)) ∙ rw (ne-eqb v t (λ q. e (sym q))) (omega arith))
 
-    bytes′ : (t : ℕ) → t < taskCount s → Dec (t ≡ v) → getD next (12048 + t) 0 ≡ sum (l + 1) (countedBy (into s t) (bytesOf s) (λ i. true))
+    bytes′ : (t : ℕ) → t < taskCount s → Dec (t ≡ v) → getD next (6432 + t) 0 ≡ sum (l + 1) (countedBy (into s t) (bytesOf s) (λ i. true))
     unfolding countedBy
     bytes′ t h (yes e) =
         let a = v-in in
-        rw e (getD-set-same (set w (11792 + v) x) (12048 + v) y 0 (simp length-set (omega arith)) ∙ ey ∙ ap (λ (z : ℕ). z + bytesOf s l) (d .bytes v (a .0))
+        rw e (getD-set-same (set w (6176 + v) x) (6432 + v) y 0 (simp length-set (omega arith)) ∙ ey ∙ ap (λ (z : ℕ). z + bytesOf s l) (d .bytes v (a .0))
         ∙ sym (sum-one l (countedBy (into s v) (bytesOf s) (λ i. true)) ∙ rw (eq-eqb v v refl)))
     bytes′ t h (no e) =
         let a = v-in in
-        getD-set-other (set w (11792 + v) x) (12048 + v) (12048 + t) y 0 (λ q. e (omega arith)) ∙ getD-set-other w (11792 + v) (12048 + t) x 0 (omega arith) ∙ d .bytes t h
+        getD-set-other (set w (6176 + v) x) (6432 + v) (6432 + t) y 0 (λ q. e (omega arith)) ∙ getD-set-other w (6176 + v) (6432 + t) x 0 (omega arith) ∙ d .bytes t h
         ∙ sym (sum-one l (countedBy (into s t) (bytesOf s) (λ i. true)) ∙ rw (ne-eqb v t (λ q. e (sym q))) (omega arith))
 
     gather-more : GatheredTo s (l + 1) next
@@ -80,30 +72,30 @@ module _ (s : Sheet) (w : List ℕ) (l : ℕ) (long : fixed ≤ length w) (range
   unfolding countedBy
   few-bytes q = sum-le l 65535 _ (λ i h. pick-le (both (q i) true) (bytesOf s i) 0 65535 (omega (arith, ranged .sizes i (omega arith))) (omega arith))
 
-  pub gather-small : (t : ℕ) → t < taskCount s → (getD w (11792 + t) 0 ≤ 1024) × (getD w (12048 + t) 0 ≤ 67107840)
+  pub gather-small : (t : ℕ) → t < taskCount s → (getD w (6176 + t) 0 ≤ 1024) × (getD w (6432 + t) 0 ≤ 67107840)
   gather-small t h =
       let z = ranged .few-links in
       (omega (arith, d .number t h, few-terms (into s t)), omega (arith, d .bytes t h, few-bytes (into s t)))
 
   -- as the code writes it
-  pub gathered-by : (w₂ : List ℕ) {t b x y u z : ℕ} → t ≡ targetOf s l → b ≡ bytesOf s l → x ≡ getD w (11792 + t) 0 → y ≡ getD w (12048 + t) 0 → u ≡ x + 1 → z ≡ y + b
-      → w₂ ≡ set (set w (11792 + t) u) (12048 + t) z → Only 11792 12304 w w₂ × GatheredTo s (l + 1) w₂
+  pub gathered-by : (w₂ : List ℕ) {t b x y u z : ℕ} → t ≡ targetOf s l → b ≡ bytesOf s l → x ≡ getD w (6176 + t) 0 → y ≡ getD w (6432 + t) 0 → u ≡ x + 1 → z ≡ y + b
+      → w₂ ≡ set (set w (6176 + t) u) (6432 + t) z → Only 6176 6688 w w₂ × GatheredTo s (l + 1) w₂
   gathered-by w₂ {t} {b} {x} {y} {u} {z} et eb ex ey eu ez e =
-      let eu′ : u ≡ getD w (11792 + targetOf s l) 0 + 1 = eu ∙ ap (λ (p : ℕ). p + 1) (ex ∙ ap (λ (p : ℕ). getD w (11792 + p) 0) et) in
-      let ez′ : z ≡ getD w (12048 + targetOf s l) 0 + bytesOf s l = ez ∙ ap₂ _+_ (ey ∙ ap (λ (p : ℕ). getD w (12048 + p) 0) et) eb in
-      let e′ : w₂ ≡ set (set w (11792 + targetOf s l) u) (12048 + targetOf s l) z = e ∙ ap (λ (p : ℕ). set (set w (11792 + p) u) (12048 + p) z) et in
+      let eu′ : u ≡ getD w (6176 + targetOf s l) 0 + 1 = eu ∙ ap (λ (p : ℕ). p + 1) (ex ∙ ap (λ (p : ℕ). getD w (6176 + p) 0) et) in
+      let ez′ : z ≡ getD w (6432 + targetOf s l) 0 + bytesOf s l = ez ∙ ap₂ _+_ (ey ∙ ap (λ (p : ℕ). getD w (6432 + p) 0) et) eb in
+      let e′ : w₂ ≡ set (set w (6176 + targetOf s l) u) (6432 + targetOf s l) z = e ∙ ap (λ (p : ℕ). set (set w (6176 + p) u) (6432 + p) z) et in
       let q = ranged .target l l-in in
       let r = ranged .few-tasks in (
-        subst (Only 11792 12304 w) (sym e′)
-            (only-set (12048 + targetOf s l) z (omega arith) (omega arith) (only-set (11792 + targetOf s l) u (omega arith) (omega arith) (only-none 11792 12304 w))),
+        subst (Only 6176 6688 w) (sym e′)
+            (only-set (6432 + targetOf s l) z (omega arith) (omega arith) (only-set (6176 + targetOf s l) u (omega arith) (omega arith) (only-none 6176 6688 w))),
         subst (GatheredTo s (l + 1)) (sym e′) (gather-more u z eu′ ez′),
       )
 
 -- the loop, whose sheet stays as it was
-pub gathers-still : {l : ℕ} {w w′ : List ℕ} → Loaded w → Only 11792 12304 w w′ → GatheredTo (sheetIn w) l w′ → GatheredTo (sheetIn w′) l w′
+pub gathers-still : {l : ℕ} {w w′ : List ℕ} → Loaded w → Only 6176 6688 w w′ → GatheredTo (sheetIn w) l w′ → GatheredTo (sheetIn w′) l w′
 gathers-still {l} {w} {w′} h o d = subst (λ (s : Sheet). GatheredTo s l w′) (sym (only-sheet (omega arith) h o)) d
 
-pub gathers-more : {l : ℕ} {w w′ w″ : List ℕ} → Loaded w → Only 11792 12304 w w′ → Only 11792 12304 w′ w″ × GatheredTo (sheetIn w′) l w″ → Only 11792 12304 w w″ × GatheredTo (sheetIn w) l w″
+pub gathers-more : {l : ℕ} {w w′ w″ : List ℕ} → Loaded w → Only 6176 6688 w w′ → Only 6176 6688 w′ w″ × GatheredTo (sheetIn w′) l w″ → Only 6176 6688 w w″ × GatheredTo (sheetIn w) l w″
 gathers-more {l} {w} {w′} {w″} h o d = (only-trans o (d .0), subst (λ (s : Sheet). GatheredTo s l w″) (only-sheet (omega arith) h o) (d .1))
 
 pub gathers-at : {l m : ℕ} {s : Sheet} {w : List ℕ} → l ≡ m → GatheredTo s l w → GatheredTo s m w

@@ -1,9 +1,15 @@
+-- The laws of `arrivals`.
 pub mod Counts
+pub mod Fours
+pub mod Few
+pub mod Singles
 pub mod Reaches
 pub mod Choices
 pub mod Words
 pub mod Links
 pub mod Walks
+pub mod Numbered
+pub mod Surveys
 pub mod Placing
 pub mod Settling
 pub mod Gathering

@@ -1,5 +1,5 @@
 -- One more link out of t is counted.
-use Prim.Native.Nat.{ℕ, _+_, _*_, _≤_, _<_, max}
+use Prim.Native.Nat.{ℕ, _+_, _*_, _/_, _%_, _^_, _≤_, _<_, max}
 use mathlib.Core.Bool.{Bool, true, false, not}
 use mathlib.Core.Path.{_≡_, ap, sym, _∙_, subst}
 use mathlib.Core.Logic.{_≢_}
@@ -11,16 +11,17 @@ use lib.ListN.{length, getD}
 use lib.Dec.{eqb, ltb}
 use Rattle.workspace.specs.Area.{fixed}
 use Rattle.folds.specs.Folds.{pick, both, either, sum, greatest}
-use Rattle.folds.proofs.Tests.{pick-le}
-use Rattle.folds.proofs.Laws.{sum-le}
-use Rattle.sheet.specs.Sheet.{Sheet, taskCount, linkCount, sourceOf, targetOf, costOf, bytesOf}
+use Rattle.folds.proofs.Tests.{both-parts}
+use Rattle.sheet.specs.Sheet.{Sheet, taskCount, linkCount, sourceOf, targetOf, costOf}
 use Rattle.sheet.specs.Tables.{Ranged}
 use Rattle.planner.specs.Schedule.{Schedule, placed, stands, placeOf, finishOf}
-use Rattle.arrivals.specs.Kept.{countedBy, into, intoFrom, intoOff, waits, reachBy, oneBy, Counted}
+use Rattle.arrivals.specs.Kept.{countedBy, into, intoFrom, intoOff, waits, reachBy, oneBy, fourOf, Single, Counted}
 use Rattle.arrivals.specs.Reach.{further}
 use Rattle.arrivals.specs.Steps.{countWords, upTo, Beside, Landed}
 use Rattle.arrivals.specs.declared.Reach.{Reach}
 use Rattle.arrivals.proofs.Counts.{sum-count, greatest-count}
+use Rattle.arrivals.proofs.Fours.{four-cong, four-more, four-small}
+use Rattle.arrivals.proofs.Few.{counts-few, few-from}
 use Rattle.arrivals.proofs.Reaches.{Reaches, reaches-more}
 use Rattle.arrivals.proofs.Words.{Wrote, count-wrote}
 
@@ -44,12 +45,8 @@ up-same s σ t i j d = go (decLt j i)
     go (yes h) = rw (lt-ltb j i h, lt-ltb j (i + 1) (omega arith))
     go (no h) = rw (le-ltb j i (omega arith), le-ltb j (i + 1) (omega arith))
 
-module _ (s : Sheet) (σ : Schedule) (w w′ : List ℕ) (t i k f : ℕ) (few : taskCount s ≤ 256) (k-in : k < 16) (i-in : i < linkCount s) (to : targetOf s i < taskCount s)
-    (own : sourceOf s i ≡ t) (landed : Landed s σ t k f) (counted : Counted s σ (upTo s σ t i) w) (v seen y pending number bytes : ℕ) (reach : Reach)
-    (ev : v ≡ targetOf s i) (ey : y ≡ f + costOf s i) (es : seen ≡ getD w (12304 + v) 0 + 1)
-    (er : reach ≡ record { at = getD w (13072 + v) 0; most = getD w (12560 + v) 0; other = getD w (12816 + v) 0 })
-    (ep : pending ≡ getD w (13360 + k) 0 + 1) (en : number ≡ getD w (14336 + (16 * v + k)) 0 + 1) (eb : bytes ≡ getD w (18432 + (16 * v + k)) 0 + bytesOf s i)
-    (wrote : Wrote w v k seen (further reach k y) pending number bytes w′) where
+module _ (s : Sheet) (σ : Schedule) (w : List ℕ) (t i k f : ℕ) (k-in : k < 16) (i-in : i < linkCount s) (to : targetOf s i < taskCount s)
+    (own : sourceOf s i ≡ t) (landed : Landed s σ t k f) (counted : Counted s σ (upTo s σ t i) w) (v : ℕ) (ev : v ≡ targetOf s i) where
   abbrev c : ℕ → Bool
   c = upTo s σ t i
 
@@ -61,9 +58,6 @@ module _ (s : Sheet) (σ : Schedule) (w w′ : List ℕ) (t i k f : ℕ) (few : 
 
   place : placeOf σ (sourceOf s i) ≡ k
   place = ap (placeOf σ) own ∙ landed .place
-
-  y-is : reachBy s σ i ≡ y
-  y-is = sym (ey ∙ ap (λ (x : ℕ). x + costOf s i) (landed .finish ∙ ap (finishOf σ) (sym own)))
 
   summed : (q : ℕ → Bool) (x : ℕ → ℕ) → sum (linkCount s) (countedBy q x c′) ≡ sum (linkCount s) (countedBy q x c) + pick (q i) (x i) 0
   summed q x = sum-count q x c c′ i (up-was s σ t i own (landed .on)) (up-now s σ t i own (landed .on)) (linkCount s) i-in (λ j h d. up-same s σ t i j d)
@@ -77,119 +71,126 @@ module _ (s : Sheet) (σ : Schedule) (w w′ : List ℕ) (t i k f : ℕ) (few : 
   other-task : (u : ℕ) → u ≢ v → eqb (targetOf s i) u ≡ false
   other-task u d = ne-eqb (targetOf s i) u (λ z. d (sym z ∙ sym ev))
 
-  reaches : Reaches (linkCount s) (into s v) (reachBy s σ) (λ l. placeOf σ (sourceOf s l)) c′ (further reach k y)
+  -- the word of k's count
+  abbrev counts : ℕ → ℕ → (ℕ → Bool) → ℕ → ℕ
+  counts u j d n = sum (linkCount s) (countedBy (intoFrom s σ u (4 * j + n)) oneBy d)
+
+  which : (n : ℕ) → n < 4 → Dec (k % 4 ≡ n) → intoFrom s σ v (4 * (k / 4) + n) i ≡ eqb (k % 4) n
   unfolding stands
-  reaches =
-      reaches-more (linkCount s) (into s v) (reachBy s σ) (λ l. placeOf σ (sourceOf s l)) c c′ i k y i-in (up-was s σ t i own (landed .on)) (up-now s σ t i own (landed .on)) (λ j h d. up-same s σ t i j d)
-      this-task y-is place reach
-      (rw er record { whole = counted .arrived v v-in; main = counted .main v v-in; off = counted .off v v-in })
+  which n h (yes e) = rw (this-task, eq-eqb (k % 4) n e, eq-eqb (placeOf σ (sourceOf s i)) (4 * (k / 4) + n) (place ∙ omega arith))
+  which n h (no e) = rw (this-task, ne-eqb (k % 4) n e, ne-eqb (placeOf σ (sourceOf s i)) (4 * (k / 4) + n) (λ z. e (omega (arith, place))))
 
-  seen′ : (u : ℕ) → u < taskCount s → Dec (u ≡ v) → getD w′ (12304 + u) 0 ≡ sum (linkCount s) (countedBy (into s u) oneBy c′)
-  seen′ u h (yes e) = rw e (wrote .seen-is ∙ es ∙ ap (λ (x : ℕ). x + 1) (counted .seen v v-in) ∙ sym (summed (into s v) oneBy ∙ rw this-task))
-  seen′ u h (no e) = wrote .seen-else u (omega arith) e ∙ counted .seen u h ∙ sym (summed (into s u) oneBy ∙ rw (other-task u e) (omega arith))
+  number-now : {number : ℕ} → number ≡ getD w (7792 + (4 * v + k / 4)) 0 + 2 ^ (8 * (k % 4)) → number ≡ fourOf (counts v (k / 4) c′)
+  number-now e =
+      e ∙ ap (λ (x : ℕ). x + 2 ^ (8 * (k % 4))) (counted .packed v (k / 4) v-in (omega arith))
+      ∙ sym (four-more (counts v (k / 4) c) (counts v (k / 4) c′) (k % 4) (omega arith) (λ n h. summed (intoFrom s σ v (4 * (k / 4) + n)) oneBy ∙ rw (which n h (ℕ-discrete (k % 4) n))))
 
-  arrived′ : (u : ℕ) → u < taskCount s → Dec (u ≡ v) → getD w′ (12560 + u) 0 ≡ greatest (linkCount s) (countedBy (into s u) (reachBy s σ) c′)
-  arrived′ u h (yes e) = rw e (wrote .most-is ∙ reaches .whole)
-  arrived′ u h (no e) = wrote .most-else u (omega arith) e ∙ counted .arrived u h ∙ sym (reached (into s u) (reachBy s σ) ∙ rw (other-task u e) (omega arith))
+  counted-placed : (l : ℕ) → c′ l ≡ true → placed σ (sourceOf s l) ≡ true
+  unfolding upTo
+  counted-placed l e = both-parts (placed σ (sourceOf s l)) (either (not (eqb (sourceOf s l) t)) (ltb l (i + 1))) e .0
 
-  main′ : (u : ℕ) → u < taskCount s → Dec (u ≡ v) → getD w′ (12560 + u) 0 ≡ greatest (linkCount s) (countedBy (intoFrom s σ u (getD w′ (13072 + u) 0)) (reachBy s σ) c′)
-  unfolding stands
-  main′ u h (yes e) = rw (e, wrote .at-is) (wrote .most-is ∙ reaches .main)
-  main′ u h (no e) =
-      rw (wrote .at-else u (omega arith) e)
-      (wrote .most-else u (omega arith) e ∙ counted .main u h ∙ sym (reached (intoFrom s σ u (getD w (13072 + u) 0)) (reachBy s σ) ∙ rw (other-task u e) (omega arith)))
+  -- no count leaves its byte
+  pub number-small : {number : ℕ} → Ranged s → Single s → number ≡ getD w (7792 + (4 * v + k / 4)) 0 + 2 ^ (8 * (k % 4)) → number < 4294967296
+  number-small ranged single e =
+      omega (
+        arith,
+        number-now e,
+        four-small (counts v (k / 4) c′) (λ n h. few-from s σ ranged single v v-in (ap (placed σ) ev ∙ landed .before i i-in own) c′ counted-placed (4 * (k / 4) + n)),
+      )
 
-  off′ : (u : ℕ) → u < taskCount s → Dec (u ≡ v) → getD w′ (12816 + u) 0 ≡ greatest (linkCount s) (countedBy (intoOff s σ u (getD w′ (13072 + u) 0)) (reachBy s σ) c′)
-  unfolding stands
-  off′ u h (yes e) = rw (e, wrote .at-is) (wrote .other-is ∙ reaches .off)
-  off′ u h (no e) =
-      rw (wrote .at-else u (omega arith) e)
-      (wrote .other-else u (omega arith) e ∙ counted .off u h ∙ sym (reached (intoOff s σ u (getD w (13072 + u) 0)) (reachBy s σ) ∙ rw (other-task u e) (omega arith)))
+  module _ (few : taskCount s ≤ 256) (w′ : List ℕ) (seen y pending number : ℕ) (reach : Reach)
+      (ey : y ≡ f + costOf s i) (es : seen ≡ getD w (6688 + v) 0 + 1)
+      (er : reach ≡ record { at = getD w (7456 + v) 0; most = getD w (6944 + v) 0; other = getD w (7200 + v) 0 })
+      (ep : pending ≡ getD w (7744 + k) 0 + 1) (en : number ≡ getD w (7792 + (4 * v + k / 4)) 0 + 2 ^ (8 * (k % 4)))
+      (wrote : Wrote w v k seen (further reach k y) pending number w′) where
+    y-is : reachBy s σ i ≡ y
+    y-is = sym (ey ∙ ap (λ (x : ℕ). x + costOf s i) (landed .finish ∙ ap (finishOf σ) (sym own)))
 
-  -- t's successor v is not placed, so that the link waits on k
-  pending′ : (j : ℕ) → j < 16 → Dec (j ≡ k) → getD w′ (13360 + j) 0 ≡ sum (linkCount s) (countedBy (waits s σ j) oneBy c′)
-  unfolding stands
-  pending′ j h (yes e) =
-      rw e (wrote .pending-is ∙ ep ∙ ap (λ (x : ℕ). x + 1) (counted .pending k k-in)
-      ∙ sym (summed (waits s σ k) oneBy ∙ rw (eq-eqb (placeOf σ (sourceOf s i)) k place, landed .before i i-in own)))
-  pending′ j h (no e) =
-      wrote .pending-else j h e ∙ counted .pending j h
-      ∙ sym (summed (waits s σ j) oneBy ∙ rw (ne-eqb (placeOf σ (sourceOf s i)) j (λ z. e (sym z ∙ place))) (omega arith))
+    reaches : Reaches (linkCount s) (into s v) (reachBy s σ) (λ l. placeOf σ (sourceOf s l)) c′ (further reach k y)
+    unfolding stands
+    reaches =
+        reaches-more (linkCount s) (into s v) (reachBy s σ) (λ l. placeOf σ (sourceOf s l)) c c′ i k y i-in (up-was s σ t i own (landed .on)) (up-now s σ t i own (landed .on)) (λ j h d. up-same s σ t i j d)
+        this-task y-is place reach
+        (rw er record { whole = counted .arrived v v-in; main = counted .main v v-in; off = counted .off v v-in })
 
-  this-place : intoFrom s σ v k i ≡ true
-  unfolding stands
-  this-place = rw (this-task, eq-eqb (placeOf σ (sourceOf s i)) k place)
+    seen′ : (u : ℕ) → u < taskCount s → Dec (u ≡ v) → getD w′ (6688 + u) 0 ≡ sum (linkCount s) (countedBy (into s u) oneBy c′)
+    seen′ u h (yes e) = rw e (wrote .seen-is ∙ es ∙ ap (λ (x : ℕ). x + 1) (counted .seen v v-in) ∙ sym (summed (into s v) oneBy ∙ rw this-task))
+    seen′ u h (no e) = wrote .seen-else u (omega arith) e ∙ counted .seen u h ∙ sym (summed (into s u) oneBy ∙ rw (other-task u e) (omega arith))
 
-  other-place : (u j : ℕ) → (u ≡ v → j ≢ k) → Dec (u ≡ v) → intoFrom s σ u j i ≡ false
-  unfolding stands
-  other-place u j d (yes e) = rw (e, this-task, ne-eqb (placeOf σ (sourceOf s i)) j (λ z. d e (sym z ∙ place)))
-  other-place u j d (no e) = rw (other-task u e)
+    arrived′ : (u : ℕ) → u < taskCount s → Dec (u ≡ v) → getD w′ (6944 + u) 0 ≡ greatest (linkCount s) (countedBy (into s u) (reachBy s σ) c′)
+    arrived′ u h (yes e) = rw e (wrote .most-is ∙ reaches .whole)
+    arrived′ u h (no e) = wrote .most-else u (omega arith) e ∙ counted .arrived u h ∙ sym (reached (into s u) (reachBy s σ) ∙ rw (other-task u e) (omega arith))
 
-  apart : (u j : ℕ) → j < 16 → (u ≡ v → j ≢ k) → Dec (u ≡ v) → 16 * u + j ≢ 16 * v + k
-  apart u j h d (yes e) q = d e (omega arith)
-  apart u j h d (no e) q = e (omega arith)
+    main′ : (u : ℕ) → u < taskCount s → Dec (u ≡ v) → getD w′ (6944 + u) 0 ≡ greatest (linkCount s) (countedBy (intoFrom s σ u (getD w′ (7456 + u) 0)) (reachBy s σ) c′)
+    unfolding stands
+    main′ u h (yes e) = rw (e, wrote .at-is) (wrote .most-is ∙ reaches .main)
+    main′ u h (no e) =
+        rw (wrote .at-else u (omega arith) e)
+        (wrote .most-else u (omega arith) e ∙ counted .main u h ∙ sym (reached (intoFrom s σ u (getD w (7456 + u) 0)) (reachBy s σ) ∙ rw (other-task u e) (omega arith)))
 
-  -- a sum for each task and processor
-  each : (at u j : ℕ) (x : ℕ → ℕ) → u < taskCount s → j < 16 → Dec (u ≡ v) → Dec (j ≡ k)
-      → ((u j : ℕ) → u < taskCount s → j < 16 → getD w (at + (16 * u + j)) 0 ≡ sum (linkCount s) (countedBy (intoFrom s σ u j) x c))
-      → getD w′ (at + (16 * v + k)) 0 ≡ getD w (at + (16 * v + k)) 0 + x i
-      → ((u j : ℕ) → u < 256 → j < 16 → 16 * u + j ≢ 16 * v + k → getD w′ (at + (16 * u + j)) 0 ≡ getD w (at + (16 * u + j)) 0)
-      → getD w′ (at + (16 * u + j)) 0 ≡ sum (linkCount s) (countedBy (intoFrom s σ u j) x c′)
-  each at u j x h g (yes e) (yes q) before new else =
-      rw (e, q) (new ∙ ap (λ (z : ℕ). z + x i) (before v k v-in k-in) ∙ sym (summed (intoFrom s σ v k) x ∙ rw this-place))
-  each at u j x h g (yes e) (no q) before new else =
-      else u j (omega arith) g (apart u j g (λ a b. q b) (yes e)) ∙ before u j h g ∙ sym (summed (intoFrom s σ u j) x ∙ rw (other-place u j (λ a b. q b) (yes e)) (omega arith))
-  each at u j x h g (no e) q before new else =
-      else u j (omega arith) g (apart u j g (λ a b. e a) (no e)) ∙ before u j h g ∙ sym (summed (intoFrom s σ u j) x ∙ rw (other-place u j (λ a b. e a) (no e)) (omega arith))
+    off′ : (u : ℕ) → u < taskCount s → Dec (u ≡ v) → getD w′ (7200 + u) 0 ≡ greatest (linkCount s) (countedBy (intoOff s σ u (getD w′ (7456 + u) 0)) (reachBy s σ) c′)
+    unfolding stands
+    off′ u h (yes e) = rw (e, wrote .at-is) (wrote .other-is ∙ reaches .off)
+    off′ u h (no e) =
+        rw (wrote .at-else u (omega arith) e)
+        (wrote .other-else u (omega arith) e ∙ counted .off u h ∙ sym (reached (intoOff s σ u (getD w (7456 + u) 0)) (reachBy s σ) ∙ rw (other-task u e) (omega arith)))
 
-  count-more : Counted s σ c′ w′
-  count-more =
-      record {
-        seen = λ u h. seen′ u h (ℕ-discrete u v);
-        arrived = λ u h. arrived′ u h (ℕ-discrete u v);
-        main = λ u h. main′ u h (ℕ-discrete u v);
-        off = λ u h. off′ u h (ℕ-discrete u v);
-        pending = λ j h. pending′ j h (ℕ-discrete j k);
-        count = λ u j h g. each 14336 u j oneBy h g (ℕ-discrete u v) (ℕ-discrete j k) (counted .count) (wrote .number-is ∙ en) (wrote .number-else);
-        local = λ u j h g. each 18432 u j (bytesOf s) h g (ℕ-discrete u v) (ℕ-discrete j k) (counted .local) (wrote .bytes-is ∙ eb) (wrote .bytes-else);
-      }
+    -- t's successor v is not placed, so that the link waits on k
+    pending′ : (j : ℕ) → j < 16 → Dec (j ≡ k) → getD w′ (7744 + j) 0 ≡ sum (linkCount s) (countedBy (waits s σ j) oneBy c′)
+    unfolding stands
+    pending′ j h (yes e) =
+        rw e (wrote .pending-is ∙ ep ∙ ap (λ (x : ℕ). x + 1) (counted .pending k k-in)
+        ∙ sym (summed (waits s σ k) oneBy ∙ rw (eq-eqb (placeOf σ (sourceOf s i)) k place, landed .before i i-in own)))
+    pending′ j h (no e) =
+        wrote .pending-else j h e ∙ counted .pending j h
+        ∙ sym (summed (waits s σ j) oneBy ∙ rw (ne-eqb (placeOf σ (sourceOf s i)) j (λ z. e (sym z ∙ place))) (omega arith))
+
+    other-place : (u j : ℕ) → (u ≡ v → j ≢ k) → Dec (u ≡ v) → intoFrom s σ u j i ≡ false
+    unfolding stands
+    other-place u j d (yes e) = rw (e, this-task, ne-eqb (placeOf σ (sourceOf s i)) j (λ z. d e (sym z ∙ place)))
+    other-place u j d (no e) = rw (other-task u e)
+
+    packed-else : (u j : ℕ) → u < taskCount s → j < 4 → 4 * u + j ≢ 4 * v + k / 4 → (u ≡ v → j ≢ k / 4) → getD w′ (7792 + (4 * u + j)) 0 ≡ fourOf (counts u j c′)
+    packed-else u j h g d e =
+        wrote .number-else u j g d ∙ counted .packed u j h g
+        ∙ four-cong (counts u j c) (counts u j c′) (λ n p. sym (summed (intoFrom s σ u (4 * j + n)) oneBy ∙ rw (other-place u (4 * j + n) (λ a b. e a (omega arith)) (ℕ-discrete u v)) (omega arith)))
+
+    packed′ : (u j : ℕ) → u < taskCount s → j < 4 → Dec (u ≡ v) → Dec (j ≡ k / 4) → getD w′ (7792 + (4 * u + j)) 0 ≡ fourOf (counts u j c′)
+    packed′ u j h g (yes e) (yes q) = rw (e, q) (wrote .number-is ∙ number-now en)
+    packed′ u j h g (yes e) (no q) = packed-else u j h g (λ x. q (omega arith)) (λ a b. q b)
+    packed′ u j h g (no e) q = packed-else u j h g (λ x. e (omega arith)) (λ a b. e a)
+
+    count-more : Counted s σ c′ w′
+    count-more =
+        record {
+          seen = λ u h. seen′ u h (ℕ-discrete u v);
+          arrived = λ u h. arrived′ u h (ℕ-discrete u v);
+          main = λ u h. main′ u h (ℕ-discrete u v);
+          off = λ u h. off′ u h (ℕ-discrete u v);
+          pending = λ j h. pending′ j h (ℕ-discrete j k);
+          packed = λ u j h g. packed′ u j h g (ℕ-discrete u v) (ℕ-discrete j (k / 4));
+        }
 
 -- as the code writes it
 pub counted-by : (s : Sheet) (σ : Schedule) (w w′ : List ℕ) (t i k f : ℕ) → fixed ≤ length w → Ranged s → k < 16 → i < linkCount s → sourceOf s i ≡ t → Landed s σ t k f → Counted s σ (upTo s σ t i) w
-    → {v seen y pending number bytes : ℕ} {reach r : Reach} → v ≡ targetOf s i → y ≡ f + costOf s i → seen ≡ getD w (12304 + v) 0 + 1
-    → reach ≡ record { at = getD w (13072 + v) 0; most = getD w (12560 + v) 0; other = getD w (12816 + v) 0 }
-    → pending ≡ getD w (13360 + k) 0 + 1 → number ≡ getD w (14336 + (16 * v + k)) 0 + 1 → bytes ≡ getD w (18432 + (16 * v + k)) 0 + bytesOf s i
-    → r ≡ further reach k y → w′ ≡ countWords w v k seen r pending number bytes → Beside w w′ × Counted s σ (upTo s σ t (i + 1)) w′
-counted-by s σ w w′ t i k f long ranged k-in i-in own landed counted {v} {seen} {y} {pending} {number} {bytes} {reach} {r} ev ey es er ep en eb ef e =
+    → {v seen y pending number : ℕ} {reach r : Reach} → v ≡ targetOf s i → y ≡ f + costOf s i → seen ≡ getD w (6688 + v) 0 + 1
+    → reach ≡ record { at = getD w (7456 + v) 0; most = getD w (6944 + v) 0; other = getD w (7200 + v) 0 }
+    → pending ≡ getD w (7744 + k) 0 + 1 → number ≡ getD w (7792 + (4 * v + k / 4)) 0 + 2 ^ (8 * (k % 4))
+    → r ≡ further reach k y → w′ ≡ countWords w v k seen r pending number → Beside w w′ × Counted s σ (upTo s σ t (i + 1)) w′
+counted-by s σ w w′ t i k f long ranged k-in i-in own landed counted {v} {seen} {y} {pending} {number} {reach} {r} ev ey es er ep en ef e =
     let to = ranged .target i i-in in
     let few = ranged .few-tasks in
-    let q : w′ ≡ countWords w v k seen (further reach k y) pending number bytes = e ∙ ap (λ (x : Reach). countWords w v k seen x pending number bytes) ef in
-    let wrote : Wrote w v k seen (further reach k y) pending number bytes w′ =
-    subst (Wrote w v k seen (further reach k y) pending number bytes) (sym q) (count-wrote w v k seen (further reach k y) pending number bytes long (rw ev (omega arith)) k-in) in
-    (wrote .beside, count-more s σ w w′ t i k f few k-in i-in to own landed counted v seen y pending number bytes reach ev ey es er ep en eb wrote)
-
--- the sums stay small
-counts-few : (s : Sheet) (q c : ℕ → Bool) → sum (linkCount s) (countedBy q oneBy c) ≤ linkCount s
-unfolding countedBy
-counts-few s q c = omega (arith, sum-le (linkCount s) 1 (countedBy q oneBy c) (λ l h. pick-le (both (q l) (c l)) 1 0 1 (omega arith) (omega arith)))
-
-bytes-few : (s : Sheet) (q c : ℕ → Bool) → Ranged s → sum (linkCount s) (countedBy q (bytesOf s) c) ≤ linkCount s * 65535
-unfolding countedBy
-bytes-few s q c ranged = sum-le (linkCount s) 65535 (countedBy q (bytesOf s) c) (λ l h. pick-le (both (q l) (c l)) (bytesOf s l) 0 65535 (omega (arith, ranged .sizes l h)) (omega arith))
+    let q : w′ ≡ countWords w v k seen (further reach k y) pending number = e ∙ ap (λ (x : Reach). countWords w v k seen x pending number) ef in
+    let wrote : Wrote w v k seen (further reach k y) pending number w′ =
+    subst (Wrote w v k seen (further reach k y) pending number) (sym q) (count-wrote w v k seen (further reach k y) pending number long (rw ev (omega arith)) k-in) in
+    (wrote .beside, count-more s σ w t i k f k-in i-in to own landed counted v ev few w′ seen y pending number reach ey es er ep en wrote)
 
 -- what counting a link adds to
 pub record Few (t k : ℕ) (w : List ℕ) : Type 0 where
-  pub seen : getD w (12304 + t) 0 ≤ 1024
-  pub pending : getD w (13360 + k) 0 ≤ 1024
-  pub count : getD w (14336 + (16 * t + k)) 0 ≤ 1024
-  pub local : getD w (18432 + (16 * t + k)) 0 ≤ 67107840
+  pub seen : getD w (6688 + t) 0 ≤ 1024
+  pub pending : getD w (7744 + k) 0 ≤ 1024
 
 pub few-counted : {s : Sheet} {σ : Schedule} {c : ℕ → Bool} {w : List ℕ} → Ranged s → Counted s σ c w → (t k : ℕ) → t < taskCount s → k < 16 → Few t k w
 few-counted {s} {σ} {c} {w} ranged d t k h g =
     let m = ranged .few-links in
-    record {
-      seen = omega (arith, d .seen t h, counts-few s (into s t) c);
-      pending = omega (arith, d .pending k g, counts-few s (waits s σ k) c);
-      count = omega (arith, d .count t k h g, counts-few s (intoFrom s σ t k) c);
-      local = omega (arith, d .local t k h g, bytes-few s (intoFrom s σ t k) c ranged);
-    }
+    record { seen = omega (arith, d .seen t h, counts-few s (into s t) c); pending = omega (arith, d .pending k g, counts-few s (waits s σ k) c) }

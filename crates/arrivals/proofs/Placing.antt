@@ -15,9 +15,10 @@ use Rattle.folds.proofs.Laws.{sum-cong, greatest-cong, sum-point, greatest-poin
 use Rattle.sheet.specs.Sheet.{Sheet, taskCount, linkCount, sourceOf, targetOf, costOf, bytesOf, storeOf}
 use Rattle.planner.specs.Schedule.{Schedule, put, nowhere, placed, stands, placeOf, finishOf}
 use Rattle.planner.specs.Placing.{endBy, endOf, storeBy, bytesBy, storeOn}
-use Rattle.arrivals.specs.Kept.{countedBy, into, intoFrom, intoOff, waits, reachBy, oneBy, known, Counted, Closed}
+use Rattle.arrivals.specs.Kept.{countedBy, into, intoFrom, intoOff, waits, reachBy, oneBy, known, Counted, Surveyed, Closed}
 use Rattle.arrivals.specs.Steps.{upTo, Placeable, Landed, Released}
 use Rattle.arrivals.proofs.Counts.{count-agree}
+use Rattle.arrivals.proofs.Fours.{four-cong}
 
 module _ (s : Sheet) (σ : Schedule) (t k a b : ℕ) (g : Placeable s σ t k) where
   abbrev σ′ : Schedule
@@ -120,27 +121,24 @@ module _ (s : Sheet) (σ : Schedule) (t k a b : ℕ) (g : Placeable s σ t k) wh
       ∙ sum-cong (linkCount s) (λ l. countedBy (waits s σ′ j) oneBy (upTo s σ′ t 0) l + countedBy (intoFrom s σ t j) oneBy (known s σ) l) (countedBy (waits s σ j) oneBy (known s σ)) (λ l h. waits-term j l h (ℕ-discrete (targetOf s l) t))
 
   -- w with t released is w′
-  pub counted-begins : (w w′ : List ℕ) → Released t 16 w w′ → Counted s σ (known s σ) w → Counted s σ′ (upTo s σ′ t 0) w′
-  counted-begins w w′ r d =
+  pub counted-begins : (w w′ : List ℕ) → Released 16 w w′ → Surveyed s σ t w → Counted s σ (known s σ) w → Counted s σ′ (upTo s σ′ t 0) w′
+  counted-begins w w′ r v d =
       let few = g .ranged .few-tasks in
       record {
-        seen = λ u h. r .low (12304 + u) (omega arith) ∙ d .seen u h ∙ sum-cong (linkCount s) _ _ (λ l p. agree (into s u) (into s u) oneBy oneBy (λ i q. (refl, refl)) l);
-        arrived = λ u h. r .low (12560 + u) (omega arith) ∙ d .arrived u h ∙ greatest-cong (linkCount s) _ _ (λ l p. agree (into s u) (into s u) (reachBy s σ) (reachBy s σ′) (λ i q. (refl, same-reach i q)) l);
+        seen = λ u h. r .low (6688 + u) (omega arith) ∙ d .seen u h ∙ sum-cong (linkCount s) _ _ (λ l p. agree (into s u) (into s u) oneBy oneBy (λ i q. (refl, refl)) l);
+        arrived = λ u h. r .low (6944 + u) (omega arith) ∙ d .arrived u h ∙ greatest-cong (linkCount s) _ _ (λ l p. agree (into s u) (into s u) (reachBy s σ) (reachBy s σ′) (λ i q. (refl, same-reach i q)) l);
         main =
-            λ u h. let x = getD w (13072 + u) 0 in
-            rw (r .low (13072 + u) (omega arith))
-            (r .low (12560 + u) (omega arith) ∙ d .main u h ∙ greatest-cong (linkCount s) _ _ (λ l p. agree (intoFrom s σ u x) (intoFrom s σ′ u x) (reachBy s σ) (reachBy s σ′) (λ i q. (same-from u x i q, same-reach i q)) l));
+            λ u h. let x = getD w (7456 + u) 0 in
+            rw (r .low (7456 + u) (omega arith))
+            (r .low (6944 + u) (omega arith) ∙ d .main u h ∙ greatest-cong (linkCount s) _ _ (λ l p. agree (intoFrom s σ u x) (intoFrom s σ′ u x) (reachBy s σ) (reachBy s σ′) (λ i q. (same-from u x i q, same-reach i q)) l));
         off =
-            λ u h. let x = getD w (13072 + u) 0 in
-            rw (r .low (13072 + u) (omega arith))
-            (r .low (12816 + u) (omega arith) ∙ d .off u h ∙ greatest-cong (linkCount s) _ _ (λ l p. agree (intoOff s σ u x) (intoOff s σ′ u x) (reachBy s σ) (reachBy s σ′) (λ i q. (same-off u x i q, same-reach i q)) l));
-        pending = λ j h. omega (arith, r .pending j h, d .pending j h, d .count t j (g .task) h, waits-put j);
-        count =
-            λ u j h f. r .high (14336 + (16 * u + j)) (omega arith) ∙ d .count u j h f
-            ∙ sum-cong (linkCount s) _ _ (λ l p. agree (intoFrom s σ u j) (intoFrom s σ′ u j) oneBy oneBy (λ i q. (same-from u j i q, refl)) l);
-        local =
-            λ u j h f. r .high (18432 + (16 * u + j)) (omega arith) ∙ d .local u j h f
-            ∙ sum-cong (linkCount s) _ _ (λ l p. agree (intoFrom s σ u j) (intoFrom s σ′ u j) (bytesOf s) (bytesOf s) (λ i q. (same-from u j i q, refl)) l);
+            λ u h. let x = getD w (7456 + u) 0 in
+            rw (r .low (7456 + u) (omega arith))
+            (r .low (7200 + u) (omega arith) ∙ d .off u h ∙ greatest-cong (linkCount s) _ _ (λ l p. agree (intoOff s σ u x) (intoOff s σ′ u x) (reachBy s σ) (reachBy s σ′) (λ i q. (same-off u x i q, same-reach i q)) l));
+        pending = λ j h. omega (arith, r .pending j h, d .pending j h, v .number j h, waits-put j);
+        packed =
+            λ u j h f. r .high (7792 + (4 * u + j)) (omega arith) ∙ d .packed u j h f
+            ∙ four-cong _ _ (λ i n. sum-cong (linkCount s) _ _ (λ l p. agree (intoFrom s σ u (4 * j + i)) (intoFrom s σ′ u (4 * j + i)) oneBy oneBy (λ x q. (same-from u (4 * j + i) x q, refl)) l));
       }
 
   -- a successor of t is not placed, since t was not

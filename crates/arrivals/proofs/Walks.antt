@@ -21,8 +21,9 @@ use Rattle.chains.specs.Chains.{Chained}
 use Rattle.chains.specs.declared.End.the-variants.{Source}
 use Rattle.chains.proofs.Frames.{same-sheet, same-loaded}
 use Rattle.chains.proofs.Walks.{chained-frame}
-use Rattle.arrivals.specs.Kept.{countedBy, known, Gathered, Counted, Ends}
+use Rattle.arrivals.specs.Kept.{countedBy, known, Gathered, Single, Counted, Ends}
 use Rattle.arrivals.specs.Steps.{upTo, Beside, Landed}
+use Rattle.arrivals.proofs.Fours.{four-cong}
 
 -- the same links counted
 pub counted-same : {s : Sheet} {σ : Schedule} {c : ℕ → Bool} (c′ : ℕ → Bool) {w : List ℕ} → ((l : ℕ) → l < linkCount s → c l ≡ c′ l) → Counted s σ c w → Counted s σ c′ w
@@ -34,8 +35,7 @@ counted-same {s} {σ} {c} c′ {w} e d =
       main = λ t h. d .main t h ∙ greatest-cong (linkCount s) _ _ (λ l k. rw (e l k));
       off = λ t h. d .off t h ∙ greatest-cong (linkCount s) _ _ (λ l k. rw (e l k));
       pending = λ j h. d .pending j h ∙ sum-cong (linkCount s) _ _ (λ l k. rw (e l k));
-      count = λ t j h g. d .count t j h g ∙ sum-cong (linkCount s) _ _ (λ l k. rw (e l k));
-      local = λ t j h g. d .local t j h g ∙ sum-cong (linkCount s) _ _ (λ l k. rw (e l k));
+      packed = λ t j h g. d .packed t j h g ∙ four-cong _ _ (λ i p. sum-cong (linkCount s) _ _ (λ l k. rw (e l k)));
     }
 
 -- between two links out of t none is counted
@@ -58,26 +58,26 @@ up-all s σ t m l h = rw (lt-ltb l m h) (go (placed σ (sourceOf s l)) (not (eqb
     go false b = refl
 
 -- words that are the same say the same
-pub counted-frame : {s : Sheet} {σ : Schedule} {c : ℕ → Bool} {w w′ : List ℕ} → taskCount s ≤ 256 → ((i : ℕ) → 12304 ≤ i → i < 13328 → getD w′ i 0 ≡ getD w i 0) → ((i : ℕ) → 13360 ≤ i → getD w′ i 0 ≡ getD w i 0)
+pub counted-frame : {s : Sheet} {σ : Schedule} {c : ℕ → Bool} {w w′ : List ℕ} → taskCount s ≤ 256 → ((i : ℕ) → 6688 ≤ i → i < 7712 → getD w′ i 0 ≡ getD w i 0) → ((i : ℕ) → 7744 ≤ i → i < 7760 → getD w′ i 0 ≡ getD w i 0)
+    → ((i : ℕ) → 7792 ≤ i → getD w′ i 0 ≡ getD w i 0)
     → Counted s σ c w → Counted s σ c w′
-counted-frame few f g d =
+counted-frame few f g p d =
     record {
-      seen = λ t h. f (12304 + t) (omega arith) (omega arith) ∙ d .seen t h;
-      arrived = λ t h. f (12560 + t) (omega arith) (omega arith) ∙ d .arrived t h;
-      main = λ t h. rw (f (13072 + t) (omega arith) (omega arith)) (f (12560 + t) (omega arith) (omega arith) ∙ d .main t h);
-      off = λ t h. rw (f (13072 + t) (omega arith) (omega arith)) (f (12816 + t) (omega arith) (omega arith) ∙ d .off t h);
-      pending = λ k h. g (13360 + k) (omega arith) ∙ d .pending k h;
-      count = λ t k h p. g (14336 + (16 * t + k)) (omega arith) ∙ d .count t k h p;
-      local = λ t k h p. g (18432 + (16 * t + k)) (omega arith) ∙ d .local t k h p;
+      seen = λ t h. f (6688 + t) (omega arith) (omega arith) ∙ d .seen t h;
+      arrived = λ t h. f (6944 + t) (omega arith) (omega arith) ∙ d .arrived t h;
+      main = λ t h. rw (f (7456 + t) (omega arith) (omega arith)) (f (6944 + t) (omega arith) (omega arith) ∙ d .main t h);
+      off = λ t h. rw (f (7456 + t) (omega arith) (omega arith)) (f (7200 + t) (omega arith) (omega arith) ∙ d .off t h);
+      pending = λ k h. g (7744 + k) (omega arith) (omega arith) ∙ d .pending k h;
+      packed = λ t j h l. p (7792 + (4 * t + j)) (omega arith) ∙ d .packed t j h l;
     }
 
-pub gathered-frame : {s : Sheet} {w w′ : List ℕ} → taskCount s ≤ 256 → ((i : ℕ) → 11792 ≤ i → i < 12304 → getD w′ i 0 ≡ getD w i 0) → Gathered s w → Gathered s w′
+pub gathered-frame : {s : Sheet} {w w′ : List ℕ} → taskCount s ≤ 256 → ((i : ℕ) → 6176 ≤ i → i < 6688 → getD w′ i 0 ≡ getD w i 0) → Gathered s w → Gathered s w′
 gathered-frame few f d =
-    record { number = λ t h. f (11792 + t) (omega arith) (omega arith) ∙ d .number t h; bytes = λ t h. f (12048 + t) (omega arith) (omega arith) ∙ d .bytes t h }
+    record { number = λ t h. f (6176 + t) (omega arith) (omega arith) ∙ d .number t h; bytes = λ t h. f (6432 + t) (omega arith) (omega arith) ∙ d .bytes t h }
 
-pub ends-frame : {s : Sheet} {σ : Schedule} {w w′ : List ℕ} → ((i : ℕ) → 13328 ≤ i → i < 13360 → getD w′ i 0 ≡ getD w i 0) → Ends s σ w → Ends s σ w′
+pub ends-frame : {s : Sheet} {σ : Schedule} {w w′ : List ℕ} → ((i : ℕ) → 7712 ≤ i → i < 7744 → getD w′ i 0 ≡ getD w i 0) → Ends s σ w → Ends s σ w′
 ends-frame f d =
-    record { ends = λ k h. f (13328 + k) (omega arith) (omega arith) ∙ d .ends k h; stores = λ k h. f (13344 + k) (omega arith) (omega arith) ∙ d .stores k h }
+    record { ends = λ k h. f (7712 + k) (omega arith) (omega arith) ∙ d .ends k h; stores = λ k h. f (7728 + k) (omega arith) (omega arith) ∙ d .stores k h }
 
 beside-none : (w : List ℕ) → Beside w w
 beside-none w = record { long = refl; low = λ i h. refl; mid = λ i h g. refl }
@@ -92,7 +92,7 @@ module _ {w w′ : List ℕ} (loaded : Loaded w) (f : Beside w w′) where
   pub beside-loaded : Loaded w′
   beside-loaded = same-loaded w w′ loaded (λ i h. f .low i (omega arith)) (f .long)
 
-  pub beside-schedule : getD w 9217 0 ≤ 256 → scheduleIn w′ ≡ scheduleIn w
+  pub beside-schedule : getD w 4881 0 ≤ 256 → scheduleIn w′ ≡ scheduleIn w
   beside-schedule few = schedule-frame w w′ (loaded .tasks) few (f .low 0 (omega arith)) (λ i h k. f .low i (omega arith))
 
 -- the walk, at link l
@@ -102,8 +102,8 @@ pub record Walking (w₀ : List ℕ) (t l : ℕ) (w : List ℕ) : Type 0 where
   pub own : l < linkCount (sheetIn w₀) → sourceOf (sheetIn w₀) l ≡ t
   pub counted : Counted (sheetIn w₀) (scheduleIn w₀) (upTo (sheetIn w₀) (scheduleIn w₀) t l) w
 
-module _ (w₀ : List ℕ) (loaded : Loaded w₀) (chained : Chained Source (sheetIn w₀) w₀) (few : getD w₀ 9217 0 ≤ 256) (t : ℕ) (t-in : t < taskCount (sheetIn w₀)) where
-  pub walk-begins : {l : ℕ} → l ≡ getD w₀ (9232 + t) 0 → l ≤ linkCount (sheetIn w₀) → Counted (sheetIn w₀) (scheduleIn w₀) (upTo (sheetIn w₀) (scheduleIn w₀) t 0) w₀ → Walking w₀ t l w₀
+module _ (w₀ : List ℕ) (loaded : Loaded w₀) (chained : Chained Source (sheetIn w₀) w₀) (few : getD w₀ 4881 0 ≤ 256) (t : ℕ) (t-in : t < taskCount (sheetIn w₀)) where
+  pub walk-begins : {l : ℕ} → l ≡ getD w₀ (4896 + t) 0 → l ≤ linkCount (sheetIn w₀) → Counted (sheetIn w₀) (scheduleIn w₀) (upTo (sheetIn w₀) (scheduleIn w₀) t 0) w₀ → Walking w₀ t l w₀
   walk-begins {l} e h d =
       let s = sheetIn w₀ in
       let σ = scheduleIn w₀ in
@@ -126,6 +126,9 @@ module _ (w₀ : List ℕ) (loaded : Loaded w₀) (chained : Chained Source (she
 
     pub walk-link : l < linkCount (sheetIn w₀) → (l < linkCount (sheetIn w)) × (sourceOf (sheetIn w) l ≡ t)
     walk-link h = rw walk-sheet (h, g .own h)
+
+    pub walk-single : Single (sheetIn w₀) → Single (sheetIn w)
+    walk-single d = rw walk-sheet d
 
     pub walk-landed : {k f : ℕ} → Landed (sheetIn w₀) (scheduleIn w₀) t k f → Landed (sheetIn w) (scheduleIn w) t k f
     walk-landed {k} {f} d =
@@ -152,13 +155,13 @@ module _ (w₀ : List ℕ) (loaded : Loaded w₀) (chained : Chained Source (she
       pub after-link : l < linkCount (sheetIn w₀) → l < linkCount (sheetIn w′)
       after-link h = rw after-sheet h
 
-      pub walk-more : {l′ : ℕ} → l < linkCount (sheetIn w₀) → l′ ≡ getD w′ (9488 + l) 0 → l′ ≤ linkCount (sheetIn w′) → l < l′
+      pub walk-more : {l′ : ℕ} → l < linkCount (sheetIn w₀) → l′ ≡ getD w′ (5152 + l) 0 → l′ ≤ linkCount (sheetIn w′) → l < l′
           → Counted (sheetIn w) (scheduleIn w) (upTo (sheetIn w) (scheduleIn w) t (l + 1)) w′ → Walking w₀ t l′ w′
       walk-more {l′} h e few′ more d =
           let links = ranged w₀ loaded .few-links in
           let s = sheetIn w₀ in
           let σ = scheduleIn w₀ in
-          let q : l′ ≡ getD w₀ (9488 + l) 0 = e ∙ f .low (9488 + l) (omega arith) ∙ g .beside .low (9488 + l) (omega arith) in
+          let q : l′ ≡ getD w₀ (5152 + l) 0 = e ∙ f .low (5152 + l) (omega arith) ∙ g .beside .low (5152 + l) (omega arith) in
           let d′ : Counted s σ (upTo s σ t (l + 1)) w′ =
           subst (λ (z : Schedule). Counted s z (upTo s z t (l + 1)) w′) walk-schedule (subst (λ (z : Sheet). Counted z (scheduleIn w) (upTo z (scheduleIn w) t (l + 1)) w′) walk-sheet d) in
           record {

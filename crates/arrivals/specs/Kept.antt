@@ -44,25 +44,41 @@ reachBy s σ l = finishOf σ (sourceOf s l) + costOf s l
 abbrev pub oneBy : ℕ → ℕ
 oneBy l = 1
 
+-- four counts in one word, a byte for each
+unfoldable pub fourOf : (ℕ → ℕ) → ℕ
+fourOf f = f 0 + 256 * f 1 + 65536 * f 2 + 16777216 * f 3
+
+-- no two links join the same tasks in the same direction
+pub record Single (s : Sheet) : Type 0 where
+  pub once : (i j : ℕ) → i < linkCount s → j < linkCount s → sourceOf s i ≡ sourceOf s j → targetOf s i ≡ targetOf s j → i ≡ j
+
 -- all the links into each task
 pub record Gathered (s : Sheet) (w : List ℕ) : Type 0 where
-  pub number : (t : ℕ) → t < taskCount s → getD w (11792 + t) 0 ≡ sum (linkCount s) (countedBy (into s t) oneBy (λ l. true))
-  pub bytes : (t : ℕ) → t < taskCount s → getD w (12048 + t) 0 ≡ sum (linkCount s) (countedBy (into s t) (bytesOf s) (λ l. true))
+  pub number : (t : ℕ) → t < taskCount s → getD w (6176 + t) 0 ≡ sum (linkCount s) (countedBy (into s t) oneBy (λ l. true))
+  pub bytes : (t : ℕ) → t < taskCount s → getD w (6432 + t) 0 ≡ sum (linkCount s) (countedBy (into s t) (bytesOf s) (λ l. true))
 
 -- the links that are counted
 pub record Counted (s : Sheet) (σ : Schedule) (c : ℕ → Bool) (w : List ℕ) : Type 0 where
-  pub seen : (t : ℕ) → t < taskCount s → getD w (12304 + t) 0 ≡ sum (linkCount s) (countedBy (into s t) oneBy c)
-  pub arrived : (t : ℕ) → t < taskCount s → getD w (12560 + t) 0 ≡ greatest (linkCount s) (countedBy (into s t) (reachBy s σ) c)
-  pub main : (t : ℕ) → t < taskCount s → getD w (12560 + t) 0 ≡ greatest (linkCount s) (countedBy (intoFrom s σ t (getD w (13072 + t) 0)) (reachBy s σ) c)
-  pub off : (t : ℕ) → t < taskCount s → getD w (12816 + t) 0 ≡ greatest (linkCount s) (countedBy (intoOff s σ t (getD w (13072 + t) 0)) (reachBy s σ) c)
-  pub pending : (k : ℕ) → k < 16 → getD w (13360 + k) 0 ≡ sum (linkCount s) (countedBy (waits s σ k) oneBy c)
-  pub count : (t k : ℕ) → t < taskCount s → k < 16 → getD w (14336 + (16 * t + k)) 0 ≡ sum (linkCount s) (countedBy (intoFrom s σ t k) oneBy c)
-  pub local : (t k : ℕ) → t < taskCount s → k < 16 → getD w (18432 + (16 * t + k)) 0 ≡ sum (linkCount s) (countedBy (intoFrom s σ t k) (bytesOf s) c)
+  pub seen : (t : ℕ) → t < taskCount s → getD w (6688 + t) 0 ≡ sum (linkCount s) (countedBy (into s t) oneBy c)
+  pub arrived : (t : ℕ) → t < taskCount s → getD w (6944 + t) 0 ≡ greatest (linkCount s) (countedBy (into s t) (reachBy s σ) c)
+  pub main : (t : ℕ) → t < taskCount s → getD w (6944 + t) 0 ≡ greatest (linkCount s) (countedBy (intoFrom s σ t (getD w (7456 + t) 0)) (reachBy s σ) c)
+  pub off : (t : ℕ) → t < taskCount s → getD w (7200 + t) 0 ≡ greatest (linkCount s) (countedBy (intoOff s σ t (getD w (7456 + t) 0)) (reachBy s σ) c)
+  pub pending : (k : ℕ) → k < 16 → getD w (7744 + k) 0 ≡ sum (linkCount s) (countedBy (waits s σ k) oneBy c)
+  pub packed : (t j : ℕ) → t < taskCount s → j < 4 → getD w (7792 + (4 * t + j)) 0 ≡ fourOf (λ i. sum (linkCount s) (countedBy (intoFrom s σ t (4 * j + i)) oneBy c))
+
+-- of the task of this turn, the known links below l by the processor that they come from
+pub record SurveyedTo (s : Sheet) (σ : Schedule) (t l : ℕ) (w : List ℕ) : Type 0 where
+  pub bytes : (k : ℕ) → k < 16 → getD w (7760 + k) 0 ≡ sum l (countedBy (intoFrom s σ t k) (bytesOf s) (known s σ))
+  pub number : (k : ℕ) → k < 16 → getD w (7776 + k) 0 ≡ sum l (countedBy (intoFrom s σ t k) oneBy (known s σ))
+
+-- .. all of them
+abbrev pub Surveyed : Sheet → Schedule → ℕ → List ℕ → Type 0
+Surveyed s σ t w = SurveyedTo s σ t (linkCount s) w
 
 -- the processors
 pub record Ends (s : Sheet) (σ : Schedule) (w : List ℕ) : Type 0 where
-  pub ends : (k : ℕ) → k < 16 → getD w (13328 + k) 0 ≡ endOf s σ k
-  pub stores : (k : ℕ) → k < 16 → getD w (13344 + k) 0 ≡ storeOn s σ k
+  pub ends : (k : ℕ) → k < 16 → getD w (7712 + k) 0 ≡ endOf s σ k
+  pub stores : (k : ℕ) → k < 16 → getD w (7728 + k) 0 ≡ storeOn s σ k
 
 -- no task is placed before its predecessors
 abbrev pub Closed : Sheet → Schedule → Type 0
@@ -80,6 +96,7 @@ pub record Caches (s : Sheet) (σ : Schedule) (w : List ℕ) : Type 0 where
 pub record Kept (w : List ℕ) : Type 0 where
   pub loaded : Loaded w
   pub ranged : Ranged (sheetIn w)
+  pub single : Single (sheetIn w)
   pub few-opened : scheduleIn w .opened ≤ 16
   pub standing : (u : ℕ) → placed (scheduleIn w) u ≡ true → placeOf (scheduleIn w) u < scheduleIn w .opened
   pub caches : Caches (sheetIn w) (scheduleIn w) w

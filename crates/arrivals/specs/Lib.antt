@@ -1,3 +1,4 @@
+-- The definitions of `arrivals`.
 pub mod Kept
 pub mod Reach
 pub mod Steps

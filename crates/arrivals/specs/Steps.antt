@@ -1,5 +1,5 @@
 -- What becomes of all that is kept when a task is placed, and how it begins, step by step.
-use Prim.Native.Nat.{ℕ, _+_, _*_, _≤_, _<_}
+use Prim.Native.Nat.{ℕ, _+_, _*_, _/_, _≤_, _<_}
 use mathlib.Core.Bool.{Bool, true, false, not}
 use mathlib.Core.Path.{_≡_}
 use mathlib.Core.List.{List}
@@ -13,9 +13,9 @@ use Rattle.arrivals.specs.Kept.{countedBy, into, oneBy, Closed}
 use Rattle.arrivals.specs.declared.Reach.{Reach}
 
 -- the words with one more link into v from k
-unfoldable pub countWords : List ℕ → ℕ → ℕ → ℕ → Reach → ℕ → ℕ → ℕ → List ℕ
-countWords w v k seen reach pending number bytes =
-    set (set (set (set (set (set (set w (12304 + v) seen) (12560 + v) (reach .most)) (12816 + v) (reach .other)) (13072 + v) (reach .at)) (13360 + k) pending) (14336 + (16 * v + k)) number) (18432 + (16 * v + k)) bytes
+unfoldable pub countWords : List ℕ → ℕ → ℕ → ℕ → Reach → ℕ → ℕ → List ℕ
+countWords w v k seen reach pending number =
+    set (set (set (set (set (set w (6688 + v) seen) (6944 + v) (reach .most)) (7200 + v) (reach .other)) (7456 + v) (reach .at)) (7744 + k) pending) (7792 + (4 * v + k / 4)) number
 
 -- counted are the links from placed tasks, but of those from t only the ones below i
 unfoldable pub upTo : Sheet → Schedule → ℕ → ℕ → ℕ → Bool
@@ -24,8 +24,8 @@ upTo s σ t i l = both (placed σ (sourceOf s l)) (either (not (eqb (sourceOf s 
 -- all but the words of the counted links is as it was
 pub record Beside (w w′ : List ℕ) : Type 0 where
   pub long : length w′ ≡ length w
-  pub low : (i : ℕ) → i < 12304 → getD w′ i 0 ≡ getD w i 0
-  pub mid : (i : ℕ) → 13328 ≤ i → i < 13360 → getD w′ i 0 ≡ getD w i 0
+  pub low : (i : ℕ) → i < 6688 → getD w′ i 0 ≡ getD w i 0
+  pub mid : (i : ℕ) → 7712 ≤ i → i < 7744 → getD w′ i 0 ≡ getD w i 0
 
 -- t can go on k
 pub record Placeable (s : Sheet) (σ : Schedule) (t k : ℕ) : Type 0 where
@@ -45,22 +45,22 @@ pub record Landed (s : Sheet) (σ : Schedule) (t k f : ℕ) : Type 0 where
   pub finish : f ≡ finishOf σ t
   pub before : (l : ℕ) → l < linkCount s → sourceOf s l ≡ t → placed σ (targetOf s l) ≡ false
 
--- the links into t from the processors below j wait no more
-pub record Released (t j : ℕ) (w w′ : List ℕ) : Type 0 where
+-- the links into the task of this turn from the processors below j wait no more
+pub record Released (j : ℕ) (w w′ : List ℕ) : Type 0 where
   pub long : length w′ ≡ length w
-  pub low : (i : ℕ) → i < 13360 → getD w′ i 0 ≡ getD w i 0
-  pub high : (i : ℕ) → 13360 + j ≤ i → getD w′ i 0 ≡ getD w i 0
-  pub pending : (i : ℕ) → i < j → getD w′ (13360 + i) 0 + getD w (14336 + (16 * t + i)) 0 ≡ getD w (13360 + i) 0
+  pub low : (i : ℕ) → i < 7744 → getD w′ i 0 ≡ getD w i 0
+  pub high : (i : ℕ) → 7744 + j ≤ i → getD w′ i 0 ≡ getD w i 0
+  pub pending : (i : ℕ) → i < j → getD w′ (7744 + i) 0 + getD w (7776 + i) 0 ≡ getD w (7744 + i) 0
 
 -- .. from each processor at most as many as wait
-pub record Enough (t : ℕ) (w : List ℕ) : Type 0 where
-  pub most : (j : ℕ) → j < 16 → getD w (14336 + (16 * t + j)) 0 ≤ getD w (13360 + j) 0
+pub record Enough (w : List ℕ) : Type 0 where
+  pub most : (j : ℕ) → j < 16 → getD w (7776 + j) 0 ≤ getD w (7744 + j) 0
 
--- the words from 11792 up to e are 0
-pub record Zero (e : ℕ) (w : List ℕ) : Type 0 where
-  pub at : (i : ℕ) → 11792 ≤ i → i < e → getD w i 0 ≡ 0
+-- the words from a up to e are 0
+pub record Zero (a e : ℕ) (w : List ℕ) : Type 0 where
+  pub at : (i : ℕ) → a ≤ i → i < e → getD w i 0 ≡ 0
 
 -- the links below l are gathered
 pub record GatheredTo (s : Sheet) (l : ℕ) (w : List ℕ) : Type 0 where
-  pub number : (t : ℕ) → t < taskCount s → getD w (11792 + t) 0 ≡ sum l (countedBy (into s t) oneBy (λ i. true))
-  pub bytes : (t : ℕ) → t < taskCount s → getD w (12048 + t) 0 ≡ sum l (countedBy (into s t) (bytesOf s) (λ i. true))
+  pub number : (t : ℕ) → t < taskCount s → getD w (6176 + t) 0 ≡ sum l (countedBy (into s t) oneBy (λ i. true))
+  pub bytes : (t : ℕ) → t < taskCount s → getD w (6432 + t) 0 ≡ sum l (countedBy (into s t) (bytesOf s) (λ i. true))

@@ -1,18 +1,19 @@
 // What is kept beside the schedule: of each task the links that are known, of each processor its end, its store and the links that wait.
 ghost use mathlib.Core.Path.{_≡_};
-ghost use Prim.Native.Nat.{_+_, _*_, _<_, _≤_};
+ghost use mathlib.Core.Bool.{true};
+ghost use Prim.Native.Nat.{_+_, _*_, _%_, _^_, _<_, _≤_};
 ghost use lib.ListN.{getD, length};
 ghost use Rattle.folds.specs.Folds.{pick};
 ghost use Rattle.workspace.specs.Area.{fixed};
-ghost use Rattle.sheet.specs.Sheet.{taskCount, linkCount, sourceOf};
+ghost use Rattle.sheet.specs.Sheet.{taskCount, linkCount, sourceOf, targetOf};
 ghost use Rattle.sheet.specs.Tables.{sheetIn, Loaded};
-ghost use Rattle.planner.specs.Schedule.{put};
-ghost use Rattle.planner.specs.Placing.{endOf};
+ghost use Rattle.planner.specs.Schedule.{put, placed};
+ghost use Rattle.planner.specs.Placing.{ready, endOf};
 ghost use Rattle.schedule.specs.Layout.{scheduleIn};
 ghost use Rattle.chains.specs.Frames.{Only};
 ghost use Rattle.chains.specs.Chains.{Chained};
-ghost use Rattle.chains.specs.declared.End.the-variants.{Source};
-ghost use Rattle.arrivals.specs.Kept.{known, Counted, Ends, Kept};
+ghost use Rattle.chains.specs.declared.End.the-variants.{Source, Target};
+ghost use Rattle.arrivals.specs.Kept.{known, Single, Gathered, Counted, SurveyedTo, Surveyed, Ends, Kept};
 ghost use Rattle.arrivals.specs.Reach.{further};
 ghost use Rattle.arrivals.specs.Steps.{countWords, upTo, Beside, Placeable, Landed, Released, Enough, Zero, GatheredTo};
 use chains::End;
@@ -54,42 +55,45 @@ fn write_link(
     reach: Reach,
     pending: usize,
     number: usize,
-    bytes: usize,
 )
     requires { ⌜ fixed ≤ length (now w) ⌝ }
-    requires { ⌜ (v < 256) × (k < 16) × (seen < 4294967296) × (reach .at < 4294967296) × (reach .most < 4294967296) × (reach .other < 4294967296) × (pending < 4294967296) × (number < 4294967296) × (bytes < 4294967296) ⌝ }
-    ensures { λ _. ⌜ now (w .exit) ≡ countWords (now (w .entry)) v k seen reach pending number bytes ⌝ }
+    requires { ⌜ (v < 256) × (k < 16) × (seen < 4294967296) × (reach .at < 4294967296) × (reach .most < 4294967296) × (reach .other < 4294967296) × (pending < 4294967296) × (number < 4294967296) ⌝ }
+    ensures { λ _. ⌜ now (w .exit) ≡ countWords (now (w .entry)) v k seen reach pending number ⌝ }
 {
     let at = reach.at;
     let most = reach.most;
     let other = reach.other;
-    w[12304 + v] = workspace::narrow(seen);
-    w[12560 + v] = workspace::narrow(most);
-    w[12816 + v] = workspace::narrow(other);
-    w[13072 + v] = workspace::narrow(at);
-    w[13360 + k] = workspace::narrow(pending);
-    w[14336 + (16 * v + k)] = workspace::narrow(number);
-    w[18432 + (16 * v + k)] = workspace::narrow(bytes);
+    w[6688 + v] = workspace::narrow(seen);
+    w[6944 + v] = workspace::narrow(most);
+    w[7200 + v] = workspace::narrow(other);
+    w[7456 + v] = workspace::narrow(at);
+    w[7744 + k] = workspace::narrow(pending);
+    w[7792 + (4 * v + k / 4)] = workspace::narrow(number);
+}
+
+// 1 in the byte of processor k, in a word of four counts.
+fn one_of(k: usize) -> usize
+    ensures { λ r. ⌜ r ≡ 2 ^ (8 * (k % 4)) ⌝ }
+{
+    1 << (8 * (k % 4))
 }
 
 // Link l is counted; it leads from t, which stands on k until f.
 fn count_link(w: &mut [u32], t: usize, k: usize, f: usize, l: usize)
     requires { ⌜ Loaded (now w) ⌝ }
     requires { ⌜ (k < 16) × (f < 2147483648) × (l < linkCount (sheetIn (now w))) × (sourceOf (sheetIn (now w)) l ≡ t) ⌝ }
-    requires { ⌜ Landed (sheetIn (now w)) (scheduleIn (now w)) t k f ⌝ }
+    requires { ⌜ Single (sheetIn (now w)) × Landed (sheetIn (now w)) (scheduleIn (now w)) t k f ⌝ }
     requires { ⌜ Counted (sheetIn (now w)) (scheduleIn (now w)) (upTo (sheetIn (now w)) (scheduleIn (now w)) t l) (now w) ⌝ }
     ensures { λ _. ⌜ Beside (now (w .entry)) (now (w .exit)) × Counted (sheetIn (now (w .entry))) (scheduleIn (now (w .entry))) (upTo (sheetIn (now (w .entry))) (scheduleIn (now (w .entry))) t (l + 1)) (now (w .exit)) ⌝ }
 {
     let v = tables::target(w, l);
     let c = tables::cost(w, l);
-    let b = tables::size(w, l);
-    let seen = workspace::word(w, 12304 + v);
-    let most = workspace::word(w, 12560 + v);
-    let other = workspace::word(w, 12816 + v);
-    let at = workspace::word(w, 13072 + v);
-    let pending = workspace::word(w, 13360 + k);
-    let number = workspace::word(w, 14336 + (16 * v + k));
-    let bytes = workspace::word(w, 18432 + (16 * v + k));
+    let seen = workspace::word(w, 6688 + v);
+    let most = workspace::word(w, 6944 + v);
+    let other = workspace::word(w, 7200 + v);
+    let at = workspace::word(w, 7456 + v);
+    let pending = workspace::word(w, 7744 + k);
+    let number = workspace::word(w, 7792 + (4 * v + k / 4));
     let reach = reached(
         Reach {
             at: at,
@@ -99,15 +103,15 @@ fn count_link(w: &mut [u32], t: usize, k: usize, f: usize, l: usize)
         k,
         f + c,
     );
-    write_link(w, v, k, seen + 1, reach, pending + 1, number + 1, bytes + b);
+    write_link(w, v, k, seen + 1, reach, pending + 1, number + one_of(k));
 }
 
 // All links out of t, which stands on k until f, are counted.
 pub fn count_links(w: &mut [u32], t: usize, k: usize, f: usize)
     requires { ⌜ Loaded (now w) ⌝ }
     requires { ⌜ Chained Source (sheetIn (now w)) (now w) ⌝ }
-    requires { ⌜ (k < 16) × (f < 2147483648) × (t < taskCount (sheetIn (now w))) × (getD (now w) 9217 0 ≤ 256) ⌝ }
-    requires { ⌜ Landed (sheetIn (now w)) (scheduleIn (now w)) t k f ⌝ }
+    requires { ⌜ (k < 16) × (f < 2147483648) × (t < taskCount (sheetIn (now w))) × (getD (now w) 4881 0 ≤ 256) ⌝ }
+    requires { ⌜ Single (sheetIn (now w)) × Landed (sheetIn (now w)) (scheduleIn (now w)) t k f ⌝ }
     requires { ⌜ Counted (sheetIn (now w)) (scheduleIn (now w)) (upTo (sheetIn (now w)) (scheduleIn (now w)) t 0) (now w) ⌝ }
     ensures { λ _. ⌜ Beside (now (w .entry)) (now (w .exit)) × Counted (sheetIn (now (w .entry))) (scheduleIn (now (w .entry))) (known (sheetIn (now (w .entry))) (scheduleIn (now (w .entry)))) (now (w .exit)) ⌝ }
 {
@@ -122,31 +126,31 @@ pub fn count_links(w: &mut [u32], t: usize, k: usize, f: usize)
 // k ends at f with t on it, from a on.
 pub fn settle(w: &mut [u32], t: usize, k: usize, a: usize, f: usize)
     requires { ⌜ Kept (now w) ⌝ }
-    requires { ⌜ Placeable (sheetIn (now w)) (scheduleIn (now w)) t k ⌝ }
+    requires { ⌜ Placeable (sheetIn (now w)) (scheduleIn (now w)) t k × Surveyed (sheetIn (now w)) (scheduleIn (now w)) t (now w) ⌝ }
     requires { ⌜ (f < 2147483648) × (endOf (sheetIn (now w)) (scheduleIn (now w)) k ≤ f) ⌝ }
-    ensures { λ _. ⌜ Only 13328 13360 (now (w .entry)) (now (w .exit)) × Ends (sheetIn (now (w .entry))) (put (scheduleIn (now (w .entry))) t k a f) (now (w .exit)) ⌝ }
+    ensures { λ _. ⌜ Only 7712 7744 (now (w .entry)) (now (w .exit)) × Ends (sheetIn (now (w .entry))) (put (scheduleIn (now (w .entry))) t k a f) (now (w .exit)) ⌝ }
 {
-    let x = workspace::word(w, 13344 + k);
+    let x = workspace::word(w, 7728 + k);
     let y = tables::store(w, t);
-    let z = workspace::word(w, 12048 + t);
-    let v = workspace::word(w, 18432 + (16 * t + k));
+    let z = workspace::word(w, 6432 + t);
+    let v = workspace::word(w, 7760 + k);
     let u = x + y + z;
     let r = u - v;
-    w[13328 + k] = workspace::narrow(f);
-    w[13344 + k] = workspace::narrow(r);
+    w[7712 + k] = workspace::narrow(f);
+    w[7728 + k] = workspace::narrow(r);
 }
 
-// The links into t wait no more.
-pub fn release(w: &mut [u32], t: usize)
-    requires { ⌜ (fixed ≤ length (now w)) × (t < 256) ⌝ }
-    requires { ⌜ Enough t (now w) ⌝ }
-    ensures { λ _. ⌜ Released t 16 (now (w .entry)) (now (w .exit)) ⌝ }
+// The links into the task of this turn wait no more.
+pub fn release(w: &mut [u32])
+    requires { ⌜ fixed ≤ length (now w) ⌝ }
+    requires { ⌜ Enough (now w) ⌝ }
+    ensures { λ _. ⌜ Released 16 (now (w .entry)) (now (w .exit)) ⌝ }
 {
     let mut j: usize = 0;
     while j < 16 {
-        let x = workspace::word(w, 13360 + j);
-        let y = workspace::word(w, 14336 + (16 * t + j));
-        w[13360 + j] = workspace::narrow(x - y);
+        let x = workspace::word(w, 7744 + j);
+        let y = workspace::word(w, 7776 + j);
+        w[7744 + j] = workspace::narrow(x - y);
         j += 1;
     }
 }
@@ -154,13 +158,52 @@ pub fn release(w: &mut [u32], t: usize)
 // Nothing is known or placed.
 pub fn clear(w: &mut [u32])
     requires { ⌜ fixed ≤ length (now w) ⌝ }
-    ensures { λ _. ⌜ Only 11792 22528 (now (w .entry)) (now (w .exit)) × Zero 22528 (now (w .exit)) ⌝ }
+    ensures { λ _. ⌜ Only 6176 8816 (now (w .entry)) (now (w .exit)) × Zero 6176 8816 (now (w .exit)) ⌝ }
 {
-    let mut i: usize = 11792;
-    while i < 22528 {
-        w[i] = 0;
+    workspace::clear_words(w, 6176, 8816);
+}
+
+// Link l into t is surveyed.
+fn survey_link(w: &mut [u32], t: usize, l: usize)
+    requires { ⌜ Loaded (now w) ⌝ }
+    requires { ⌜ (l < linkCount (sheetIn (now w))) × (targetOf (sheetIn (now w)) l ≡ t) × (placed (scheduleIn (now w)) (sourceOf (sheetIn (now w)) l) ≡ true) ⌝ }
+    requires { ⌜ SurveyedTo (sheetIn (now w)) (scheduleIn (now w)) t l (now w) ⌝ }
+    ensures { λ _. ⌜ Only 7760 7792 (now (w .entry)) (now (w .exit)) × SurveyedTo (sheetIn (now (w .entry))) (scheduleIn (now (w .entry))) t (l + 1) (now (w .exit)) ⌝ }
+{
+    let k = schedule::place(w, tables::source(w, l));
+    let b = tables::size(w, l);
+    let x = workspace::word(w, 7760 + k);
+    let y = workspace::word(w, 7776 + k);
+    w[7760 + k] = workspace::narrow(x + b);
+    w[7776 + k] = workspace::narrow(y + 1);
+}
+
+// All links into t are surveyed. The walk ends by their number, which is known before the links are.
+fn survey_links(w: &mut [u32], t: usize)
+    requires { ⌜ Loaded (now w) ⌝ }
+    requires { ⌜ Chained Target (sheetIn (now w)) (now w) ⌝ }
+    requires { ⌜ (getD (now w) 4881 0 ≤ 256) × (t < taskCount (sheetIn (now w))) × (ready (sheetIn (now w)) (scheduleIn (now w)) t ≡ true) ⌝ }
+    requires { ⌜ Gathered (sheetIn (now w)) (now w) × SurveyedTo (sheetIn (now w)) (scheduleIn (now w)) t 0 (now w) ⌝ }
+    ensures { λ _. ⌜ Only 7760 7792 (now (w .entry)) (now (w .exit)) × Surveyed (sheetIn (now (w .entry))) (scheduleIn (now (w .entry))) t (now (w .exit)) ⌝ }
+{
+    let n = workspace::word(w, 6176 + t);
+    let mut l = chains::first(w, End::Target, t);
+    let mut i: usize = 0;
+    while i < n {
+        survey_link(w, t, l);
+        l = chains::next(w, End::Target, l);
         i += 1;
     }
+}
+
+// The links into t, whose turn it is, by the processor that they come from.
+pub fn survey(w: &mut [u32], t: usize)
+    requires { ⌜ Kept (now w) ⌝ }
+    requires { ⌜ (getD (now w) 4881 0 ≤ 256) × (t < taskCount (sheetIn (now w))) × (ready (sheetIn (now w)) (scheduleIn (now w)) t ≡ true) ⌝ }
+    ensures { λ _. ⌜ Only 7760 7792 (now (w .entry)) (now (w .exit)) × Surveyed (sheetIn (now (w .entry))) (scheduleIn (now (w .entry))) t (now (w .exit)) ⌝ }
+{
+    workspace::clear_words(w, 7760, 7792);
+    survey_links(w, t);
 }
 
 // Link l is gathered at its target.
@@ -168,21 +211,21 @@ fn gather_one(w: &mut [u32], l: usize)
     requires { ⌜ Loaded (now w) ⌝ }
     requires { ⌜ l < linkCount (sheetIn (now w)) ⌝ }
     requires { ⌜ GatheredTo (sheetIn (now w)) l (now w) ⌝ }
-    ensures { λ _. ⌜ Only 11792 12304 (now (w .entry)) (now (w .exit)) × GatheredTo (sheetIn (now (w .entry))) (l + 1) (now (w .exit)) ⌝ }
+    ensures { λ _. ⌜ Only 6176 6688 (now (w .entry)) (now (w .exit)) × GatheredTo (sheetIn (now (w .entry))) (l + 1) (now (w .exit)) ⌝ }
 {
     let t = tables::target(w, l);
     let b = tables::size(w, l);
-    let x = workspace::word(w, 11792 + t);
-    let y = workspace::word(w, 12048 + t);
-    w[11792 + t] = workspace::narrow(x + 1);
-    w[12048 + t] = workspace::narrow(y + b);
+    let x = workspace::word(w, 6176 + t);
+    let y = workspace::word(w, 6432 + t);
+    w[6176 + t] = workspace::narrow(x + 1);
+    w[6432 + t] = workspace::narrow(y + b);
 }
 
 // All links are gathered.
 pub fn gather(w: &mut [u32])
     requires { ⌜ Loaded (now w) ⌝ }
     requires { ⌜ GatheredTo (sheetIn (now w)) 0 (now w) ⌝ }
-    ensures { λ _. ⌜ Only 11792 12304 (now (w .entry)) (now (w .exit)) × GatheredTo (sheetIn (now (w .entry))) (linkCount (sheetIn (now (w .entry)))) (now (w .exit)) ⌝ }
+    ensures { λ _. ⌜ Only 6176 6688 (now (w .entry)) (now (w .exit)) × GatheredTo (sheetIn (now (w .entry))) (linkCount (sheetIn (now (w .entry)))) (now (w .exit)) ⌝ }
 {
     let m = tables::links(w);
     let mut l: usize = 0;

@@ -1,3 +1,4 @@
+-- The laws of `assurance`.
 pub mod Holding
 pub mod Each
 pub mod Blocks

@@ -11,6 +11,7 @@ use lib.Dec.{ltb}
 use Rattle.folds.specs.Folds.{pick}
 use Rattle.folds.specs.Answers.{Answer, value, refused, andThen, longEnough, fitting, number, placeOr, written}
 use Rattle.folds.proofs.Tests.{not-value, andThen-value}
+use Rattle.numbers.specs.Number.{Bytes}
 use Rattle.workspace.specs.Area.{fixed}
 use Rattle.sheet.specs.Sheet.{Sheet}
 use Rattle.graph.specs.Graph.{readSheet}
@@ -29,7 +30,7 @@ use Rattle.zeldrupa.specs.Promises.{checkAnswer, GivesCheck, planAnswer, GivesP
 use Rattle.answers.specs.Values.{steppedIn}
 use Rattle.zeldrupa.specs.Stepping.{startAnswer}
 use Rattle.zeldrupa.proofs.Gives.{short, enough}
-use Rattle.assurance.specs.Demand.{Bytes, Holds, Demand}
+use Rattle.assurance.specs.Demand.{Holds, Demand}
 use Rattle.assurance.proofs.Numbers.{returned-0, numbered-long, numbered-check, numbered-starting, numbered-plan, numbered-given}
 use Rattle.assurance.proofs.Calls.{agreed}
 use Rattle.assurance.proofs.Holding.{holding, passing}
@@ -67,7 +68,7 @@ plan-checked sheet out y e =
     let q = andThen-value (planned s) (λ σ. value (bundleBytes (bundleOf s σ))) out (r .2) in
     let b = bundleOf s (q .0) in
     let p = proper sheet s (r .1) in
-    let a = plan-accepted s p (proper-sized sheet s (record { small = y }) (r .1)) (barred s) (q .0) (q .1) in
+    let a = plan-accepted s p (proper-sized sheet s y (r .1)) (barred s) (q .0) (q .1) in
     let w : bundleBytes b ≡ out = cc (q .2) in
     (b, check-is sheet out s b (r .1) (subst (λ o. readBundle s o ≡ value b) w (read-back s b (omega (arith, p .form .links)) (a .1))) ∙ a .0)
 

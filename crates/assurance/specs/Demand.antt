@@ -6,9 +6,10 @@ use mathlib.Core.Option.{some}
 use mathlib.Core.Path.{_≡_}
 use mathlib.Core.Logic.{_↔_}
 use mathlib.Core.List.{List, [], _∷_, map}
-use lib.ListN.{length, take, getD, getElem?}
+use lib.ListN.{length, take, getElem?}
 use Rattle.folds.specs.Folds.{bit}
 use Rattle.folds.specs.Answers.{value}
+use Rattle.numbers.specs.Number.{Bytes}
 use Rattle.workspace.specs.Area.{fixed}
 use Rattle.sheet.specs.Sheet.{Sheet, taskCount, linkCount, sourceOf, targetOf}
 use Rattle.graph.specs.Graph.{readSheet}
@@ -23,10 +24,6 @@ use Rattle.starting.specs.Starts.{starting}
 use Rattle.zeldrupa.specs.Promises.{GivesCheck, GivesPlan}
 use Rattle.answers.specs.Values.{numbersOf}
 use Rattle.zeldrupa.specs.Stepping.{GivesStart, GivesRun, GivesStep, GivesLeft, GivesProcessor, stampNumber, GivesStamp}
-
--- numbers that are bytes
-abbrev pub Bytes : List ℕ → Type 0
-Bytes b = (i : ℕ) → getD b i 0 < 256
 
 -- "for each link into it, that processor has earlier run the source or received the message": among the first i commands of its programme p
 abbrev pub Present : Sheet → List Command → ℕ → ℕ → Type 0

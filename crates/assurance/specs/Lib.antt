@@ -1,2 +1,3 @@
+-- The definitions of `assurance`.
 pub mod Trials
 pub mod Demand

@@ -1,3 +1,4 @@
+-- The laws of `bundle`.
 pub mod Walks
 pub mod Steps
 pub mod Backs

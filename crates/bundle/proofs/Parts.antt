@@ -10,13 +10,13 @@ use lib.ListN.{length, getD, take, drop, length-append}
 use lib.Dec.{eqb}
 use Rattle.folds.specs.Folds.{pick}
 use Rattle.folds.proofs.Tests.{either-none, not-some}
-use Rattle.numbers.specs.Number.{numberAt}
+use Rattle.numbers.specs.Number.{Bytes, numberAt}
 use Rattle.numbers.proofs.Laws.{bytes-of-number, number-of-bytes}
 use Rattle.sheet.specs.Sheet.{Sheet, taskCount, linkCount}
 use Rattle.bundle.specs.Bundle.{Command, run, send, receive}
 use Rattle.bundle.specs.Format.{Kind, opening, running, sending, receiving, claiming, kindOf, width, within, after, closes}
 use Rattle.bundle.specs.Writing.{programmesBytes, programmesValues, operandBytes}
-use Rattle.bundle.specs.Fits.{Known, Each, Bytes}
+use Rattle.bundle.specs.Fits.{Known, Each}
 use Rattle.bundle.proofs.Steps.{Clear}
 use Rattle.bundle.proofs.Coded.{bytes-within, bytes-open, values-within, values-open}
 

@@ -12,7 +12,7 @@ use lib.Dec.{ltb}
 use Rattle.folds.specs.Folds.{pick}
 use Rattle.folds.specs.Answers.{value, refused}
 use Rattle.folds.proofs.Tests.{not-value}
-use Rattle.numbers.specs.Number.{numberAt, numberBytes}
+use Rattle.numbers.specs.Number.{Bytes, numberAt, numberBytes}
 use Rattle.numbers.proofs.Laws.{number-of-bytes}
 use Rattle.commands.specs.Commands.{Outcome, go, judge}
 use Rattle.commands.proofs.Going.{comes}
@@ -20,7 +20,7 @@ use Rattle.sheet.specs.Sheet.{Sheet}
 use Rattle.bundle.specs.Bundle.{Command, run, send, receive, Bundle}
 use Rattle.bundle.specs.Format.{Kind, claiming, kindOf, width, after, closes, ended, bundleFormat, readBundle}
 use Rattle.bundle.specs.Writing.{programmeBytes, programmesBytes, claimBytes, bundleBytes, programmeValues, programmesValues, bundleValues, operandBytes, valueBytes}
-use Rattle.bundle.specs.Fits.{Formed, Fits, Bytes}
+use Rattle.bundle.specs.Fits.{Formed, Fits}
 use Rattle.bundle.proofs.Walks.{Keeps, arrives-all}
 use Rattle.bundle.proofs.Steps.{Clear, none-clear}
 use Rattle.bundle.proofs.Parts.{byteOf, kind-byte, claim-facts, Part, part-after, closing-byte, closing-kind, width-some, drop-operand, operandFrom, operand-back, values-after, written-after, operand-again}

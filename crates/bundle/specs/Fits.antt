@@ -1,7 +1,7 @@
 -- What a bundle satisfies that bytes can hold for a sheet; and lists of bytes.
-use Prim.Native.Nat.{ℕ, _≤_, _<_}
+use Prim.Native.Nat.{_≤_, _<_}
 use mathlib.Core.List.{List, [], _∷_}
-use lib.ListN.{length, getD}
+use lib.ListN.{length}
 use Rattle.sheet.specs.Sheet.{Sheet, taskCount, linkCount}
 use Rattle.bundle.specs.Bundle.{Command, run, send, receive, Bundle}
 
@@ -25,6 +25,3 @@ pub record Formed (s : Sheet) (b : Bundle) : Type 0 where
 pub record Fits (s : Sheet) (b : Bundle) : Type 0 where
   pub formed : Formed s b
   pub claimed : b .claim < 4294967296
-
-abbrev pub Bytes : List ℕ → Type 0
-Bytes b = (i : ℕ) → getD b i 0 < 256

@@ -1,3 +1,4 @@
+-- The definitions of `bundle`.
 pub mod Bundle
 pub mod Format
 pub mod Writing

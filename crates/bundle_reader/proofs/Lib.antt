@@ -1,2 +1,3 @@
+-- The laws of `bundle_reader`.
 pub mod Scans
 pub mod Told

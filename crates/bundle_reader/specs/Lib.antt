@@ -1,2 +1,3 @@
+-- The definitions of `bundle_reader`.
 pub mod Answers
 pub mod ReadIs

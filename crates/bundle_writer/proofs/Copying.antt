@@ -7,13 +7,12 @@ use native.Mathlib.Omega.{arith}
 use lib.ListN.{length, getD, drop, set, length-append, length-drop}
 use lib.Seq.{getD-drop, drop-drop}
 use Rattle.folds.specs.Answers.{value}
-use Rattle.numbers.specs.Number.{numberAt, numberBytes, stored}
+use Rattle.numbers.specs.Number.{Bytes, numberAt, numberBytes, stored}
 use Rattle.numbers.proofs.Laws.{numberAt-drop, numberAt-cons, number-of-bytes, length-stored, stored-two, stored-then, stored-none}
 use Rattle.sheet.specs.Sheet.{Sheet}
 use Rattle.bundle.specs.Bundle.{Bundle}
 use Rattle.bundle.specs.Format.{kindOf, readBundle}
 use Rattle.bundle.specs.Writing.{bundleValues, operandBytes, valueBytes}
-use Rattle.bundle.specs.Fits.{Bytes}
 use Rattle.bundle.specs.Kinds.{isMessage}
 use Rattle.bundle_writer.specs.Writes.{Small}
 use Rattle.bundle_writer.specs.Copies.{Copyable, CopyIs, operandIn, sizeBy}

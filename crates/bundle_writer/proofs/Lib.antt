@@ -1,3 +1,4 @@
+-- The laws of `bundle_writer`.
 pub mod Judging
 pub mod Puts
 pub mod Plain

@@ -1,3 +1,4 @@
+-- The definitions of `bundle_writer`.
 pub mod Whole
 pub mod Writes
 pub mod Copies

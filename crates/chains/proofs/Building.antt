@@ -16,7 +16,7 @@ use Rattle.chains.specs.declared.End.{End}
 use Rattle.chains.specs.declared.End.the-variants.{Source, Target}
 use Rattle.chains.proofs.Frames.{only-none, only-set, only-trans, only-sheet}
 
-pub head-place : (e : End) → (4880 ≤ headAt e) × (headAt e ≤ 9232)
+pub head-place : (e : End) → (2576 ≤ headAt e) × (headAt e ≤ 4896)
 head-place Source = (omega arith, omega arith)
 head-place Target = (omega arith, omega arith)
 
@@ -77,7 +77,7 @@ module _ (e : End) (s : Sheet) (w : List ℕ) (l : ℕ) (long : fixed ≤ length
   abbrev new : List ℕ
   new = set (set w (headAt e + 256 + l) (getD w (headAt e + endBy e s l) 0)) (headAt e + endBy e s l) l
 
-  a-in : (endBy e s l < taskCount s) × (taskCount s ≤ 256) × (linkCount s ≤ 1024) × (4880 ≤ headAt e) × (headAt e ≤ 9232)
+  a-in : (endBy e s l < taskCount s) × (taskCount s ≤ 256) × (linkCount s ≤ 1024) × (2576 ≤ headAt e) × (headAt e ≤ 4896)
   a-in = (end-below e ranged l l-in, ranged .few-tasks, ranged .few-links, head-place e .0, head-place e .1)
 
   head-here : getD new (headAt e + a) 0 ≡ l

@@ -1,3 +1,4 @@
+-- The laws of `chains`.
 pub mod Frames
 pub mod Building
 pub mod Walks

@@ -14,8 +14,8 @@ endBy Target s l = targetOf s l
 
 -- the words of the first links; those of the next links stand 256 behind them
 abbrev pub headAt : End → ℕ
-headAt Source = 9232
-headAt Target = 4880
+headAt Source = 4896
+headAt Target = 2576
 
 -- the number of links stands for no link
 pub record Chained (e : End) (s : Sheet) (w : List ℕ) : Type 0 where

@@ -1,2 +1,3 @@
+-- The definitions of `chains`.
 pub mod Frames
 pub mod Chains

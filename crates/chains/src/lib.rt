@@ -27,11 +27,11 @@ fn end_of(w: &[u32], e: End, l: usize) -> usize
 
 // Where the chains stand.
 fn heads(e: End) -> usize
-    ensures { λ r. ⌜ (r ≡ headAt e) × (4880 ≤ r) × (r ≤ 9232) ⌝ }
+    ensures { λ r. ⌜ (r ≡ headAt e) × (2576 ≤ r) × (r ≤ 4896) ⌝ }
 {
     match e {
-        End::Source => 9232,
-        End::Target => 4880,
+        End::Source => 4896,
+        End::Target => 2576,
     }
 }
 

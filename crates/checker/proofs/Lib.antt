@@ -1,3 +1,4 @@
+-- The laws of `checker`.
 pub mod Accepted
 pub mod Going
 pub mod Holding

@@ -75,7 +75,7 @@ fn put_listing(sheet: &[u8], out: &mut [u8]) -> usize
     requires { ⌜ 21551 ≤ length (now out) ⌝ }
     ensures { λ n. ⌜ PutIs (now (sheet .entry)) (now (out .exit)) n ⌝ }
 {
-    let mut work = [0u32; 22528];
+    let mut work = [0u32; 8816];
     length_of(lines::list(sheet, &mut work, out))
 }
 

@@ -5,15 +5,11 @@ use mathlib.Core.Option.{Option, none}
 use mathlib.Core.Path.{_≡_, refl, ap, ap₂, sym, _∙_}
 use mathlib.Core.List.{List, [], _∷_, _++_}
 use native.Mathlib.Numerals.{add-one}
-use Rattle.folds.specs.Folds.{both, either, all, any, sum, greatest, first, listed, gather}
+use Rattle.folds.specs.Folds.{either, all, any, sum, greatest, first, listed, gather}
 
 pub all-zero : (p : ℕ → Bool) → all 0 p ≡ true
 unfolding all
 all-zero p = refl
-
-pub all-one : (n : ℕ) (p : ℕ → Bool) → all (n + 1) p ≡ both (all n p) (p n)
-unfolding all
-all-one n p = rw add-one
 
 pub any-zero : (p : ℕ → Bool) → any 0 p ≡ false
 unfolding any

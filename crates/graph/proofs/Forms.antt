@@ -3,8 +3,8 @@ use Prim.Native.Nat.{ℕ, _≤_, _<_}
 use native.Mathlib.Omega.{arith}
 use mathlib.Core.Path.{_≡_}
 use mathlib.Core.List.{List}
-use lib.ListN.{getD}
 use Rattle.folds.specs.Answers.{value}
+use Rattle.numbers.specs.Number.{Bytes}
 use Rattle.sheet.specs.Sheet.{Sheet, taskCount, linkCount, workOf, storeOf, sourceOf, targetOf, costOf, bytesOf}
 use Rattle.sheet.specs.Format.{readForm}
 use Rattle.sheet.proofs.Rounds.{read-shaped, shaped-single, read-ranged}
@@ -45,13 +45,9 @@ pub record Sized (s : Sheet) : Type 0 where
   pub costs : (l : ℕ) → l < linkCount s → costOf s l ≤ 65535
   pub sizes : (l : ℕ) → l < linkCount s → bytesOf s l ≤ 65535
 
--- every byte of b is one
-pub record Bytes (b : List ℕ) : Type 0 where
-  pub small : (i : ℕ) → getD b i 0 < 256
-
 pub form-sizes : (b : List ℕ) (s : Sheet) → Bytes b → readForm b ≡ value s → Sized s
 form-sizes b s h e =
-    let p = read-ranged b s (h .small) e in
+    let p = read-ranged b s h e in
     let r = p .ranged in
     record {
       limit = p .limit;

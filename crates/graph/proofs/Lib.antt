@@ -1,3 +1,4 @@
+-- The laws of `graph`.
 pub mod Reaches
 pub mod Ranks
 pub mod Plain

@@ -6,6 +6,7 @@ use mathlib.Core.Path.{_≡_, refl, sym, ap, _∙_}
 use mathlib.Core.List.{List}
 use Rattle.folds.specs.Answers.{Answer, value, refused, unless, andThen}
 use Rattle.folds.proofs.Tests.{andThen-value, unless-value, not-value, value-same}
+use Rattle.numbers.specs.Number.{Bytes}
 use Rattle.sheet.specs.Sheet.{Sheet, taskCount}
 use Rattle.sheet.specs.Format.{readForm}
 use Rattle.graph.specs.Graph.{circle, level, readSheet}
@@ -13,7 +14,7 @@ use Rattle.graph.specs.Paths.{LevelIs, LowestOnCircle}
 use Rattle.graph.proofs.Reaches.{Declared}
 use Rattle.graph.proofs.Plain.{level-plain, circle-lowest, lowest-circle}
 use Rattle.sheet.proofs.Numbers.{form-numbered}
-use Rattle.graph.proofs.Forms.{Bytes, Formed, Sized, form-read, form-sizes}
+use Rattle.graph.proofs.Forms.{Formed, Sized, form-read, form-sizes}
 
 -- a sheet that `readSheet` gives; the widths of its numbers are in `Sized`, where its bytes are bytes
 pub record Proper (s : Sheet) : Type 0 where

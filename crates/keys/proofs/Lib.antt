@@ -1,2 +1,3 @@
+-- The laws of `keys`.
 pub mod Blocks
 pub mod Leading

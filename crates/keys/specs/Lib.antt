@@ -1,1 +1,2 @@
+-- The definitions of `keys`.
 pub mod Keys

@@ -1,20 +1,17 @@
 -- The end of peeling: where all tasks are taken off there is no circle and the levels are there; where one is left there is a circle.
-use Prim.Native.Nat.{ℕ, zero, suc, _+_, _*_, _≤_, _<_}
-use mathlib.Core.Bool.{Bool, true, false}
-use mathlib.Core.Option.{Option, none, some}
-use mathlib.Core.Path.{_≡_, refl, ap, sym, _∙_, subst}
-use mathlib.Core.Logic.{_≢_}
+use Prim.Native.Nat.{ℕ, zero, suc, _+_, _≤_, _<_}
+use mathlib.Core.Option.{none}
+use mathlib.Core.Path.{_≡_, ap, sym, _∙_, subst}
 use mathlib.Core.List.{List}
 use native.Mathlib.Omega.{arith}
-use native.Mathlib.Decide.{decLt, ℕ-discrete}
+use native.Mathlib.Decide.{ℕ-discrete}
 use borrow.Author.Tests.{lt-ltb}
-use lib.ListN.{length, getD}
-use lib.Dec.{ltb}
-use Rattle.folds.specs.Folds.{sum, greatest}
+use lib.ListN.{getD}
+use Rattle.folds.specs.Folds.{sum}
 use Rattle.folds.proofs.Laws.{sum-zeros, sum-mono}
-use Rattle.sheet.specs.Sheet.{Sheet, taskCount, linkCount, workOf, sourceOf, targetOf}
-use Rattle.sheet.specs.Tables.{sheetIn, Loaded}
-use Rattle.graph.specs.Graph.{circle, level}
+use Rattle.sheet.specs.Sheet.{Sheet, taskCount, linkCount, sourceOf, targetOf}
+use Rattle.sheet.specs.Tables.{sheetIn}
+use Rattle.graph.specs.Graph.{circle}
 use Rattle.chains.specs.Frames.{Only}
 use Rattle.chains.specs.Chains.{Chained}
 use Rattle.chains.specs.declared.End.the-variants.{Target}
@@ -22,20 +19,20 @@ use Rattle.peeling.specs.Words.{Held, Kept, Beside, inQueue, doneBy}
 use Rattle.peeling.specs.Peeling.{dueBy, levelIn, Peeled}
 use Rattle.levelling.specs.Found.{foundOf, Levelled, LevelsAre}
 use Rattle.levelling.specs.declared.Found.{Found}
-use Rattle.levelling.specs.declared.Found.the-variants.{At, Nothing}
+use Rattle.levelling.specs.declared.Found.the-variants.{Nothing}
 use Rattle.graph.proofs.Reaches.{Declared}
 use Rattle.graph.proofs.Ranks.{Ranked, Solved, ranked-none, rankOf, none-ranked, level-is}
-use Rattle.peeling.proofs.Frames.{held, only-kept, kept-held, kept-sheet, kept-trans, beside-held, beside-own, loaded-declared, beside-chained}
+use Rattle.peeling.proofs.Frames.{only-kept, kept-held, kept-sheet, kept-trans, beside-held, beside-own, loaded-declared, beside-chained}
 use Rattle.peeling.proofs.Pushes.{in-queue, queued-all, queued-few}
 use Rattle.peeling.proofs.Lights.{due-lit, due-other}
 use Rattle.peeling.proofs.Turns.{chain-here}
 
 -- all are taken off
 module _ (s : Sheet) (k : ℕ) (w : List ℕ) (declared : Declared s) (p : Peeled s k k 0 0 w) (all : k ≡ taskCount s) where
-  placed : (t : ℕ) → t < taskCount s → getD w (6672 + t) 0 < 256
+  placed : (t : ℕ) → t < taskCount s → getD w (4368 + t) 0 < 256
   placed = queued-all (p .peel .queued) all
 
-  ranked : Ranked s (λ t. getD w (6672 + t) 0)
+  ranked : Ranked s (λ t. getD w (4368 + t) 0)
   ranked =
       record {
         falls = λ l h. p .peel .falls l h (placed (sourceOf s l) (declared .source l h));
@@ -47,11 +44,11 @@ module _ (s : Sheet) (k : ℕ) (w : List ℕ) (declared : Declared s) (p : Peele
   solved = record { is = λ t h. p .peel .solved t h (p .peel .queued .few t h (placed t h)) }
 
   pub peeled-free : circle s ≡ none
-  peeled-free = ranked-none s (λ t. getD w (6672 + t) 0) ranked
+  peeled-free = ranked-none s (λ t. getD w (4368 + t) 0) ranked
 
   pub peeled-levels : Chained Target s w → Levelled s w
   unfolding levelIn
-  peeled-levels inward = record { inward = inward; levels = λ t h. sym (level-is s (λ u. getD w (6672 + u) 0) (levelIn w) (declared .target) ranked solved t h) }
+  peeled-levels inward = record { inward = inward; levels = λ t h. sym (level-is s (λ u. getD w (4368 + u) 0) (levelIn w) (declared .target) ranked solved t h) }
 
 sum-ones : (n : ℕ) → n ≤ sum n (λ t. 1)
 unfolding sum
@@ -60,15 +57,15 @@ sum-ones (suc n) = omega (arith, sum-ones n)
 
 -- one is left: were there no circle, the left one of lowest rank would have no link to another that is left
 module _ (s : Sheet) (k : ℕ) (w : List ℕ) (declared : Declared s) (p : Peeled s k k 0 0 w) (free : circle s ≡ none) where
-  no-link : (t l : ℕ) → l < linkCount s → (sourceOf s l ≡ t → getD w (6672 + targetOf s l) 0 < 256) → dueBy s (doneBy s k w) t l ≡ 0
+  no-link : (t l : ℕ) → l < linkCount s → (sourceOf s l ≡ t → getD w (4368 + targetOf s l) 0 < 256) → dueBy s (doneBy s k w) t l ≡ 0
   unfolding doneBy
   no-link t l h g = go (ℕ-discrete (sourceOf s l) t)
     where
       go : Dec (sourceOf s l ≡ t) → dueBy s (doneBy s k w) t l ≡ 0
-      go (yes e) = due-lit s (doneBy s k w) t l (lt-ltb (getD w (6672 + targetOf s l) 0) k (p .peel .queued .few (targetOf s l) (declared .target l h) (g e)))
+      go (yes e) = due-lit s (doneBy s k w) t l (lt-ltb (getD w (4368 + targetOf s l) 0) k (p .peel .queued .few (targetOf s l) (declared .target l h) (g e)))
       go (no e) = due-other s (doneBy s k w) t l e
 
-  all-placed : (r t : ℕ) → t < taskCount s → rankOf s t < r → getD w (6672 + t) 0 < 256
+  all-placed : (r t : ℕ) → t < taskCount s → rankOf s t < r → getD w (4368 + t) 0 < 256
   all-placed zero t h g = absurd (omega arith)
   all-placed (suc r) t h g =
       let ranks = none-ranked s declared free in
@@ -85,15 +82,15 @@ module _ (s : Sheet) (k : ℕ) (w : List ℕ) (declared : Declared s) (p : Peele
       omega (arith, p .peel .queued .count, queued-few (p .peel .queued), sum-ones (taskCount s))
 
 -- the whole, from what its parts say
-pub peel-asks : {w w₁ : List ℕ} → Held w → Only 4880 6160 w w₁ × Chained Target (sheetIn w) w₁ → Held w₁ × Chained Target (sheetIn w₁) w₁
+pub peel-asks : {w w₁ : List ℕ} → Held w → Only 2576 3856 w w₁ × Chained Target (sheetIn w) w₁ → Held w₁ × Chained Target (sheetIn w₁) w₁
 peel-asks {w} {w₁} h d = let k = only-kept (d .0) in (kept-held h k, subst (λ (s : Sheet). Chained Target s w₁) (sym (kept-sheet h k)) (d .1))
 
-pub find-goes : {w w₁ w₂ : List ℕ} → Held w → Only 4880 6160 w w₁ × Chained Target (sheetIn w) w₁ → Beside w₁ w₂ → Held w₂ × Chained Target (sheetIn w₂) w₂
+pub find-goes : {w w₁ w₂ : List ℕ} → Held w → Only 2576 3856 w w₁ × Chained Target (sheetIn w) w₁ → Beside w₁ w₂ → Held w₂ × Chained Target (sheetIn w₂) w₂
 find-goes {w} {w₁} {w₂} h d b =
     let q = peel-asks h d in
     (beside-held (q .0) b, beside-own (λ (s : Sheet). Chained Target s w₂) (q .0) b (chain-here (q .0) (q .1) b))
 
-pub levels-free : {w w₁ w₂ : List ℕ} {k n : ℕ} → Held w → Only 4880 6160 w w₁ × Chained Target (sheetIn w) w₁ → Beside w₁ w₂ × Peeled (sheetIn w₁) k k 0 0 w₂ → n ≡ taskCount (sheetIn w₂) → k ≡ n → LevelsAre w w₂ Nothing
+pub levels-free : {w w₁ w₂ : List ℕ} {k n : ℕ} → Held w → Only 2576 3856 w w₁ × Chained Target (sheetIn w) w₁ → Beside w₁ w₂ × Peeled (sheetIn w₁) k k 0 0 w₂ → n ≡ taskCount (sheetIn w₂) → k ≡ n → LevelsAre w w₂ Nothing
 levels-free {w} {w₁} {w₂} {k} {n} h c d e q =
     let b : Kept w w₁ = only-kept (c .0) in
     let same : sheetIn w₁ ≡ sheetIn w = kept-sheet h b in
@@ -106,7 +103,7 @@ levels-free {w} {w₁} {w₂} {k} {n} h c d e q =
       kept = kept;
     }
 
-pub levels-found : {w w₁ w₂ w₃ : List ℕ} {k n : ℕ} {r : Found} → Held w → Only 4880 6160 w w₁ → Beside w₁ w₂ × Peeled (sheetIn w₁) k k 0 0 w₂ → n ≡ taskCount (sheetIn w₂) → (k ≡ n → ⊥) → Beside w₂ w₃ × (foundOf r ≡ circle (sheetIn w₂)) → LevelsAre w w₃ r
+pub levels-found : {w w₁ w₂ w₃ : List ℕ} {k n : ℕ} {r : Found} → Held w → Only 2576 3856 w w₁ → Beside w₁ w₂ × Peeled (sheetIn w₁) k k 0 0 w₂ → n ≡ taskCount (sheetIn w₂) → (k ≡ n → ⊥) → Beside w₂ w₃ × (foundOf r ≡ circle (sheetIn w₂)) → LevelsAre w w₃ r
 levels-found {w} {w₁} {w₂} {w₃} {k} {n} {r} h o d e q t =
     let b : Kept w w₁ = only-kept o in
     let same : sheetIn w₁ ≡ sheetIn w = kept-sheet h b in

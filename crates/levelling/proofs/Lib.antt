@@ -1,3 +1,4 @@
+-- The laws of `levelling`.
 pub mod Spreads
 pub mod Ends
 pub mod Opens

@@ -1,10 +1,10 @@
 -- A sheet that is opened: the form first, and then circles and levels.
-use Prim.Native.Nat.{ℕ, _+_, _<_}
+use Prim.Native.Nat.{ℕ}
 use mathlib.Core.Path.{_≡_, refl, sym, ap, subst, _∙_}
-use mathlib.Core.Option.{Option, none, some}
+use mathlib.Core.Option.{Option, none}
 use mathlib.Core.List.{List}
 use native.Mathlib.Omega.{arith}
-use lib.ListN.{length, getD}
+use lib.ListN.{length}
 use Rattle.folds.specs.Answers.{Answer, value, refused, unless, andThen}
 use Rattle.folds.proofs.Tests.{not-value, value-same}
 use Rattle.sheet.specs.Sheet.{Sheet}

@@ -1,18 +1,17 @@
 -- The search for a circle through a goal: the tasks that lead to it, gathered in the queue.
-use Prim.Native.Nat.{ℕ, zero, suc, _+_, _*_, _-_, _≤_, _<_}
+use Prim.Native.Nat.{ℕ, zero, suc, _+_, _-_, _≤_, _<_}
 use mathlib.Core.Bool.{Bool, true, false, false≢true, true≢false}
-use mathlib.Core.Option.{Option, none, some}
-use mathlib.Core.Path.{_≡_, refl, ap, ap₂, sym, _∙_, subst}
+use mathlib.Core.Option.{none, some}
+use mathlib.Core.Path.{_≡_, refl, ap, sym, _∙_, subst}
 use mathlib.Core.Logic.{_≢_, _⊎_, inl, inr, ⊎-elim}
 use mathlib.Core.List.{List}
 use native.Mathlib.Omega.{arith}
 use native.Mathlib.Decide.{decLt, ℕ-discrete}
-use borrow.Author.Tests.{lt-ltb, le-ltb, ltb-true}
-use lib.ListN.{length, getD, set, length-set}
+use borrow.Author.Tests.{lt-ltb}
+use lib.ListN.{length, getD, set}
 use lib.Seq.{getD-set-same, getD-set-other}
-use lib.Dec.{eqb, ltb}
 use Rattle.workspace.specs.Area.{fixed}
-use Rattle.folds.specs.Folds.{both, either, first}
+use Rattle.folds.specs.Folds.{first}
 use Rattle.folds.proofs.Laws.{first-found, first-none}
 use Rattle.folds.proofs.Loops.{first-passed, first-at}
 use Rattle.sheet.specs.Sheet.{Sheet, taskCount, linkCount, sourceOf, targetOf}
@@ -26,14 +25,14 @@ use Rattle.levelling.specs.Found.{SpreadIs}
 use Rattle.levelling.specs.declared.search.Spread.{Spread}
 use Rattle.levelling.specs.declared.search.Spread.the-variants.{Back, On}
 use Rattle.graph.proofs.Reaches.{Declared, link-reaches, reaches-along, reaches-none}
-use Rattle.peeling.proofs.Frames.{loaded-declared, beside-sheet, beside-held, beside-none, beside-trans, beside-chained, beside-set, beside-own, beside-from}
+use Rattle.peeling.proofs.Frames.{loaded-declared, beside-sheet, beside-held, beside-none, beside-trans, beside-own, beside-from}
 use Rattle.peeling.proofs.Pushes.{queued-few, queued-room, queued-push, push-here, push-else, push-beside}
 use Rattle.peeling.proofs.Walks.{up-none, up-hop, up-end, up-same, up-late, up-else}
 use Rattle.peeling.proofs.Starts.{queued-none, done-none}
 use Rattle.peeling.proofs.Turns.{chain-here}
 
 -- a task is noted
-module _ (w : List ℕ) (h : Held w) (k u : ℕ) (u-in : u < taskCount (sheetIn w)) (q : Queued (taskCount (sheetIn w)) k w) {x : ℕ} (x-is : x ≡ getD w (6672 + u) 0) where
+module _ (w : List ℕ) (h : Held w) (k u : ℕ) (u-in : u < taskCount (sheetIn w)) (q : Queued (taskCount (sheetIn w)) k w) {x : ℕ} (x-is : x ≡ getD w (4368 + u) 0) where
   pub note-stays : x < 256 → Beside w w × Noted (taskCount (sheetIn w)) k u k w w
   note-stays l =
       (beside-none w, record { queued = q; more = omega arith; here = omega arith; else = λ t e. refl; kept = λ t e. refl; late = λ e. absurd (omega arith) })
@@ -44,10 +43,10 @@ module _ (w : List ℕ) (h : Held w) (k u : ℕ) (u-in : u < taskCount (sheetIn 
   pub note-goes : 256 ≤ x → (w′ : List ℕ) → w′ ≡ pushed w k u → Beside w w′ × Noted (taskCount (sheetIn w)) k u (k + 1) w w′
   note-goes l w′ e =
       let n : ℕ = taskCount (sheetIn w) in
-      let free : 256 ≤ getD w (6672 + u) 0 = omega arith in
+      let free : 256 ≤ getD w (4368 + u) 0 = omega arith in
       let room = note-room l in
-      let there : getD (pushed w k u) (6672 + u) 0 ≡ k = push-here n k u w (h .few-tasks) (h .long) u-in free q in
-      let else : (t : ℕ) → t ≢ u → getD (pushed w k u) (6672 + t) 0 ≡ getD w (6672 + t) 0 = push-else n k u w (h .few-tasks) (h .long) u-in free q in
+      let there : getD (pushed w k u) (4368 + u) 0 ≡ k = push-here n k u w (h .few-tasks) (h .long) u-in free q in
+      let else : (t : ℕ) → t ≢ u → getD (pushed w k u) (4368 + t) 0 ≡ getD w (4368 + t) 0 = push-else n k u w (h .few-tasks) (h .long) u-in free q in
       subst (λ (z : List ℕ). Beside w z × Noted n k u (k + 1) w z) (sym e) (
         push-beside n k u w (h .few-tasks) (h .long) u-in free q,
         record {
@@ -55,7 +54,7 @@ module _ (w : List ℕ) (h : Held w) (k u : ℕ) (u-in : u < taskCount (sheetIn 
           more = omega arith;
           here = rw there room;
           else = else;
-          kept = λ t g. else t (λ z. let y : getD w (6672 + t) 0 ≡ getD w (6672 + u) 0 = ap (λ (v : ℕ). getD w (6672 + v) 0) z in absurd (omega arith));
+          kept = λ t g. else t (λ z. let y : getD w (4368 + t) 0 ≡ getD w (4368 + u) 0 = ap (λ (v : ℕ). getD w (4368 + v) 0) z in absurd (omega arith));
           late = λ g. there;
         },
       )
@@ -76,7 +75,7 @@ module _ (s : Sheet) (declared : Declared s) (few : taskCount s ≤ 256) (goal i
         go : Dec (targetOf s l ≡ goal) → reaches (taskCount s) s (sourceOf s l) goal ≡ true
         go (yes e) = reaches-along s declared l goal l-in (inl e)
         go (no e) =
-            let x : getD w (6672 + targetOf s l) 0 ≡ i = ap (λ (z : ℕ). getD w (6672 + z) 0) to ∙ p .here in
+            let x : getD w (4368 + targetOf s l) 0 ≡ i = ap (λ (z : ℕ). getD w (4368 + z) 0) to ∙ p .here in
             reaches-along s declared l goal l-in (inr (p .search .sound (targetOf s l) (declared .target l l-in) (omega (arith, few-i)) e))
 
     pub spread-back : sourceOf s l ≡ goal → onCircle s goal ≡ true
@@ -86,22 +85,22 @@ module _ (s : Sheet) (declared : Declared s) (few : taskCount s ≤ 256) (goal i
     module _ {u r : ℕ} (w′ : List ℕ) (u-is : u ≡ sourceOf s l) (other : u ≡ goal → ⊥) (n : Noted (taskCount s) k u r w w′) where
       -- the links that were counted before
       was : (j : ℕ) → doneUpTo s i (l + 1) v w j ≡ doneUpTo s i (l + 1) v w′ j
-      was j = go (ℕ-discrete (targetOf s j) u) (decLt (getD w (6672 + targetOf s j) 0) 256)
+      was j = go (ℕ-discrete (targetOf s j) u) (decLt (getD w (4368 + targetOf s j) 0) 256)
         where
-          go : Dec (targetOf s j ≡ u) → Dec (getD w (6672 + targetOf s j) 0 < 256) → doneUpTo s i (l + 1) v w j ≡ doneUpTo s i (l + 1) v w′ j
+          go : Dec (targetOf s j ≡ u) → Dec (getD w (4368 + targetOf s j) 0 < 256) → doneUpTo s i (l + 1) v w j ≡ doneUpTo s i (l + 1) v w′ j
           go d (yes h) = up-same s i v j w w′ (l + 1) (n .kept (targetOf s j) h)
           go (no e) (no h) = up-same s i v j w w′ (l + 1) (n .else (targetOf s j) e)
           go (yes e) (no h) =
-              let a : getD w (6672 + targetOf s j) 0 ≡ getD w (6672 + u) 0 = ap (λ (z : ℕ). getD w (6672 + z) 0) e in
-              let b : getD w′ (6672 + targetOf s j) 0 ≡ getD w′ (6672 + u) 0 = ap (λ (z : ℕ). getD w′ (6672 + z) 0) e in
+              let a : getD w (4368 + targetOf s j) 0 ≡ getD w (4368 + u) 0 = ap (λ (z : ℕ). getD w (4368 + z) 0) e in
+              let b : getD w′ (4368 + targetOf s j) 0 ≡ getD w′ (4368 + u) 0 = ap (λ (z : ℕ). getD w′ (4368 + z) 0) e in
               let late = n .late (omega arith) in
               let f = few-i in
               up-late s i v j w w′ (l + 1) (omega arith) (omega (arith, p .early))
 
-      closed′ : (j : ℕ) → j < linkCount s → doneUpTo s i (l + 1) v w′ j ≡ true → Dec (j ≡ l) → getD w′ (6672 + sourceOf s j) 0 < 256
+      closed′ : (j : ℕ) → j < linkCount s → doneUpTo s i (l + 1) v w′ j ≡ true → Dec (j ≡ l) → getD w′ (4368 + sourceOf s j) 0 < 256
       closed′ j h q (yes e) =
           let x : sourceOf s j ≡ u = ap (sourceOf s) e ∙ sym u-is in
-          let y : getD w′ (6672 + sourceOf s j) 0 ≡ getD w′ (6672 + u) 0 = ap (λ (z : ℕ). getD w′ (6672 + z) 0) x in
+          let y : getD w′ (4368 + sourceOf s j) 0 ≡ getD w′ (4368 + u) 0 = ap (λ (z : ℕ). getD w′ (4368 + z) 0) x in
           omega (arith, n .here)
       closed′ j h q (no e) =
           let x = p .search .closed j h (sym (up-else s i v l j w e) ∙ was j ∙ q) in
@@ -111,7 +110,7 @@ module _ (s : Sheet) (declared : Declared s) (few : taskCount s ≤ 256) (goal i
       apart′ j h q (yes e) g = other (u-is ∙ ap (sourceOf s) (sym e) ∙ g)
       apart′ j h q (no e) g = p .search .apart j h (sym (up-else s i v l j w e) ∙ was j ∙ q) g
 
-      sound′ : (t : ℕ) → t < taskCount s → getD w′ (6672 + t) 0 < 256 → (t ≡ goal → ⊥) → Dec (t ≡ u) → reaches (taskCount s) s t goal ≡ true
+      sound′ : (t : ℕ) → t < taskCount s → getD w′ (4368 + t) 0 < 256 → (t ≡ goal → ⊥) → Dec (t ≡ u) → reaches (taskCount s) s t goal ≡ true
       sound′ t h g d (yes e) = ap (λ (x : ℕ). reaches (taskCount s) s x goal) (e ∙ u-is) ∙ reached
       sound′ t h g d (no e) = p .search .sound t h (omega (arith, n .else t e)) d
 
@@ -141,15 +140,15 @@ pub record SpreadTo (w₀ : List ℕ) (goal v k l : ℕ) (w : List ℕ) : Type 0
   pub beside : Beside w₀ w
   pub here : l ≤ linkCount (sheetIn w₀)
   pub own : l < linkCount (sheetIn w₀) → targetOf (sheetIn w₀) l ≡ v
-  pub spreading : Spreading (sheetIn w₀) goal (getD w₀ (6672 + v) 0) k l v w
+  pub spreading : Spreading (sheetIn w₀) goal (getD w₀ (4368 + v) 0) k l v w
 
-pub spread-starts : (w : List ℕ) (goal v k r : ℕ) → Held w → Chained Target (sheetIn w) w → Spreading (sheetIn w) goal (getD w (6672 + v) 0) k 0 v w → r ≡ getD w (4880 + v) 0 → SpreadTo w goal v k r w
+pub spread-starts : (w : List ℕ) (goal v k r : ℕ) → Held w → Chained Target (sheetIn w) w → Spreading (sheetIn w) goal (getD w (4368 + v) 0) k 0 v w → r ≡ getD w (2576 + v) 0 → SpreadTo w goal v k r w
 spread-starts w goal v k r h d p e =
     record {
       beside = beside-none w;
       here = rw e (d .head-few v (p .task));
       own = λ g. ap (targetOf (sheetIn w)) e ∙ d .head-own v (p .task) (rw e at g);
-      spreading = spread-hop (sheetIn w) w goal (getD w (6672 + v) 0) k 0 r v p (omega arith) (λ l g a b. d .head-none v (p .task) l (rw e at b));
+      spreading = spread-hop (sheetIn w) w goal (getD w (4368 + v) 0) k 0 r v p (omega arith) (λ l g a b. d .head-none v (p .task) l (rw e at b));
     }
 
 -- what a turn asks
@@ -162,56 +161,56 @@ spread-source {w₀} {w} {goal} {v} {k} {l} h p g = rw (beside-sheet h (p .besid
 
 pub spread-closes : {w₀ w : List ℕ} {goal v k l u : ℕ} → Held w₀ → SpreadTo w₀ goal v k l w → l < linkCount (sheetIn w₀) → u ≡ sourceOf (sheetIn w) l → u ≡ goal → onCircle (sheetIn w₀) goal ≡ true
 spread-closes {w₀} {w} {goal} {v} {k} {l} {u} h p g e q =
-    spread-back (sheetIn w₀) (loaded-declared (h .loaded)) (h .few-tasks) goal (getD w₀ (6672 + v) 0) l v k w (p .spreading) g (p .own g) (ap (λ (s : Sheet). sourceOf s l) (sym (beside-sheet h (p .beside))) ∙ sym e ∙ q)
+    spread-back (sheetIn w₀) (loaded-declared (h .loaded)) (h .few-tasks) goal (getD w₀ (4368 + v) 0) l v k w (p .spreading) g (p .own g) (ap (λ (s : Sheet). sourceOf s l) (sym (beside-sheet h (p .beside))) ∙ sym e ∙ q)
 
 pub spread-goes : {w₀ w w′ : List ℕ} {goal v k k′ l u r : ℕ} → Held w₀ → Chained Target (sheetIn w₀) w₀ → SpreadTo w₀ goal v k l w → l < linkCount (sheetIn w₀) → u ≡ sourceOf (sheetIn w) l → (u ≡ goal → ⊥)
-    → Beside w w′ × Noted (taskCount (sheetIn w)) k u k′ w w′ → r ≡ getD w′ (5136 + l) 0 → SpreadTo w₀ goal v k′ r w′
+    → Beside w w′ × Noted (taskCount (sheetIn w)) k u k′ w w′ → r ≡ getD w′ (2832 + l) 0 → SpreadTo w₀ goal v k′ r w′
 spread-goes {w₀} {w} {w′} {goal} {v} {k} {k′} {l} {u} {r} h d p g e o t q =
     let b : Beside w₀ w′ = beside-trans (p .beside) (t .0) in
     let c : Chained Target (sheetIn w₀) w′ = chain-here h d b in
     let to = p .own g in
     let n : Noted (taskCount (sheetIn w₀)) k u k′ w w′ = beside-from (λ (s : Sheet). Noted (taskCount s) k u k′ w w′) h (p .beside) (t .1) in
-    let m : Spreading (sheetIn w₀) goal (getD w₀ (6672 + v) 0) k′ (l + 1) v w′ =
-    spread-turns (sheetIn w₀) (loaded-declared (h .loaded)) (h .few-tasks) goal (getD w₀ (6672 + v) 0) l v k w (p .spreading) g to w′ (e ∙ ap (λ (s : Sheet). sourceOf s l) (beside-sheet h (p .beside))) o n in
+    let m : Spreading (sheetIn w₀) goal (getD w₀ (4368 + v) 0) k′ (l + 1) v w′ =
+    spread-turns (sheetIn w₀) (loaded-declared (h .loaded)) (h .few-tasks) goal (getD w₀ (4368 + v) 0) l v k w (p .spreading) g to w′ (e ∙ ap (λ (s : Sheet). sourceOf s l) (beside-sheet h (p .beside))) o n in
     record {
       beside = b;
       here = rw q (c .next-few l g);
       own = λ a. ap (targetOf (sheetIn w₀)) q ∙ c .next-own l g (rw q at a) ∙ to;
-      spreading = spread-hop (sheetIn w₀) w′ goal (getD w₀ (6672 + v) 0) k′ (l + 1) r v m (let x = c .next-more l g in omega arith) (λ j a x y z. c .next-none l g j (omega arith) (rw q at y) (z ∙ sym to));
+      spreading = spread-hop (sheetIn w₀) w′ goal (getD w₀ (4368 + v) 0) k′ (l + 1) r v m (let x = c .next-more l g in omega arith) (λ j a x y z. c .next-none l g j (omega arith) (rw q at y) (z ∙ sym to));
     }
 
-pub spread-less : {w₀ w w′ : List ℕ} {goal v k l r : ℕ} → Held w₀ → Chained Target (sheetIn w₀) w₀ → SpreadTo w₀ goal v k l w → l < linkCount (sheetIn w₀) → Beside w w′ → r ≡ getD w′ (5136 + l) 0 → l < r
+pub spread-less : {w₀ w w′ : List ℕ} {goal v k l r : ℕ} → Held w₀ → Chained Target (sheetIn w₀) w₀ → SpreadTo w₀ goal v k l w → l < linkCount (sheetIn w₀) → Beside w w′ → r ≡ getD w′ (2832 + l) 0 → l < r
 spread-less {w₀} {w} {w′} {goal} {v} {k} {l} {r} h d p g t e =
     let c : Chained Target (sheetIn w₀) w′ = chain-here h d (beside-trans (p .beside) t) in
     let x = c .next-more l g in
     omega arith
 
-pub spread-ends : {w₀ w : List ℕ} {goal v k l : ℕ} → Held w₀ → SpreadTo w₀ goal v k l w → linkCount (sheetIn w₀) ≤ l → Searched (sheetIn w₀) goal (getD w₀ (6672 + v) 0 + 1) k w
+pub spread-ends : {w₀ w : List ℕ} {goal v k l : ℕ} → Held w₀ → SpreadTo w₀ goal v k l w → linkCount (sheetIn w₀) ≤ l → Searched (sheetIn w₀) goal (getD w₀ (4368 + v) 0 + 1) k w
 spread-ends {w₀} {w} {goal} {v} {k} {l} h p g =
     let s : Sheet = sheetIn w₀ in
-    let i : ℕ = getD w₀ (6672 + v) 0 in
+    let i : ℕ = getD w₀ (4368 + v) 0 in
     let q = p .spreading in
     record { search = search-same (doneUpTo s i l v w) (doneBy s (i + 1) w) (λ j a. up-end s i v j w l (omega arith) (q .here) (λ x. only (targetOf s j) (loaded-declared (h .loaded) .target j a) x)) (q .search) }
   where
-    only : (t : ℕ) → t < taskCount (sheetIn w₀) → getD w (6672 + t) 0 ≡ getD w₀ (6672 + v) 0 → t ≡ v
+    only : (t : ℕ) → t < taskCount (sheetIn w₀) → getD w (4368 + t) 0 ≡ getD w₀ (4368 + v) 0 → t ≡ v
     only t a x =
         let q = p .spreading in
         let f = queued-few (q .search .queued) in
         let e = q .early in
         let here = q .here in
         let few = h .few-tasks in
-        sym (q .search .queued .back t a (omega arith)) ∙ ap (λ (z : ℕ). getD w (6416 + z) 0) (x ∙ sym here) ∙ q .search .queued .back v (q .task) (omega arith)
+        sym (q .search .queued .back t a (omega arith)) ∙ ap (λ (z : ℕ). getD w (4112 + z) 0) (x ∙ sym here) ∙ q .search .queued .back v (q .task) (omega arith)
 
 -- the search begins with the goal alone
 pub emptied-none : (w : List ℕ) → Emptied 0 w
 emptied-none w = record { at = λ t h. absurd (omega arith) }
 
-pub emptied-more : {w : List ℕ} (t : ℕ) → 6672 + t < length w → Emptied t w → Emptied (t + 1) (set w (6672 + t) 256)
+pub emptied-more : {w : List ℕ} (t : ℕ) → 4368 + t < length w → Emptied t w → Emptied (t + 1) (set w (4368 + t) 256)
 emptied-more {w} t h d = record { at = λ u k. go u k (ℕ-discrete u t) }
   where
-    go : (u : ℕ) → u < t + 1 → Dec (u ≡ t) → getD (set w (6672 + t) 256) (6672 + u) 0 ≡ 256
-    go u k (yes e) = rw e (getD-set-same w (6672 + t) 256 0 h)
-    go u k (no e) = getD-set-other w (6672 + t) (6672 + u) 256 0 (λ x. e (omega arith)) ∙ d .at u (omega arith)
+    go : (u : ℕ) → u < t + 1 → Dec (u ≡ t) → getD (set w (4368 + t) 256) (4368 + u) 0 ≡ 256
+    go u k (yes e) = rw e (getD-set-same w (4368 + t) 256 0 h)
+    go u k (no e) = getD-set-other w (4368 + t) (4368 + u) 256 0 (λ x. e (omega arith)) ∙ d .at u (omega arith)
 
 pub emptied-at : {n t : ℕ} {w : List ℕ} → Emptied t w → t ≡ n → Emptied n w
 emptied-at {n} {t} {w} d e = subst (λ (x : ℕ). Emptied x w) e d
@@ -219,9 +218,9 @@ emptied-at {n} {t} {w} d e = subst (λ (x : ℕ). Emptied x w) e d
 pub search-starts : {s : Sheet} {goal : ℕ} {w w′ : List ℕ} → taskCount s ≤ 256 → fixed ≤ length w → goal < taskCount s → Emptied (taskCount s) w → w′ ≡ pushed w 0 goal → Beside w w′ × Searched s goal 0 1 w′
 search-starts {s} {goal} {w} {w′} few long g blank e =
     let q : Queued (taskCount s) 0 w = queued-none (blank .at) in
-    let free : 256 ≤ getD w (6672 + goal) 0 = omega (arith, blank .at goal g) in
-    let there : getD (pushed w 0 goal) (6672 + goal) 0 ≡ 0 = push-here (taskCount s) 0 goal w few long g free q in
-    let else : (t : ℕ) → t ≢ goal → getD (pushed w 0 goal) (6672 + t) 0 ≡ getD w (6672 + t) 0 = push-else (taskCount s) 0 goal w few long g free q in
+    let free : 256 ≤ getD w (4368 + goal) 0 = omega (arith, blank .at goal g) in
+    let there : getD (pushed w 0 goal) (4368 + goal) 0 ≡ 0 = push-here (taskCount s) 0 goal w few long g free q in
+    let else : (t : ℕ) → t ≢ goal → getD (pushed w 0 goal) (4368 + t) 0 ≡ getD w (4368 + t) 0 = push-else (taskCount s) 0 goal w few long g free q in
     subst (λ (x : List ℕ). Beside w x × Searched s goal 0 1 x) (sym e) (
       push-beside (taskCount s) 0 goal w few long g free q,
       record {
@@ -236,10 +235,10 @@ search-starts {s} {goal} {w} {w′} few long g blank e =
     )
 
 -- the next task of the queue
-module _ (s : Sheet) (w : List ℕ) (goal i k : ℕ) (p : Searched s goal i k w) (left : i < k) {v : ℕ} (v-is : v ≡ getD w (6416 + i) 0) where
-  pub search-next : Spreading s goal (getD w (6672 + v) 0) k 0 v w × (getD w (6672 + v) 0 ≡ i)
+module _ (s : Sheet) (w : List ℕ) (goal i k : ℕ) (p : Searched s goal i k w) (left : i < k) {v : ℕ} (v-is : v ≡ getD w (4112 + i) 0) where
+  pub search-next : Spreading s goal (getD w (4368 + v) 0) k 0 v w × (getD w (4368 + v) 0 ≡ i)
   search-next =
-      let here : getD w (6672 + v) 0 ≡ i = ap (λ (z : ℕ). getD w (6672 + z) 0) v-is ∙ p .search .queued .place i left in (
+      let here : getD w (4368 + v) 0 ≡ i = ap (λ (z : ℕ). getD w (4368 + z) 0) v-is ∙ p .search .queued .place i left in (
         subst (λ (j : ℕ). Spreading s goal j k 0 v w) (sym here)
             (record {
               search = search-same (doneBy s i w) (doneUpTo s i 0 v w) (λ l h. up-none s i v l w) (p .search);
@@ -252,15 +251,15 @@ module _ (s : Sheet) (w : List ℕ) (goal i k : ℕ) (p : Searched s goal i k w)
 
 -- every task of the queue was looked at: what leads to the goal is in it, and no link of the goal leads there
 module _ (s : Sheet) (w : List ℕ) (goal i k : ℕ) (declared : Declared s) (goal-task : goal < taskCount s) (p : Searched s goal i k w) (all : k ≤ i) where
-  done-in : (l : ℕ) → l < linkCount s → getD w (6672 + targetOf s l) 0 < 256 → doneBy s i w l ≡ true
+  done-in : (l : ℕ) → l < linkCount s → getD w (4368 + targetOf s l) 0 < 256 → doneBy s i w l ≡ true
   unfolding doneBy
-  done-in l h g = lt-ltb (getD w (6672 + targetOf s l) 0) i (omega (arith, p .search .queued .few (targetOf s l) (declared .target l h) g))
+  done-in l h g = lt-ltb (getD w (4368 + targetOf s l) 0) i (omega (arith, p .search .queued .few (targetOf s l) (declared .target l h) g))
 
-  leads-in : (n t : ℕ) → reaches n s t goal ≡ true → (getD w (6672 + t) 0 < 256) × (t ≢ goal)
+  leads-in : (n t : ℕ) → reaches n s t goal ≡ true → (getD w (4368 + t) 0 < 256) × (t ≢ goal)
   leads-in zero t e = absurd (false≢true (sym (reaches-none s t goal) ∙ e))
   leads-in (suc n) t e =
       let m = link-reaches s n t goal e in
-      let g : getD w (6672 + targetOf s (m .0)) 0 < 256 =
+      let g : getD w (4368 + targetOf s (m .0)) 0 < 256 =
       ⊎-elim (λ q. rw q (p .search .goal-in)) (λ q. leads-in n (targetOf s (m .0)) q .0) (m .3) in
       let c = done-in (m .0) (m .1) g in
       (rw (m .2) at (p .search .closed (m .0) (m .1) c), λ q. p .search .apart (m .0) (m .1) c (m .2 ∙ q))

@@ -4,7 +4,7 @@ use mathlib.Core.Bool.{true}
 use mathlib.Core.Option.{Option, none, some}
 use mathlib.Core.Path.{_≡_}
 use mathlib.Core.List.{List}
-use lib.ListN.{length, getD}
+use lib.ListN.{getD}
 use Rattle.sheet.specs.Sheet.{Sheet, taskCount}
 use Rattle.sheet.specs.Tables.{sheetIn}
 use Rattle.graph.specs.Graph.{onCircle, circle, level}
@@ -25,7 +25,7 @@ foundOf Nothing = none
 -- what the search leaves where there is no circle: the level of each task, and the chains of the links into it
 pub record Levelled (s : Sheet) (w : List ℕ) : Type 0 where
   pub inward : Chained Target s w
-  pub levels : (t : ℕ) → t < taskCount s → getD w (4624 + t) 0 ≡ level s t
+  pub levels : (t : ℕ) → t < taskCount s → getD w (2320 + t) 0 ≡ level s t
 
 -- the answer for the sheet that stands in w, the levels where there is no circle, and all else as it was
 pub record LevelsAre (w w′ : List ℕ) (r : Found) : Type 0 where

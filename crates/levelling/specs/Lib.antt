@@ -1,2 +1,3 @@
+-- The definitions of `levelling`.
 pub mod Found
 pub mod Opened

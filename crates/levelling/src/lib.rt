@@ -14,7 +14,7 @@ pub enum Found {
     Nothing,
 }
 
-// The lowest task on a circle (10), or, where there is none, the level of each task in the words from 4624 on.
+// The lowest task on a circle (10), or, where there is none, the level of each task in the words from 2320 on.
 // Takes time in proportion to tasks and links where there is no circle.
 pub fn levels(w: &mut [u32]) -> Found
     requires { ⌜ Loaded (now w) ⌝ }

@@ -1,7 +1,7 @@
 // The lowest task on a circle: for one task after the other, the tasks that lead to it, until a link out of it leads to one of them.
 ghost use mathlib.Core.Path.{_≡_};
 ghost use Prim.Native.Nat.{_+_, _<_};
-ghost use lib.ListN.{getD, length};
+ghost use lib.ListN.{getD};
 ghost use Rattle.sheet.specs.Sheet.{taskCount};
 ghost use Rattle.sheet.specs.Tables.{sheetIn};
 ghost use Rattle.graph.specs.Graph.{onCircle, circle};
@@ -28,7 +28,7 @@ fn note(w: &mut [u32], k: usize, u: usize) -> usize
     requires { ⌜ Queued (taskCount (sheetIn (now w))) k (now w) ⌝ }
     ensures { λ r. ⌜ Beside (now (w .entry)) (now (w .exit)) × Noted (taskCount (sheetIn (now (w .entry)))) k u r (now (w .entry)) (now (w .exit)) ⌝ }
 {
-    if workspace::word(w, 6672 + u) < 256 {
+    if workspace::word(w, 4368 + u) < 256 {
         return k;
     }
     queue::push(w, k, u);
@@ -39,8 +39,8 @@ fn note(w: &mut [u32], k: usize, u: usize) -> usize
 fn walk_into(w: &mut [u32], goal: usize, k: usize, v: usize) -> Spread
     requires { ⌜ Held (now w) ⌝ }
     requires { ⌜ Chained Target (sheetIn (now w)) (now w) ⌝ }
-    requires { ⌜ Spreading (sheetIn (now w)) goal (getD (now w) (6672 + v) 0) k 0 v (now w) ⌝ }
-    ensures { λ r. ⌜ Beside (now (w .entry)) (now (w .exit)) × SpreadIs (sheetIn (now (w .entry))) goal (getD (now (w .entry)) (6672 + v) 0 + 1) (now (w .exit)) r ⌝ }
+    requires { ⌜ Spreading (sheetIn (now w)) goal (getD (now w) (4368 + v) 0) k 0 v (now w) ⌝ }
+    ensures { λ r. ⌜ Beside (now (w .entry)) (now (w .exit)) × SpreadIs (sheetIn (now (w .entry))) goal (getD (now (w .entry)) (4368 + v) 0 + 1) (now (w .exit)) r ⌝ }
 {
     let m = tables::links(w);
     let mut q = k;
@@ -64,7 +64,7 @@ fn look(w: &mut [u32], goal: usize, i: usize, k: usize) -> Spread
     requires { ⌜ Searched (sheetIn (now w)) goal i k (now w) ⌝ }
     ensures { λ r. ⌜ Beside (now (w .entry)) (now (w .exit)) × SpreadIs (sheetIn (now (w .entry))) goal (i + 1) (now (w .exit)) r ⌝ }
 {
-    let v = workspace::word(w, 6416 + i);
+    let v = workspace::word(w, 4112 + i);
     walk_into(w, goal, k, v)
 }
 
@@ -99,7 +99,7 @@ fn empty(w: &mut [u32])
     let n = tables::tasks(w);
     let mut t: usize = 0;
     while t < n {
-        w[6672 + t] = 256;
+        w[4368 + t] = 256;
         t += 1;
     }
 }

@@ -21,6 +21,12 @@ module _ (v out : List ℕ) (n : ℕ) (e : n ≡ length v) (s : n ≤ 21551) whe
       let b = fits-well (length out) v (omega arith) in
       record { answer = ap Long e ∙ sym (ap listedOf b); output = p .left ∙ front out v ∙ sym (ap (written out) b); short = omega arith }
 
+-- written at once, where n bytes are enough for it and are there
+pub fit-enough : {v out out′ : List ℕ} {r n : ℕ} → length v ≤ n → n ≤ 21551 → n ≤ length out → Put out 0 v out′ r → FitIs v out out′ (Long r)
+fit-enough {v} {out} {out′} {r} l s h p =
+    let e : r ≡ length v = omega (arith, p .next) in
+    fit-long v out r e (omega arith) (omega arith) out′ p
+
 -- what was listed, by another name
 pub fit-as : {u v out out′ : List ℕ} {r : _} → u ≡ v → FitIs u out out′ r → FitIs v out out′ r
 fit-as {out = out} e h =

@@ -1,3 +1,4 @@
+-- The laws of `lines`.
 pub mod Digits
 pub mod Puts
 pub mod Parts

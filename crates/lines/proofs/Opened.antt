@@ -1,7 +1,9 @@
 -- From an opened sheet to its listing.
 use Prim.Native.Nat.{ℕ}
-use mathlib.Core.Path.{_≡_, sym, ap, _∙_}
+use mathlib.Core.Path.{_≡_, sym, ap, subst, _∙_}
 use mathlib.Core.List.{List}
+use native.Mathlib.Omega.{arith}
+use borrow.Author.Tests.{ltb-true}
 use lib.ListN.{length}
 use Rattle.folds.specs.Answers.{Answer, value, refused, andThen}
 use Rattle.sheet.specs.Sheet.{Sheet}
@@ -11,15 +13,19 @@ use Rattle.sheet_reader.specs.declared.Reading.the-variants.{Read, Refused}
 use Rattle.graph.specs.Graph.{readSheet}
 use Rattle.levelling.specs.Opened.{OpenIs}
 use Rattle.levelling.proofs.Opens.{open-refusal, open-value}
-use Rattle.planner.specs.Schedule.{Schedule}
+use Rattle.graph.proofs.Proper.{Proper, proper}
+use Rattle.planner.specs.Schedule.{Schedule, placeOf, placed}
+use Rattle.planner.specs.Placing.{barred}
 use Rattle.planner.specs.Planner.{planned}
+use Rattle.planner.proofs.Schedules.{plan-of, planned-build, empty-fair}
 use Rattle.schedule.specs.Layout.{scheduleIn}
-use Rattle.placing.specs.Choosing.{Single}
-use Rattle.placing.proofs.Singles.{read-single}
+use Rattle.arrivals.specs.Kept.{Single}
+use Rattle.arrivals.proofs.Singles.{read-single}
 use Rattle.turns.specs.Turns.{answerOf, Afterwards}
 use Rattle.turns.specs.declared.Planned.{Planned}
 use Rattle.turns.specs.declared.Planned.the-variants as planning
 use Rattle.listing.specs.Listing.{linesOf, refusalLine, scheduleLines, listing}
+use Rattle.lines.specs.Lines.{Standing, Stands}
 use Rattle.lines.specs.Listed.{FitIs, ListIs, plannedLines}
 use Rattle.lines.specs.declared.Listed.{Listed}
 use Rattle.lines.proofs.Fits.{fit-as}
@@ -29,11 +35,25 @@ planned-as : (s : Sheet) (a : Answer Schedule) → a ≡ planned s → linesOf (
 unfolding plannedLines
 planned-as s a e = ap (λ (x : Answer Schedule). linesOf (andThen x (λ σ. value (s, σ)))) e
 
-module _ (w w′ : List ℕ) {out out′ : List ℕ} (p : Planned) {r : Listed} (h : answerOf p (scheduleIn w′) ≡ planned (sheetIn w)) where
-  pub planned-refused : (t : ℕ) → p ≡ planning.Refused t → FitIs (refusalLine 11 t) out out′ r → FitIs (plannedLines (sheetIn w)) out out′ r
+-- the turns place every task
+planned-standing : {s : Sheet} → Proper s → Stands s
+unfolding planned placed
+planned-standing {s} p σ e =
+    let m = planned-build s p (barred s) σ e in
+    record {
+      few-opened = omega (arith, plan-of s p (empty-fair s p) (m .1) .fair .opened, p .form .board-few);
+      places = λ t h. ltb-true (placeOf σ t) 16 (m .2 t h);
+    }
+
+module _ (w w′ : List ℕ) (p : Planned) (h : answerOf p (scheduleIn w′) ≡ planned (sheetIn w)) where
+  pub planned-refused : {out out′ : List ℕ} {r : Listed} (t : ℕ) → p ≡ planning.Refused t → FitIs (refusalLine 11 t) out out′ r → FitIs (plannedLines (sheetIn w)) out out′ r
   planned-refused t e f = fit-as (planned-as (sheetIn w) (refused 11 t) (sym (ap (λ (x : Planned). answerOf x (scheduleIn w′)) e) ∙ h)) f
 
-  pub planned-done : p ≡ planning.Done → Afterwards w w′ → FitIs (scheduleLines (sheetIn w′) (scheduleIn w′)) out out′ r → FitIs (plannedLines (sheetIn w)) out out′ r
+  pub done-standing : p ≡ planning.Done → Afterwards w w′ → Stands (sheetIn w) → Standing (sheetIn w′) (scheduleIn w′)
+  done-standing e a f =
+      subst (λ (s : Sheet). Standing s (scheduleIn w′)) (sym (a .sheet)) (f (scheduleIn w′) (sym h ∙ ap (λ (x : Planned). answerOf x (scheduleIn w′)) e))
+
+  pub planned-done : {out out′ : List ℕ} {r : Listed} → p ≡ planning.Done → Afterwards w w′ → FitIs (scheduleLines (sheetIn w′) (scheduleIn w′)) out out′ r → FitIs (plannedLines (sheetIn w)) out out′ r
   planned-done e a f =
       fit-as
       (ap (λ (s : Sheet). scheduleLines s (scheduleIn w′)) (a .sheet)
@@ -52,6 +72,9 @@ module _ (b : List ℕ) {work mid : List ℕ} {o : Reading} (h : OpenIs (readShe
   module _ (q : o ≡ Read) where
     pub open-single : Single (sheetIn mid)
     open-single = read-single b (sheetIn mid) (open-value h q)
+
+    pub open-stands : Stands (sheetIn mid)
+    open-stands = planned-standing (proper b (sheetIn mid) (open-value h q))
 
     pub list-read : {out out′ : List ℕ} {r : Listed} (last : List ℕ) → length last ≡ length mid → FitIs (plannedLines (sheetIn mid)) out out′ r → ListIs b work last out out′ r
     unfolding listing plannedLines

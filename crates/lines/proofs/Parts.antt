@@ -1,20 +1,25 @@
 -- Lines: how long each is, and that its parts put one behind the other are the line.
-use Prim.Native.Nat.{ℕ, zero, suc, _+_, _≤_, _<_}
+use Prim.Native.Nat.{ℕ, zero, suc, _+_, _*_, _≤_, _<_}
 use mathlib.Core.Path.{_≡_, sym, ap, ap₂}
 use mathlib.Core.Logic.{⊎-elim}
 use mathlib.Core.List.{List, _++_, append-assoc}
 use native.Mathlib.Omega.{arith}
-use lib.ListN.{length, length-append}
+use lib.ListN.{length, getD, length-append}
 use Rattle.folds.specs.Folds.{gather}
 use Rattle.folds.proofs.Tests.{below-suc}
 use Rattle.folds.proofs.Loops.{gather-zero, gather-one}
 use Rattle.sheet.specs.Sheet.{Sheet, taskCount}
+use Rattle.sheet.specs.Tables.{sheetIn, Loaded}
+use Rattle.sheet.proofs.Rows.{ranged}
 use Rattle.planner.specs.Schedule.{Schedule, placeOf, startOf, finishOf}
 use Rattle.planner.specs.Planner.{claimOf}
+use Rattle.schedule.specs.Layout.{scheduleIn}
+use Rattle.schedule.proofs.Rows.{start-in, finish-in}
 use Rattle.listing.specs.Listing.{decimal, field, lineEnd, planWord, refusedWord, planLine, taskLine, refusalLine, scheduleLines}
-use Rattle.lines.specs.Lines.{twoFields}
+use Rattle.lines.specs.Lines.{twoFields, Standing}
 use Rattle.numbers.specs.Number.{Put}
 use Rattle.numbers.proofs.Puts.{put-then, put-as, put-none}
+use Rattle.lines.proofs.Digits.{decimal-length, decimal-short}
 
 -- lengths
 pub fields-length : (a b : ℕ) → length (twoFields a b) ≡ 3 + length (decimal a) + length (decimal b)
@@ -45,7 +50,7 @@ unfolding scheduleLines
 schedule-length s σ = length-append (planLine s σ) (gather (taskCount s) (taskLine σ))
 
 -- the lists up to one, with one more, are within all
-pub gather-room : {X : Type 0} (f : ℕ → List X) (n t : ℕ) → t < n → length (gather t f) + length (f t) ≤ length (gather n f)
+gather-room : {X : Type 0} (f : ℕ → List X) (n t : ℕ) → t < n → length (gather t f) + length (f t) ≤ length (gather n f)
 unfolding gather
 gather-room f zero t h = absurd (omega arith)
 gather-room f (suc n) t h =
@@ -132,3 +137,32 @@ needed-none a f = omega (arith, ap length (gather-zero f))
 
 pub needed-all : (s : Sheet) (σ : Schedule) (t a n : ℕ) → a ≡ length (planLine s σ) → n ≡ a + length (gather t (taskLine σ)) → t ≡ taskCount s → n ≡ length (scheduleLines s σ)
 needed-all s σ t a n p q e = omega (arith, schedule-length s σ, ap (λ (k : ℕ). length (gather k (taskLine σ))) e)
+
+-- 29 bytes are enough for each line
+gather-most : (f : ℕ → List ℕ) (n : ℕ) → ((t : ℕ) → t < n → length (f t) ≤ 29) → length (gather n f) ≤ 29 * n
+unfolding gather
+gather-most f zero h = omega arith
+gather-most f (suc n) h = omega (arith, length-append (gather n f) (f n), gather-most f n (λ t l. h t (omega arith)), h n (omega arith))
+
+module _ (w : List ℕ) (loaded : Loaded w) (standing : Standing (sheetIn w) (scheduleIn w)) (words : (i : ℕ) → getD w i 0 < 4294967296) where
+  line-most : (t : ℕ) → t < taskCount (sheetIn w) → length (taskLine (scheduleIn w) t) ≤ 29
+  line-most t h =
+      omega (
+        arith,
+        task-length (scheduleIn w) t,
+        decimal-short 2 t (omega (arith, ranged w loaded .few-tasks)),
+        decimal-short 1 (placeOf (scheduleIn w) t) (omega (arith, standing .places t h)),
+        decimal-short 9 (startOf (scheduleIn w) t) (omega (arith, start-in w t h, words (4112 + t))),
+        decimal-short 9 (finishOf (scheduleIn w) t) (omega (arith, finish-in w t h, words (4368 + t))),
+      )
+
+  pub schedule-most : length (scheduleLines (sheetIn w) (scheduleIn w)) ≤ 29 * (taskCount (sheetIn w) + 1)
+  schedule-most =
+      omega (
+        arith,
+        schedule-length (sheetIn w) (scheduleIn w),
+        plan-length (sheetIn w) (scheduleIn w),
+        decimal-short 1 (scheduleIn w .opened) (omega (arith, standing .few-opened)),
+        decimal-length (claimOf (sheetIn w) (scheduleIn w)),
+        gather-most (taskLine (scheduleIn w)) (taskCount (sheetIn w)) line-most,
+      )

@@ -4,7 +4,7 @@ ghost use Prim.Native.Nat.{_+_, _≤_, _<_};
 ghost use lib.ListN.{length};
 ghost use Rattle.numbers.specs.Number.{Put};
 ghost use Rattle.listing.specs.Listing.{decimal, field, lineEnd};
-ghost use Rattle.lines.specs.Lines.{twoFields};
+ghost use Rattle.lines.specs.Lines.{fourDigits, twoFields};
 
 // How many decimal digits n has.
 pub fn digits(n: usize) -> usize
@@ -24,18 +24,66 @@ fn digit(d: usize) -> u8
     (48 + d) as u8
 }
 
-// Puts n in decimal at `at`, and gives the offset behind it, as all below.
-pub fn put_decimal(out: &mut [u8], at: usize, n: usize) -> usize
-    requires { ⌜ at + length (decimal n) ≤ length (now out) ⌝ }
+// Puts the four digits of n, also where they begin with 0, at `at`, and gives the offset behind them, as all below.
+fn put_four(out: &mut [u8], at: usize, n: usize) -> usize
+    requires { ⌜ (n < 10000) × (at + 4 ≤ length (now out)) ⌝ }
+    ensures { λ r. ⌜ Put (now (out .entry)) at (fourDigits n) (now (out .exit)) r ⌝ }
+{
+    out[at] = digit(n / 1000);
+    out[at + 1] = digit(n / 100 % 10);
+    out[at + 2] = digit(n / 10 % 10);
+    out[at + 3] = digit(n % 10);
+    at + 4
+}
+
+// A number of at most four digits.
+fn put_short(out: &mut [u8], at: usize, n: usize) -> usize
+    requires { ⌜ (n < 10000) × (at + length (decimal n) ≤ length (now out)) ⌝ }
     ensures { λ r. ⌜ Put (now (out .entry)) at (decimal n) (now (out .exit)) r ⌝ }
 {
     if n < 10 {
         out[at] = digit(n);
         return at + 1;
     }
-    let end = put_decimal(out, at, n / 10);
-    out[end] = digit(n % 10);
-    end + 1
+    if n < 100 {
+        out[at] = digit(n / 10);
+        out[at + 1] = digit(n % 10);
+        return at + 2;
+    }
+    if n < 1000 {
+        out[at] = digit(n / 100);
+        out[at + 1] = digit(n / 10 % 10);
+        out[at + 2] = digit(n % 10);
+        return at + 3;
+    }
+    put_four(out, at, n)
+}
+
+// Any number, four digits at a time.
+fn put_long(out: &mut [u8], at: usize, n: usize) -> usize
+    requires { ⌜ at + length (decimal n) ≤ length (now out) ⌝ }
+    ensures { λ r. ⌜ Put (now (out .entry)) at (decimal n) (now (out .exit)) r ⌝ }
+{
+    if n < 10000 {
+        return put_short(out, at, n);
+    }
+    let end = put_long(out, at, n / 10000);
+    put_four(out, end, n % 10000)
+}
+
+// The same. The numbers of a plan have at most eight digits, and take no recursion.
+pub fn put_decimal(out: &mut [u8], at: usize, n: usize) -> usize
+    requires { ⌜ at + length (decimal n) ≤ length (now out) ⌝ }
+    ensures { λ r. ⌜ Put (now (out .entry)) at (decimal n) (now (out .exit)) r ⌝ }
+{
+    if n < 10000 {
+        return put_short(out, at, n);
+    }
+    if n < 100000000 {
+        let end = put_short(out, at, n / 10000);
+        return put_four(out, end, n % 10000);
+    }
+    put_long(out, at, n)
 }
 
 // A space and n.

@@ -6,8 +6,9 @@ ghost use Rattle.workspace.specs.Area.{fixed};
 ghost use Rattle.sheet.specs.Tables.{sheetIn, Loaded};
 ghost use Rattle.levelling.specs.Found.{Levelled};
 ghost use Rattle.schedule.specs.Layout.{scheduleIn};
-ghost use Rattle.placing.specs.Choosing.{Single};
+ghost use Rattle.arrivals.specs.Kept.{Single};
 ghost use Rattle.listing.specs.Listing.{refusalLine, scheduleLines};
+ghost use Rattle.lines.specs.Lines.{Standing, Stands};
 ghost use Rattle.lines.specs.Listed.{FitIs, ListIs, plannedLines};
 use levelling::open;
 use sheet_reader::Reading;
@@ -40,8 +41,8 @@ fn list_refusal(number: usize, place: usize, out: &mut [u8]) -> Listed
     Listed::Long(need)
 }
 
-// The listing of the schedule in the work area.
-fn list_schedule(w: &[u32], out: &mut [u8]) -> Listed
+// The listing of the schedule in the work area, counted before it is written.
+fn list_counted(w: &[u32], out: &mut [u8]) -> Listed
     requires { ⌜ Loaded (now w) ⌝ }
     requires { ⌜ scheduleIn (now w) .opened ≤ 16 ⌝ }
     ensures { λ r. ⌜ FitIs (scheduleLines (sheetIn (now (w .entry))) (scheduleIn (now (w .entry)))) (now (out .entry)) (now (out .exit)) r ⌝ }
@@ -54,11 +55,24 @@ fn list_schedule(w: &[u32], out: &mut [u8]) -> Listed
     Listed::Long(need)
 }
 
+// The same, written at once where the output is surely long enough.
+fn list_schedule(w: &[u32], out: &mut [u8]) -> Listed
+    requires { ⌜ Loaded (now w) ⌝ }
+    requires { ⌜ Standing (sheetIn (now w)) (scheduleIn (now w)) ⌝ }
+    ensures { λ r. ⌜ FitIs (scheduleLines (sheetIn (now (w .entry))) (scheduleIn (now (w .entry)))) (now (out .entry)) (now (out .exit)) r ⌝ }
+{
+    if out.len() < rows::most(w) {
+        return list_counted(w, out);
+    }
+    Listed::Long(rows::put_schedule(w, out))
+}
+
 // The listing of the sheet in the work area, planned there.
 fn list_planned(w: &mut [u32], out: &mut [u8]) -> Listed
     requires { ⌜ Loaded (now w) ⌝ }
     requires { ⌜ Levelled (sheetIn (now w)) (now w) ⌝ }
     requires { ⌜ Single (sheetIn (now w)) ⌝ }
+    requires { ⌜ Stands (sheetIn (now w)) ⌝ }
     ensures { λ r. ⌜ FitIs (plannedLines (sheetIn (now (w .entry)))) (now (out .entry)) (now (out .exit)) r ⌝ }
 {
     match turns::schedule(w) {

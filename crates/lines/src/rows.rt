@@ -8,6 +8,7 @@ ghost use Rattle.sheet.specs.Tables.{sheetIn, Loaded};
 ghost use Rattle.schedule.specs.Layout.{scheduleIn};
 ghost use Rattle.listing.specs.Listing.{planLine, taskLine, refusalLine, scheduleLines};
 ghost use Rattle.numbers.specs.Number.{Put};
+ghost use Rattle.lines.specs.Lines.{Standing};
 use crate::fields::digits;
 use crate::fields::put_decimal;
 use crate::fields::put_field;
@@ -50,6 +51,15 @@ pub fn needed(w: &[u32]) -> usize
         t += 1;
     }
     n
+}
+
+// Enough for all lines: 29 bytes each, where a task has 3 digits, a processor 2 and a time 10.
+pub fn most(w: &[u32]) -> usize
+    requires { ⌜ Loaded (now w) ⌝ }
+    requires { ⌜ Standing (sheetIn (now w)) (scheduleIn (now w)) ⌝ }
+    ensures { λ r. ⌜ (length (scheduleLines (sheetIn (now (w .entry))) (scheduleIn (now (w .entry)))) ≤ r) × (r ≤ 7453) ⌝ }
+{
+    29 * (tables::tasks(w) + 1)
 }
 
 // The first line, at the front.

@@ -1,1 +1,2 @@
+-- The definitions of `listing`.
 pub mod Listing

@@ -1,2 +1,3 @@
+-- The definitions of `machine`.
 pub mod Machine
 pub mod Runs

@@ -7,11 +7,11 @@ use native.Mathlib.Omega.{arith}
 use lib.ListN.{length}
 use Rattle.folds.specs.Answers.{Answer, value, refused, unless, andThen}
 use Rattle.folds.proofs.Tests.{unless-value, not-value}
+use Rattle.numbers.specs.Number.{Bytes}
 use Rattle.sheet.specs.Sheet.{Sheet, taskCount, linkCount}
 use Rattle.bundle.specs.Bundle.{Bundle, programmeCount}
 use Rattle.bundle.specs.Format.{readBundle}
 use Rattle.bundle.specs.Counts.{Sized}
-use Rattle.bundle.specs.Fits.{Bytes}
 use Rattle.bundle.specs.Lies.{Laid}
 use Rattle.bundle_reader.specs.Answers.{readingOf}
 use Rattle.bundle_reader.specs.ReadIs.{ReadIs}
@@ -95,13 +95,13 @@ module _ (sheet bundle w : List ℕ) (n l limit m c claim : ℕ) where
         }
 
   -- 26
-  module _ (u : List ℕ) (a : NotesIs bundle w u) (f : Found) (h : OnceIs u n f) where
+  module _ (u : List ℕ) (a : NotesIs bundle w u n l) (f : Found) (h : OnceIs u n f) where
     given : (s : Sheet) (b : Bundle) → Told s b sheet bundle w n l limit m c claim → Given s b sheet u
     given s b t =
         let k = t .known in
         let few : taskCount s ≤ 256 = omega (arith, k .tasks, k .few-tasks) in
         let less : linkCount s ≤ 1024 = omega (arith, k .links, k .few-links) in
-        let x = a .notes s b few less (t .few) (t .long) (t .bytes) (t .read) in
+        let x = a .notes s b (k .tasks) (k .links) few less (t .few) (t .long) (t .bytes) (t .read) in
         record { few = few; less = less; fields = k .fields; source = k .source; target = k .target; count = x .0; notes = x .1 }
 
     told : (s : Sheet) (b : Bundle) → Told s b sheet bundle w n l limit m c claim → Told s b sheet bundle u n l limit m c claim

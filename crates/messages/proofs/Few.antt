@@ -12,11 +12,11 @@ use Rattle.folds.specs.Folds.{sum, pick}
 use Rattle.folds.specs.Answers.{value}
 use Rattle.folds.proofs.Tests.{both-parts}
 use Rattle.folds.proofs.Laws.{sum-cong, sum-add, sum-le, sum-mono, sum-swap, term-le-sum, first-none, none-first}
-use Rattle.numbers.specs.Number.{numberAt}
+use Rattle.numbers.specs.Number.{Bytes, numberAt}
 use Rattle.sheet.specs.Sheet.{Sheet, taskCount, linkCount, sourceOf, targetOf}
 use Rattle.bundle.specs.Bundle.{Bundle, Command, run, send, receive, programmeCount, programmeOf}
 use Rattle.bundle.specs.Format.{readBundle}
-use Rattle.bundle.specs.Fits.{Known, Each, Bytes}
+use Rattle.bundle.specs.Fits.{Known, Each}
 use Rattle.bundle.specs.Counts.{commandsIn, commandCount}
 use Rattle.bundle.specs.Lies.{sizeOf, Lies, over, more}
 use Rattle.bundle.proofs.Rounds.{read-formed}

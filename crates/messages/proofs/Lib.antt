@@ -1,3 +1,4 @@
+-- The laws of `messages`.
 pub mod Weights
 pub mod Before
 pub mod Messages

@@ -1,20 +1,19 @@
 -- The pass that notes a bundle's commands: one command more, the next programme, and its end.
-use Prim.Native.Nat.{ℕ, zero, suc, _+_, _*_, _-_, _%_, _<_, _≤_, min}
+use Prim.Native.Nat.{ℕ, zero, suc, _+_, _*_, _-_, _%_, _<_, _≤_}
 use mathlib.Core.Path.{_≡_, refl, sym, ap, _∙_, subst}
 use mathlib.Core.Bool.{Bool}
 use mathlib.Core.Option.{some}
-use mathlib.Core.Logic.{_⊎_, ⊎-elim}
+use mathlib.Core.Logic.{inl, ⊎-elim}
 use mathlib.Core.List.{List, [], _∷_}
 use native.Mathlib.Omega.{arith}
 use native.Mathlib.Numerals.{add-one}
-use native.Mathlib.Decide.{decLt, ℕ-discrete}
+use native.Mathlib.Decide.{decLt}
 use borrow.Author.Tests.{eq-eqb, ne-eqb}
-use lib.ListN.{length, getD, set, drop, getElem?, length-set, List·getD-eq-default}
+use lib.ListN.{length, getD, set, drop, getElem?, length-set}
 use lib.Seq.{getD-set-same, getD-set-other}
 use lib.Dec.{eqb}
 use Rattle.folds.specs.Folds.{pick, bit}
 use Rattle.folds.specs.Answers.{value}
-use Rattle.folds.proofs.Tests.{below-suc}
 use Rattle.sheet.specs.Sheet.{Sheet, taskCount, linkCount}
 use Rattle.bundle.specs.Bundle.{Command, run, send, receive, Bundle, programmeCount, programmeOf}
 use Rattle.bundle.specs.Format.{readBundle}
@@ -22,6 +21,7 @@ use Rattle.bundle.specs.Fits.{Known}
 use Rattle.bundle.specs.Lies.{sizeOf, Stands, Lies}
 use Rattle.bundle.proofs.Lying.{lies-le, lies-next, lies-none}
 use Rattle.messages.specs.Counting.{is}
+use Rattle.workspace.specs.Area.{ClearIs}
 use Rattle.messages.specs.Notes.{slotOf, sofar, rank, Noted, never, again, once, Notes, messageAt, slotAt, sizeAt, notedWords, Kept, BlankIs, NotesIs}
 use Rattle.messages.proofs.Weights.{is-refl}
 use Rattle.messages.proofs.Walking.{drop-next, drop-short}
@@ -125,12 +125,13 @@ module _ (s : Sheet) (b : Bundle) (few : taskCount s ≤ 256) (less : linkCount 
   notes-next k i r w h n =
       record { note = λ c kc. noted-same refl (sym (sofar-next b k i c h)) (n .note c kc); count = n .count ∙ rank-next b k i h }
 
-  pub notes-start : (w : List ℕ) → ((i : ℕ) → 2048 ≤ i → i < 4352 → getD w i 0 ≡ 0) → Notes s b 0 0 0 w
-  notes-start w z =
-      record {
-        note = λ c kc. let l = slot-small s few less c kc in never (z (2048 + slotOf c) (omega arith) (omega arith)) (sofar-none b c);
-        count = sym (rank-none b);
-      }
+pub notes-start : (s : Sheet) (b : Bundle) (v w : List ℕ) → BlankIs v w (taskCount s) (linkCount s) → Notes s b 0 0 0 w
+notes-start s b v w z = record { note = λ c kc. never (zero-of c kc) (sofar-none b c); count = sym (rank-none b) }
+  where
+    zero-of : (c : Command) → Known s c → getD w (2048 + slotOf c) 0 ≡ 0
+    zero-of (run t) k = z .runs t k
+    zero-of (send i) k = z .sends i k
+    zero-of (receive i) k = z .receives i k
 
 pub noted-kept : {v w : List ℕ} (x k r : ℕ) → Kept v w → Kept v (notedWords w x k r)
 unfolding notedWords
@@ -147,11 +148,11 @@ pub record Going (s : Sheet) (b : Bundle) (bundle w : List ℕ) (at k r : ℕ) :
   pub notes : Notes s b k place r w
 
 -- the state of the pass
-pub record Noting (bundle v w : List ℕ) (at k r : ℕ) : Type 0 where
+pub record Noting (n l : ℕ) (bundle v w : List ℕ) (at k r : ℕ) : Type 0 where
   pub kept : Kept v w
   pub few : 2 * k ≤ at
   pub less : 2 * r ≤ at
-  pub each : (s : Sheet) (b : Bundle) → taskCount s ≤ 256 → linkCount s ≤ 1024 → programmeCount b ≤ 16 → 4352 ≤ length v
+  pub each : (s : Sheet) (b : Bundle) → taskCount s ≡ n → linkCount s ≡ l → taskCount s ≤ 256 → linkCount s ≤ 1024 → programmeCount b ≤ 16 → 4352 ≤ length v
       → ((i : ℕ) → getD bundle i 0 < 256) → readBundle s bundle ≡ value b → Going s b bundle w at k r
 
 -- the programme k of ps opens at offset o, and the others lie behind it
@@ -177,21 +178,21 @@ module _ (t l : ℕ) (b : List ℕ) (o : ℕ) where
   rows-closed (p ∷ ps) zero r h = absurd (omega arith)
   rows-closed (p ∷ ps) (suc k) r h = rows-closed ps k r (omega arith)
 
-pub noting-starts : (bundle v w : List ℕ) → BlankIs v w → Noting bundle w w 2 0 0
+pub noting-starts : (n l : ℕ) (bundle v w : List ℕ) → BlankIs v w n l → Noting n l bundle w w 2 0 0
 unfolding programmeCount programmeOf
-noting-starts bundle v w z =
+noting-starts n l bundle v w z =
     record {
       kept = record { long = refl; low = λ i l. refl };
       few = omega arith;
       less = omega arith;
       each =
-          λ s b few less small long bytes e.
+          λ s b en el few less small long bytes e.
           let r = rows s (omega arith) bundle b bytes e in
           let o = rows-open (taskCount s) (linkCount s) bundle 0 (b .programmes) 0 (r .1) (r .0) in
-          record { place = 0; end = o .end; below = r .0; lies = o .lies; rest = o .rest; notes = notes-start s b few less w (z .zeros) };
+          record { place = 0; end = o .end; below = r .0; lies = o .lies; rest = o .rest; notes = notes-start s b v w (rw (en, el) z) };
     }
 
-module _ {bundle v w : List ℕ} {at k r : ℕ} (end : ℕ) (far : end ≡ length bundle - 5) (g : Noting bundle v w at k r) where
+module _ {n l : ℕ} {bundle v w : List ℕ} {at k r : ℕ} (end : ℕ) (far : end ≡ length bundle - 5) (g : Noting n l bundle v w at k r) where
   module _ (s : Sheet) (b : Bundle) (h : Going s b bundle w at k r) where
     -- at the end of a programme
     pub over-open : h .end ≤ at → at < end → Opened (taskCount s) (linkCount s) bundle at (b .programmes) (suc k)
@@ -207,14 +208,14 @@ module _ {bundle v w : List ℕ} {at k r : ℕ} (end : ℕ) (far : end ≡ lengt
     pub over-none : h .end ≤ at → length (programmeOf b k) ≤ h .place
     over-none l = drop-short (programmeOf b k) (h .place) (lies-none (taskCount s) (linkCount s) bundle (h .lies) l)
 
-  pub noting-open : at < end → getD bundle at 0 ≡ 0x50 → Noting bundle v w (at + 2) (k + 1) r
+  pub noting-open : at < end → getD bundle at 0 ≡ 0x50 → Noting n l bundle v w (at + 2) (k + 1) r
   unfolding programmeCount programmeOf
   noting-open m q =
       record {
         kept = g .kept;
         few = omega (arith, g .few);
         less = omega (arith, g .less);
-        each = λ s b few less small long bytes e. rw add-one (by s b few less (g .each s b few less small long bytes e));
+        each = λ s b en el few less small long bytes e. rw add-one (by s b few less (g .each s b en el few less small long bytes e));
       }
     where
       by : (s : Sheet) (b : Bundle) → taskCount s ≤ 256 → linkCount s ≤ 1024 → Going s b bundle w at k r → Going s b bundle w (at + 2) (suc k) r
@@ -235,18 +236,18 @@ module _ {bundle v w : List ℕ} {at k r : ℕ} (end : ℕ) (far : end ≡ lengt
                 }
           ]
 
-  pub noting-command : at < end → (getD bundle at 0 ≡ 0x50 → ⊥) → (u : List ℕ) (x z n : ℕ) → x ≡ slotAt bundle at → z ≡ sizeAt bundle at → 2 ≤ z → u ≡ notedWords w x k r
-      → n ≡ r + bit (eqb (getD w (2048 + x) 0) 0) → Noting bundle v u (at + z) k n
+  pub noting-command : at < end → (getD bundle at 0 ≡ 0x50 → ⊥) → (u : List ℕ) (x z r′ : ℕ) → x ≡ slotAt bundle at → z ≡ sizeAt bundle at → 2 ≤ z → u ≡ notedWords w x k r
+      → r′ ≡ r + bit (eqb (getD w (2048 + x) 0) 0) → Noting n l bundle v u (at + z) k r′
   unfolding programmeCount
-  noting-command m q u x z n ex ez two eu en =
+  noting-command m q u x z r′ ex ez two eu er =
       record {
         kept = subst (Kept v) (sym eu) (noted-kept x k r (g .kept));
         few = omega (arith, g .few);
         less = omega (arith, g .less, bit-most (eqb (getD w (2048 + x) 0) 0));
-        each = λ s b few less small long bytes e. by s b few less small (omega (arith, g .kept .long)) (g .each s b few less small long bytes e);
+        each = λ s b en el few less small long bytes e. by s b few less small (omega (arith, g .kept .long)) (g .each s b en el few less small long bytes e);
       }
     where
-      by : (s : Sheet) (b : Bundle) → taskCount s ≤ 256 → linkCount s ≤ 1024 → programmeCount b ≤ 16 → 4352 ≤ length w → Going s b bundle w at k r → Going s b bundle u (at + z) k n
+      by : (s : Sheet) (b : Bundle) → taskCount s ≤ 256 → linkCount s ≤ 1024 → programmeCount b ≤ 16 → 4352 ≤ length w → Going s b bundle w at k r → Going s b bundle u (at + z) k r′
       by s b few less small long h =
           elim (decLt at (h .end)) [
             | no l ↦ absurd (q (over-open s b h (omega arith) m .byte))
@@ -264,16 +265,16 @@ module _ {bundle v w : List ℕ} {at k r : ℕ} (end : ℕ) (far : end ≡ lengt
                   below = h .below;
                   lies = rw (d .1, y) (c .behind);
                   rest = h .rest;
-                  notes = rw (eu, en) on;
+                  notes = rw (eu, er) on;
                 }
           ]
 
-  pub noting-ends : end ≤ at → NotesIs bundle v w
+  pub noting-ends : end ≤ at → NotesIs bundle v w n l
   unfolding programmeCount
   noting-ends m =
       record {
         kept = g .kept;
-        notes = λ s b few less small long bytes e. (r, by s b few less (g .each s b few less small long bytes e));
+        notes = λ s b en el few less small long bytes e. (r, by s b few less (g .each s b en el few less small long bytes e));
       }
     where
       by : (s : Sheet) (b : Bundle) → taskCount s ≤ 256 → linkCount s ≤ 1024 → Going s b bundle w at k r → Notes s b (programmeCount b) 0 r w
@@ -288,39 +289,18 @@ module _ {bundle v w : List ℕ} {at k r : ℕ} (end : ℕ) (far : end ≡ lengt
             | no l ↦ let q : suc k ≡ length (b .programmes) = omega (arith, h .below) in subst (λ (j : ℕ). Notes s b j 0 r w) q n
           ]
 
--- clearing the notes
-pub record Blanking (v w : List ℕ) (i : ℕ) : Type 0 where
-  pub kept : Kept v w
-  pub from : 2048 ≤ i
-  pub zeros : (j : ℕ) → 2048 ≤ j → j < i → getD w j 0 ≡ 0
-
-pub blanking-starts : (v : List ℕ) → Blanking v v 2048
-blanking-starts v = record { kept = record { long = refl; low = λ i l. refl }; from = omega arith; zeros = λ j l m. absurd (omega arith) }
-
-pub blanking-more : {v w : List ℕ} {i : ℕ} (u : List ℕ) → Blanking v w i → u ≡ set w i 0 → Blanking v u (i + 1)
-blanking-more {v} {w} {i} u h e =
-    rw e
-    (record {
-      kept = record { long = simp length-set (h .kept .long); low = λ j l. getD-set-other w i j 0 0 (λ q. omega (arith, h .from)) ∙ h .kept .low j l };
-      from = omega (arith, h .from);
-      zeros = λ j l m. ⊎-elim (λ (q : j < i). zero-at j (h .zeros j l q)) (λ (q : j ≡ i). here j q) (below-suc (rw add-one at m));
-    })
-  where
-    here : (j : ℕ) → j ≡ i → getD (set w i 0) j 0 ≡ 0
-    here j q =
-        elim (decLt i (length w)) [
-          | yes l ↦ ap (λ (n : ℕ). getD (set w i 0) n 0) q ∙ getD-set-same w i 0 0 l
-          | no l ↦ List·getD-eq-default (set w i 0) 0 {n = j} (simp length-set (omega arith))
-        ]
-
-    zero-at : (j : ℕ) → getD w j 0 ≡ 0 → getD (set w i 0) j 0 ≡ 0
-    zero-at j z = elim (ℕ-discrete j i) [ yes q ↦ here j q | no d ↦ getD-set-other w i j 0 0 d ∙ z ]
-
-pub blanking-ends : {v w : List ℕ} {i : ℕ} → Blanking v w i → min (length v) 4352 ≤ i → BlankIs v w
-blanking-ends {v} {w} {i} h l =
+-- the slots of n tasks, of l sends and of l receives are cleared
+pub blank-all : {w x y z : List ℕ} (n l : ℕ) → n ≤ 256 → l ≤ 1024 → ClearIs w x 2048 (2048 + n) → ClearIs x y 2304 (2304 + l) → ClearIs y z 3328 (3328 + l) → BlankIs w z n l
+blank-all n l few less p q r =
     record {
-      kept = h .kept;
-      zeros = λ j m n. elim (decLt j i) [ yes q ↦ h .zeros j m q | no q ↦ List·getD-eq-default w 0 {n = j} (omega (arith, h .kept .long)) ];
+      kept =
+          record {
+            long = r .long ∙ q .long ∙ p .long;
+            low = λ i m. r .other i (inl (omega arith)) ∙ q .other i (inl (omega arith)) ∙ p .other i (inl m);
+          };
+      runs = λ t m. r .other (2048 + t) (inl (omega arith)) ∙ q .other (2048 + t) (inl (omega arith)) ∙ p .zeros (2048 + t) (omega arith) (omega arith);
+      sends = λ i m. r .other (2048 + (256 + i)) (inl (omega arith)) ∙ q .zeros (2048 + (256 + i)) (omega arith) (omega arith);
+      receives = λ i m. r .zeros (2048 + (1280 + i)) (omega arith) (omega arith);
     }
 
 -- one command met, for the first time or again
@@ -334,9 +314,9 @@ module _ (w v : List ℕ) (x k r z : ℕ) (e : z ≡ getD w (2048 + x) 0) where
   note-old q h = rw (ne-eqb (getD w (2048 + x) 0) 0 (λ u. q (e ∙ u))) (h, omega arith)
 
 -- the notes were cleared first
-pub notes-after : {bundle v w u : List ℕ} → BlankIs v w → NotesIs bundle w u → NotesIs bundle v u
+pub notes-after : {bundle v w u : List ℕ} {n l : ℕ} → BlankIs v w n l → NotesIs bundle w u n l → NotesIs bundle v u n l
 notes-after z n =
     record {
       kept = record { long = n .kept .long ∙ z .kept .long; low = λ i l. n .kept .low i l ∙ z .kept .low i l };
-      notes = λ s b few less small long bytes e. n .notes s b few less small (omega (arith, z .kept .long)) bytes e;
+      notes = λ s b en el few less small long bytes e. n .notes s b en el few less small (omega (arith, z .kept .long)) bytes e;
     }

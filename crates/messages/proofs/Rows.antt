@@ -6,13 +6,13 @@ use mathlib.Core.List.{List, [], _∷_, _++_, append-assoc}
 use lib.ListN.{length, getD, drop, length-drop}
 use lib.Seq.{getD-drop, drop-drop}
 use Rattle.folds.specs.Answers.{value}
-use Rattle.numbers.specs.Number.{numberAt, numberBytes}
+use Rattle.numbers.specs.Number.{Bytes, numberAt, numberBytes}
 use Rattle.numbers.proofs.Laws.{numberAt-drop, numberAt-cons, number-of-bytes}
 use Rattle.sheet.specs.Sheet.{Sheet, taskCount, linkCount}
 use Rattle.bundle.specs.Bundle.{Command, run, send, receive, Bundle}
 use Rattle.bundle.specs.Format.{readBundle}
 use Rattle.bundle.specs.Writing.{commandBytes, programmeBytes, programmesBytes, claimBytes, bundleBytes}
-use Rattle.bundle.specs.Fits.{Known, Each, Bytes}
+use Rattle.bundle.specs.Fits.{Known, Each}
 use Rattle.bundle.specs.Lies.{sizeOf, Stands, Lies, over, more}
 use Rattle.bundle.proofs.Rounds.{bytes-again, read-formed}
 use Rattle.bundle.proofs.Lying.{lies-le}

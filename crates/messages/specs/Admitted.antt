@@ -5,11 +5,11 @@ use mathlib.Core.Option.{none}
 use mathlib.Core.List.{List}
 use lib.ListN.{length}
 use Rattle.folds.specs.Answers.{Answer, value, refused, unless, andThen}
+use Rattle.numbers.specs.Number.{Bytes}
 use Rattle.sheet.specs.Sheet.{Sheet, taskCount, linkCount, sourceOf, targetOf}
 use Rattle.bundle.specs.Bundle.{Bundle, programmeCount}
 use Rattle.bundle.specs.Format.{readBundle}
 use Rattle.bundle.specs.Counts.{commandCount}
-use Rattle.bundle.specs.Fits.{Bytes}
 use Rattle.bundle.specs.Lies.{Laid}
 use Rattle.messages.specs.Messages.{at26, at27, at28, Published}
 use Rattle.messages.specs.Fields.{Fields}

@@ -1,3 +1,4 @@
+-- The definitions of `messages`.
 pub mod Counting
 pub mod Messages
 pub mod Fields

@@ -67,15 +67,17 @@ pub record Kept (w last : List ℕ) : Type 0 where
   pub long : length last ≡ length w
   pub low : (i : ℕ) → i < 2048 → getD last i 0 ≡ getD w i 0
 
--- no command is noted
-pub record BlankIs (w last : List ℕ) : Type 0 where
+-- no command is noted of n tasks and l links
+pub record BlankIs (w last : List ℕ) (n l : ℕ) : Type 0 where
   pub kept : Kept w last
-  pub zeros : (i : ℕ) → 2048 ≤ i → i < 4352 → getD last i 0 ≡ 0
+  pub runs : (t : ℕ) → t < n → getD last (2048 + slotOf (run t)) 0 ≡ 0
+  pub sends : (i : ℕ) → i < l → getD last (2048 + slotOf (send i)) 0 ≡ 0
+  pub receives : (i : ℕ) → i < l → getD last (2048 + slotOf (receive i)) 0 ≡ 0
 
--- after the pass over any bundle
-pub record NotesIs (bundle w last : List ℕ) : Type 0 where
+-- after the pass over any bundle, for a sheet of n tasks and l links
+pub record NotesIs (bundle w last : List ℕ) (n l : ℕ) : Type 0 where
   pub kept : Kept w last
-  pub notes : (s : Sheet) (b : Bundle) → taskCount s ≤ 256 → linkCount s ≤ 1024 → programmeCount b ≤ 16 → 4352 ≤ length w
+  pub notes : (s : Sheet) (b : Bundle) → taskCount s ≡ n → linkCount s ≡ l → taskCount s ≤ 256 → linkCount s ≤ 1024 → programmeCount b ≤ 16 → 4352 ≤ length w
       → ((i : ℕ) → getD bundle i 0 < 256) → readBundle s bundle ≡ value b → (r : ℕ) × Notes s b (programmeCount b) 0 r last
 
 -- by their notes, a command stands before another in one programme

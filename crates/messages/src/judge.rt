@@ -74,10 +74,10 @@ fn rules(
     c: usize,
     claim: usize,
 ) -> Judged
-    requires { ⌜ (n < 65536) × (l ≤ 1024) × (m < 65536) × (4352 ≤ length (now w)) ⌝ }
+    requires { ⌜ (n ≤ 256) × (l ≤ 1024) × (m < 65536) × (4352 ≤ length (now w)) ⌝ }
     ensures { λ r. ⌜ RulesIs (now (sheet .entry)) (now (bundle .entry)) (now (w .entry)) n l limit m c claim r (now (w .exit)) ⌝ }
 {
-    note_all(bundle, w);
+    note_all(bundle, w, n, l);
     match not_once(w, n) {
         Found::At(t) => Judged::Refused(26, t),
         Found::Nothing => messages(sheet, bundle, w, n, l, limit, m, c, claim),

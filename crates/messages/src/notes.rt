@@ -29,23 +29,22 @@ fn note(w: &mut [u32], x: usize, k: usize, r: usize) -> usize
     r
 }
 
-// No command is noted.
-fn blank(w: &mut [u32])
-    ensures { λ _. ⌜ BlankIs (now (w .entry)) (now (w .exit)) ⌝ }
+// No command is noted of n tasks and l links. The other slots stay: no command of a bundle that was read has one.
+fn blank(w: &mut [u32], n: usize, l: usize)
+    requires { ⌜ (n ≤ 256) × (l ≤ 1024) × (4352 ≤ length (now w)) ⌝ }
+    ensures { λ _. ⌜ BlankIs (now (w .entry)) (now (w .exit)) n l ⌝ }
 {
-    let end = words::smaller(w.len(), 4352);
-    let mut i: usize = 2048;
-    while i < end {
-        w[i] = 0;
-        i += 1;
-    }
+    workspace::clear_words(w, 2048, 2048 + n);
+    workspace::clear_words(w, 2304, 2304 + l);
+    workspace::clear_words(w, 3328, 3328 + l);
 }
 
-// Notes all commands of a bundle, in the words from 2048 on.
-pub fn note_all(bundle: &[u8], w: &mut [u32])
-    ensures { λ _. ⌜ NotesIs (now (bundle .entry)) (now (w .entry)) (now (w .exit)) ⌝ }
+// Notes all commands of a bundle for a sheet of n tasks and l links, in the words from 2048 on.
+pub fn note_all(bundle: &[u8], w: &mut [u32], n: usize, l: usize)
+    requires { ⌜ (n ≤ 256) × (l ≤ 1024) × (4352 ≤ length (now w)) ⌝ }
+    ensures { λ _. ⌜ NotesIs (now (bundle .entry)) (now (w .entry)) (now (w .exit)) n l ⌝ }
 {
-    blank(w);
+    blank(w, n, l);
     let end = words::minus(bundle.len(), 5);
     let mut at: usize = 2;
     let mut k: usize = 0;

@@ -1,8 +1,12 @@
 -- Unsigned numbers in bytes, lowest byte first.
-use Prim.Native.Nat.{ℕ, zero, suc, _+_, _*_, _/_, _%_}
+use Prim.Native.Nat.{ℕ, zero, suc, _+_, _*_, _/_, _%_, _<_}
 use mathlib.Core.Path.{_≡_}
 use mathlib.Core.List.{List, [], _∷_, _++_}
 use lib.ListN.{length, getD, take, drop}
+
+-- every number of b is a byte
+abbrev pub Bytes : List ℕ → Type 0
+Bytes b = (i : ℕ) → getD b i 0 < 256
 
 -- the number in the w bytes of b from index i
 unfoldable pub numberAt : ℕ → List ℕ → ℕ → ℕ

@@ -1,12 +1,12 @@
 -- What the words that the search leaves alone carry over: the sheet, and the chains.
 use Prim.Native.Nat.{ℕ, _+_, _≤_, _<_}
-use mathlib.Core.Path.{_≡_, refl, ap, sym, _∙_, subst}
+use mathlib.Core.Path.{_≡_, refl, sym, _∙_, subst}
 use mathlib.Core.List.{List}
 use native.Mathlib.Omega.{arith}
-use lib.ListN.{length, getD, set, length-set}
-use lib.Seq.{getD-set-same, getD-set-other}
+use lib.ListN.{set, length-set}
+use lib.Seq.{getD-set-other}
 use Rattle.sheet.specs.Sheet.{Sheet, taskCount, linkCount}
-use Rattle.sheet.specs.Tables.{sheetIn, Loaded, Ranged}
+use Rattle.sheet.specs.Tables.{sheetIn, Loaded}
 use Rattle.sheet.proofs.Rows.{sheet-frame, loaded-frame, ranged}
 use Rattle.chains.specs.Frames.{Only}
 use Rattle.chains.specs.Chains.{Chained}
@@ -21,7 +21,7 @@ kept-none w = record { long = refl; low = λ i h. refl; high = λ i h. refl }
 pub kept-trans : {u v w : List ℕ} → Kept u v → Kept v w → Kept u w
 kept-trans p q = record { long = q .long ∙ p .long; low = λ i h. q .low i h ∙ p .low i h; high = λ i h. q .high i h ∙ p .high i h }
 
-pub kept-set : {w w′ : List ℕ} (j v : ℕ) → 4624 ≤ j → j < 8192 → Kept w w′ → Kept w (set w′ j v)
+pub kept-set : {w w′ : List ℕ} (j v : ℕ) → 2320 ≤ j → j < 4624 → Kept w w′ → Kept w (set w′ j v)
 kept-set {w} {w′} j v l h k =
     record {
       long = length-set w′ j v ∙ k .long;
@@ -30,7 +30,7 @@ kept-set {w} {w′} j v l h k =
     }
 
 -- what writes the chains alone
-pub only-kept : {w w′ : List ℕ} → Only 4880 6160 w w′ → Kept w w′
+pub only-kept : {w w′ : List ℕ} → Only 2576 3856 w w′ → Kept w w′
 only-kept o = record { long = o .long; low = λ i h. o .low i (omega arith); high = λ i h. o .high i (omega arith) }
 
 pub kept-sheet : {w w′ : List ℕ} → Held w → Kept w w′ → sheetIn w′ ≡ sheetIn w
@@ -58,11 +58,11 @@ pub beside-trans : {u v w : List ℕ} → Beside u v → Beside v w → Beside u
 beside-trans p q = record { kept = kept-trans (p .kept) (q .kept); chains = λ i h k. q .chains i h k ∙ p .chains i h k }
 
 -- a store into the levels, and one behind the chains
-pub beside-level : {w w′ : List ℕ} (t v : ℕ) → t < 256 → Beside w w′ → Beside w (set w′ (4624 + t) v)
+pub beside-level : {w w′ : List ℕ} (t v : ℕ) → t < 256 → Beside w w′ → Beside w (set w′ (2320 + t) v)
 beside-level {w} {w′} t v h b =
-    record { kept = kept-set (4624 + t) v (omega arith) (omega arith) (b .kept); chains = λ i p q. getD-set-other w′ (4624 + t) i v 0 (omega arith) ∙ b .chains i p q }
+    record { kept = kept-set (2320 + t) v (omega arith) (omega arith) (b .kept); chains = λ i p q. getD-set-other w′ (2320 + t) i v 0 (omega arith) ∙ b .chains i p q }
 
-pub beside-set : {w w′ : List ℕ} (j v : ℕ) → 6160 ≤ j → j < 8192 → Beside w w′ → Beside w (set w′ j v)
+pub beside-set : {w w′ : List ℕ} (j v : ℕ) → 3856 ≤ j → j < 4624 → Beside w w′ → Beside w (set w′ j v)
 beside-set {w} {w′} j v l h b =
     record { kept = kept-set j v (omega arith) h (b .kept); chains = λ i p q. getD-set-other w′ j i v 0 (omega arith) ∙ b .chains i p q }
 

@@ -1,3 +1,4 @@
+-- The laws of `peeling`.
 pub mod Frames
 pub mod Pushes
 pub mod Lights

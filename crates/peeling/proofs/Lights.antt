@@ -1,17 +1,17 @@
 -- Taking tasks off: what holds while links are counted off, tasks are put into the queue, and a task is taken from it.
-use Prim.Native.Nat.{ℕ, zero, suc, _+_, _*_, _-_, _≤_, _<_, max}
-use mathlib.Core.Bool.{Bool, true, false, not, false≢true, true≢false}
-use mathlib.Core.Path.{_≡_, refl, ap, ap₂, sym, _∙_, subst}
-use mathlib.Core.Logic.{_≢_, _⊎_, inl, inr, ⊎-elim}
+use Prim.Native.Nat.{ℕ, _+_, _*_, _-_, _≤_, _<_, max}
+use mathlib.Core.Bool.{Bool, true, false, not}
+use mathlib.Core.Path.{_≡_, refl, ap, sym, _∙_}
+use mathlib.Core.Logic.{_≢_}
 use mathlib.Core.List.{List}
 use native.Mathlib.Omega.{arith}
 use native.Mathlib.Decide.{decLt, ℕ-discrete}
-use borrow.Author.Tests.{eq-eqb, ne-eqb, lt-ltb, le-ltb}
+use borrow.Author.Tests.{eq-eqb, ne-eqb}
 use lib.ListN.{length, getD, set, length-set}
 use lib.Seq.{getD-set-same, getD-set-other}
 use lib.Dec.{eqb, ltb}
 use Rattle.workspace.specs.Area.{fixed}
-use Rattle.folds.specs.Folds.{pick, bit, both, either, sum, greatest}
+use Rattle.folds.specs.Folds.{pick, bit, both, sum, greatest}
 use Rattle.folds.proofs.Tests.{both-false}
 use Rattle.folds.proofs.Laws.{sum-cong, sum-point, term-le-sum, greatest-cong, greatest-point}
 use Rattle.sheet.specs.Sheet.{Sheet, taskCount, linkCount, workOf, sourceOf, targetOf, costOf}
@@ -35,7 +35,7 @@ module _ (s : Sheet) (c : ℕ → Bool) (t l : ℕ) where
   unfolding dueBy
   due-other h = rw (ne-eqb (sourceOf s l) t h)
 
-  gave-lit : (w : List ℕ) → sourceOf s l ≡ t → c l ≡ true → gaveBy s c w t l ≡ costOf s l + getD w (4624 + targetOf s l) 0
+  gave-lit : (w : List ℕ) → sourceOf s l ≡ t → c l ≡ true → gaveBy s c w t l ≡ costOf s l + getD w (2320 + targetOf s l) 0
   unfolding gaveBy
   gave-lit w h e = rw (eq-eqb (sourceOf s l) t h, e)
 
@@ -61,7 +61,7 @@ due-cong s c c′ t l e = ap (λ (b : Bool). bit (both (eqb (sourceOf s l) t) (n
 
 gave-cong : (s : Sheet) (c c′ : ℕ → Bool) (w : List ℕ) (t l : ℕ) → c l ≡ c′ l → gaveBy s c w t l ≡ gaveBy s c′ w t l
 unfolding gaveBy
-gave-cong s c c′ w t l e = ap (λ (b : Bool). pick (both (eqb (sourceOf s l) t) b) (costOf s l + getD w (4624 + targetOf s l) 0) 0) e
+gave-cong s c c′ w t l e = ap (λ (b : Bool). pick (both (eqb (sourceOf s l) t) b) (costOf s l + getD w (2320 + targetOf s l) 0) 0) e
 
 -- a task whose links are all counted off
 pub due-none : (s : Sheet) (c : ℕ → Bool) (t l : ℕ) → sum (linkCount s) (dueBy s c t) ≡ 0 → l < linkCount s → sourceOf s l ≡ t → c l ≡ true
@@ -72,7 +72,7 @@ due-none s c t l e h p = go (c l) refl
     go false q = absurd (omega (arith, due-unlit s c t l p q, term-le-sum (linkCount s) (dueBy s c t) l h))
 
 -- levels of tasks none of whose successors changed its level
-level-same : (s : Sheet) (w w′ : List ℕ) (t : ℕ) → ((l : ℕ) → l < linkCount s → sourceOf s l ≡ t → getD w′ (4624 + targetOf s l) 0 ≡ getD w (4624 + targetOf s l) 0)
+level-same : (s : Sheet) (w w′ : List ℕ) (t : ℕ) → ((l : ℕ) → l < linkCount s → sourceOf s l ≡ t → getD w′ (2320 + targetOf s l) 0 ≡ getD w (2320 + targetOf s l) 0)
     → greatest (linkCount s) (levelBy s (levelIn w) t) ≡ greatest (linkCount s) (levelBy s (levelIn w′) t)
 unfolding levelIn
 level-same s w w′ t h = greatest-cong (linkCount s) (levelBy s (levelIn w) t) (levelBy s (levelIn w′) t) (λ l k. go l k (ℕ-discrete (sourceOf s l) t))
@@ -82,7 +82,7 @@ level-same s w w′ t h = greatest-cong (linkCount s) (levelBy s (levelIn w) t) 
     go l k (no e) = level-other s (levelIn w) t l e ∙ sym (level-other s (levelIn w′) t l e)
 
 -- what links gave, where the levels of the targets of those counted off are as they were
-gave-same : (s : Sheet) (c : ℕ → Bool) (w w′ : List ℕ) (t l : ℕ) → (c l ≡ true → getD w′ (4624 + targetOf s l) 0 ≡ getD w (4624 + targetOf s l) 0) → gaveBy s c w t l ≡ gaveBy s c w′ t l
+gave-same : (s : Sheet) (c : ℕ → Bool) (w w′ : List ℕ) (t l : ℕ) → (c l ≡ true → getD w′ (2320 + targetOf s l) 0 ≡ getD w (2320 + targetOf s l) 0) → gaveBy s c w t l ≡ gaveBy s c w′ t l
 gave-same s c w w′ t l h = go (c l) refl (ℕ-discrete (sourceOf s l) t)
   where
     go : (b : Bool) → c l ≡ b → Dec (sourceOf s l ≡ t) → gaveBy s c w t l ≡ gaveBy s c w′ t l
@@ -90,17 +90,17 @@ gave-same s c w w′ t l h = go (c l) refl (ℕ-discrete (sourceOf s l) t)
     go true q (no e) = gave-other s c t l w e ∙ sym (gave-other s c t l w′ e)
     go false q d = gave-unlit s c t l w q ∙ sym (gave-unlit s c t l w′ q)
 
--- the queue of an area whose words from 6416 on are as they were
-pub queued-same : {n k : ℕ} {w w′ : List ℕ} → ((i : ℕ) → 6416 ≤ i → getD w′ i 0 ≡ getD w i 0) → Queued n k w → Queued n k w′
+-- the queue of an area whose words from 4112 on are as they were
+pub queued-same : {n k : ℕ} {w w′ : List ℕ} → ((i : ℕ) → 4112 ≤ i → getD w′ i 0 ≡ getD w i 0) → Queued n k w → Queued n k w′
 unfolding inQueue
 queued-same {n} {k} {w} {w′} same q =
-    let place : (t : ℕ) → getD w′ (6672 + t) 0 ≡ getD w (6672 + t) 0 = λ t. same (6672 + t) (omega arith) in
-    let at : (j : ℕ) → getD w′ (6416 + j) 0 ≡ getD w (6416 + j) 0 = λ j. same (6416 + j) (omega arith) in
+    let place : (t : ℕ) → getD w′ (4368 + t) 0 ≡ getD w (4368 + t) 0 = λ t. same (4368 + t) (omega arith) in
+    let at : (j : ℕ) → getD w′ (4112 + j) 0 ≡ getD w (4112 + j) 0 = λ j. same (4112 + j) (omega arith) in
     record {
       task = λ j h. rw (at j) (q .task j h);
-      place = λ j h. rw (at j) (place (getD w (6416 + j) 0) ∙ q .place j h);
+      place = λ j h. rw (at j) (place (getD w (4112 + j) 0) ∙ q .place j h);
       few = λ t h l. rw (place t) (q .few t h (rw (place t) at l));
-      back = λ t h l. rw (place t) (at (getD w (6672 + t) 0) ∙ q .back t h (rw (place t) at l));
+      back = λ t h l. rw (place t) (at (getD w (4368 + t) 0) ∙ q .back t h (rw (place t) at l));
       count = q .count ∙ sum-cong n (inQueue w) (inQueue w′) (λ t h. ap (λ (x : ℕ). bit (ltb x 256)) (sym (place t)));
     }
 
@@ -123,55 +123,55 @@ peel-same {s} {i} {k} {e} {f} {w} c c′ h p =
 module _ (s : Sheet) (w : List ℕ) (declared : Declared s) (few : taskCount s ≤ 256) (long : fixed ≤ length w) where
   -- a link is counted off at its source
   module _ (c c′ : ℕ → Bool) (i k l y d : ℕ) (p : Peel s c i k 0 0 w) (l-in : l < linkCount s) (off : c l ≡ false) (on : c′ l ≡ true)
-      (else : (j : ℕ) → j < linkCount s → j ≢ l → c′ j ≡ c j) (gone : getD w (6672 + targetOf s l) 0 < i) (small : costOf s l + getD w (4624 + targetOf s l) 0 ≤ 131070 * i)
-      (y-is : y ≡ max (getD w (4624 + sourceOf s l) 0) (costOf s l + getD w (4624 + targetOf s l) 0)) (d-is : d ≡ getD w (6160 + sourceOf s l) 0 - 1) where
+      (else : (j : ℕ) → j < linkCount s → j ≢ l → c′ j ≡ c j) (gone : getD w (4368 + targetOf s l) 0 < i) (small : costOf s l + getD w (2320 + targetOf s l) 0 ≤ 131070 * i)
+      (y-is : y ≡ max (getD w (2320 + sourceOf s l) 0) (costOf s l + getD w (2320 + targetOf s l) 0)) (d-is : d ≡ getD w (3856 + sourceOf s l) 0 - 1) where
     abbrev u : ℕ
     u = sourceOf s l
 
     abbrev lit-words : List ℕ
-    lit-words = set (set w (4624 + sourceOf s l) y) (6160 + sourceOf s l) d
+    lit-words = set (set w (2320 + sourceOf s l) y) (3856 + sourceOf s l) d
 
     u-in : u < taskCount s
     u-in = declared .source l l-in
 
-    pub light-some : 1 ≤ getD w (6160 + sourceOf s l) 0
+    pub light-some : 1 ≤ getD w (3856 + sourceOf s l) 0
     light-some = omega (arith, p .degree u u-in, due-unlit s c u l refl off, term-le-sum (linkCount s) (dueBy s c u) l l-in)
 
-    pub light-free : 256 ≤ getD w (6672 + sourceOf s l) 0
-    light-free = go (decLt (getD w (6672 + u) 0) 256)
+    pub light-free : 256 ≤ getD w (4368 + sourceOf s l) 0
+    light-free = go (decLt (getD w (4368 + u) 0) 256)
       where
-        go : Dec (getD w (6672 + u) 0 < 256) → 256 ≤ getD w (6672 + u) 0
+        go : Dec (getD w (4368 + u) 0 < 256) → 256 ≤ getD w (4368 + u) 0
         go (yes h) = absurd (omega (arith, p .ready u u-in h, light-some))
         go (no h) = omega arith
 
-    not-u : (t : ℕ) → getD w (6672 + t) 0 < 256 → t ≢ u
-    not-u t h e = let x : getD w (6672 + t) 0 ≡ getD w (6672 + u) 0 = ap (λ (z : ℕ). getD w (6672 + z) 0) e in absurd (omega (arith, light-free))
+    not-u : (t : ℕ) → getD w (4368 + t) 0 < 256 → t ≢ u
+    not-u t h e = let x : getD w (4368 + t) 0 ≡ getD w (4368 + u) 0 = ap (λ (z : ℕ). getD w (4368 + z) 0) e in absurd (omega (arith, light-free))
 
     few-gone : i ≤ 256
     few-gone = omega (arith, p .early, queued-few (p .queued))
 
-    level-here : getD lit-words (4624 + u) 0 ≡ y
-    level-here = let h = u-in in getD-set-other (set w (4624 + u) y) (6160 + u) (4624 + u) d 0 (omega arith) ∙ getD-set-same w (4624 + u) y 0 (omega arith)
+    level-here : getD lit-words (2320 + u) 0 ≡ y
+    level-here = let h = u-in in getD-set-other (set w (2320 + u) y) (3856 + u) (2320 + u) d 0 (omega arith) ∙ getD-set-same w (2320 + u) y 0 (omega arith)
 
-    level-else : (t : ℕ) → t < taskCount s → t ≢ u → getD lit-words (4624 + t) 0 ≡ getD w (4624 + t) 0
-    level-else t h e = getD-set-other (set w (4624 + u) y) (6160 + u) (4624 + t) d 0 (omega arith) ∙ getD-set-other w (4624 + u) (4624 + t) y 0 (λ x. e (omega arith))
+    level-else : (t : ℕ) → t < taskCount s → t ≢ u → getD lit-words (2320 + t) 0 ≡ getD w (2320 + t) 0
+    level-else t h e = getD-set-other (set w (2320 + u) y) (3856 + u) (2320 + t) d 0 (omega arith) ∙ getD-set-other w (2320 + u) (2320 + t) y 0 (λ x. e (omega arith))
 
-    degree-here : getD lit-words (6160 + u) 0 ≡ d
-    degree-here = let h = u-in in getD-set-same (set w (4624 + u) y) (6160 + u) d 0 (simp length-set (omega arith))
+    degree-here : getD lit-words (3856 + u) 0 ≡ d
+    degree-here = let h = u-in in getD-set-same (set w (2320 + u) y) (3856 + u) d 0 (simp length-set (omega arith))
 
-    degree-else : (t : ℕ) → t ≢ u → getD lit-words (6160 + t) 0 ≡ getD w (6160 + t) 0
-    degree-else t e = let h = u-in in getD-set-other (set w (4624 + u) y) (6160 + u) (6160 + t) d 0 (λ x. e (omega arith)) ∙ getD-set-other w (4624 + u) (6160 + t) y 0 (omega arith)
+    degree-else : (t : ℕ) → t ≢ u → getD lit-words (3856 + t) 0 ≡ getD w (3856 + t) 0
+    degree-else t e = let h = u-in in getD-set-other (set w (2320 + u) y) (3856 + u) (3856 + t) d 0 (λ x. e (omega arith)) ∙ getD-set-other w (2320 + u) (3856 + t) y 0 (omega arith)
 
-    pub light-high : (j : ℕ) → 6416 ≤ j → getD lit-words j 0 ≡ getD w j 0
-    light-high j h = let g = u-in in getD-set-other (set w (4624 + u) y) (6160 + u) j d 0 (omega arith) ∙ getD-set-other w (4624 + u) j y 0 (omega arith)
+    pub light-high : (j : ℕ) → 4112 ≤ j → getD lit-words j 0 ≡ getD w j 0
+    light-high j h = let g = u-in in getD-set-other (set w (2320 + u) y) (3856 + u) j d 0 (omega arith) ∙ getD-set-other w (2320 + u) j y 0 (omega arith)
 
-    place-same : (t : ℕ) → getD lit-words (6672 + t) 0 ≡ getD w (6672 + t) 0
-    place-same t = light-high (6672 + t) (omega arith)
+    place-same : (t : ℕ) → getD lit-words (4368 + t) 0 ≡ getD w (4368 + t) 0
+    place-same t = light-high (4368 + t) (omega arith)
 
-    pub light-level : (t : ℕ) → t < taskCount s → getD w (6672 + t) 0 < 256 → getD lit-words (4624 + t) 0 ≡ getD w (4624 + t) 0
+    pub light-level : (t : ℕ) → t < taskCount s → getD w (4368 + t) 0 < 256 → getD lit-words (2320 + t) 0 ≡ getD w (2320 + t) 0
     light-level t h g = level-else t h (not-u t g)
 
-    due′ : (t : ℕ) → t < taskCount s → Dec (t ≡ u) → getD lit-words (6160 + t) 0 ≡ sum (linkCount s) (dueBy s c′ t)
+    due′ : (t : ℕ) → t < taskCount s → Dec (t ≡ u) → getD lit-words (3856 + t) 0 ≡ sum (linkCount s) (dueBy s c′ t)
     due′ t h (yes e) =
         let one : dueBy s c u l ≡ dueBy s c′ u l + 1 = due-unlit s c u l refl off ∙ sym (ap (λ (x : ℕ). x + 1) (due-lit s c′ u l on)) in
         let all : sum (linkCount s) (dueBy s c u) ≡ sum (linkCount s) (dueBy s c′ u) + 1 =
@@ -191,14 +191,14 @@ module _ (s : Sheet) (w : List ℕ) (declared : Declared s) (few : taskCount s �
         gave-same s c w lit-words t j (λ x. let z = p .lit j g x in let few′ = few-gone in light-level (targetOf s j) (declared .target j g) (omega arith))
         ∙ gave-cong s c c′ lit-words t j (sym (else j g q))
 
-    gathered′ : (t : ℕ) → t < taskCount s → i ≤ getD lit-words (6672 + t) 0 → Dec (t ≡ u) → getD lit-words (4624 + t) 0 ≡ greatest (linkCount s) (gaveBy s c′ lit-words t)
+    gathered′ : (t : ℕ) → t < taskCount s → i ≤ getD lit-words (4368 + t) 0 → Dec (t ≡ u) → getD lit-words (2320 + t) 0 ≡ greatest (linkCount s) (gaveBy s c′ lit-words t)
     gathered′ t h g (yes e) =
         let few′ = few-gone in
-        let old : getD w (4624 + u) 0 ≡ greatest (linkCount s) (gaveBy s c w u) = p .gathered u u-in (omega (arith, light-free)) in
-        let here : gaveBy s c′ lit-words u l ≡ costOf s l + getD w (4624 + targetOf s l) 0 =
+        let old : getD w (2320 + u) 0 ≡ greatest (linkCount s) (gaveBy s c w u) = p .gathered u u-in (omega (arith, light-free)) in
+        let here : gaveBy s c′ lit-words u l ≡ costOf s l + getD w (2320 + targetOf s l) 0 =
         gave-lit s c′ u l lit-words refl on ∙ ap (λ (x : ℕ). costOf s l + x) (light-level (targetOf s l) (declared .target l l-in) (omega arith)) in
-        let here′ : gaveBy s c′ lit-words u l ≡ max (gaveBy s c w u l) (costOf s l + getD w (4624 + targetOf s l) 0) = omega (arith, here, gave-unlit s c u l w off) in
-        let all = greatest-point (linkCount s) (gaveBy s c w u) (gaveBy s c′ lit-words u) l (costOf s l + getD w (4624 + targetOf s l) 0) l-in here′ (λ j q r. sym (gave-else u j q r)) in
+        let here′ : gaveBy s c′ lit-words u l ≡ max (gaveBy s c w u l) (costOf s l + getD w (2320 + targetOf s l) 0) = omega (arith, here, gave-unlit s c u l w off) in
+        let all = greatest-point (linkCount s) (gaveBy s c w u) (gaveBy s c′ lit-words u) l (costOf s l + getD w (2320 + targetOf s l) 0) l-in here′ (λ j q r. sym (gave-else u j q r)) in
         rw e (level-here ∙ y-is ∙ omega arith)
     gathered′ t h g (no e) =
         level-else t h e ∙ p .gathered t h (omega (arith, place-same t)) ∙ greatest-cong (linkCount s) (gaveBy s c w t) (gaveBy s c′ lit-words t) (λ j q. go j q (ℕ-discrete j l))
@@ -209,7 +209,7 @@ module _ (s : Sheet) (w : List ℕ) (declared : Declared s) (few : taskCount s �
             gave-other s c t j w x ∙ sym (gave-other s c′ t j lit-words x)
         go j q (no r) = gave-else t j q r
 
-    bounded′ : (t : ℕ) → t < taskCount s → Dec (t ≡ u) → getD lit-words (4624 + t) 0 ≤ 131070 * i
+    bounded′ : (t : ℕ) → t < taskCount s → Dec (t ≡ u) → getD lit-words (2320 + t) 0 ≤ 131070 * i
     bounded′ t h (yes e) = rw (e, level-here) (omega (arith, p .bounded u u-in))
     bounded′ t h (no e) = rw (level-else t h e) (p .bounded t h)
 
@@ -228,16 +228,16 @@ module _ (s : Sheet) (w : List ℕ) (declared : Declared s) (few : taskCount s �
           solved = λ t h g.
               let x = place-same t in
               level-else t h (not-u t (omega arith)) ∙ p .solved t h (omega arith) ∙
-              ap (λ (z : ℕ). workOf s t + z) (level-same s w lit-words t (λ j q r. let a : getD w (6672 + sourceOf s j) 0 ≡ getD w (6672 + t) 0 = ap (λ (z : ℕ). getD w (6672 + z) 0) r in let b = p .falls j q (omega arith) in light-level (targetOf s j) (declared .target j q) (omega arith)));
+              ap (λ (z : ℕ). workOf s t + z) (level-same s w lit-words t (λ j q r. let a : getD w (4368 + sourceOf s j) 0 ≡ getD w (4368 + t) 0 = ap (λ (z : ℕ). getD w (4368 + z) 0) r in let b = p .falls j q (omega arith) in light-level (targetOf s j) (declared .target j q) (omega arith)));
           bounded = λ t h. bounded′ t h (ℕ-discrete t u);
         }
       where
-        back : (j : ℕ) → j < linkCount s → c′ j ≡ true → Dec (j ≡ l) → getD w (6672 + targetOf s j) 0 < i
+        back : (j : ℕ) → j < linkCount s → c′ j ≡ true → Dec (j ≡ l) → getD w (4368 + targetOf s j) 0 < i
         back j h q (yes e) = rw e gone
         back j h q (no e) = p .lit j h (sym (else j h e) ∙ q)
 
   -- a task whose links are all counted off goes into the queue
-  module _ (c : ℕ → Bool) (i k e f e′ f′ u : ℕ) (p : Peel s c i k e f w) (u-in : u < taskCount s) (free : 256 ≤ getD w (6672 + u) 0) (none : getD w (6160 + u) 0 ≡ 0)
+  module _ (c : ℕ → Bool) (i k e f e′ f′ u : ℕ) (p : Peel s c i k e f w) (u-in : u < taskCount s) (free : 256 ≤ getD w (4368 + u) 0) (none : getD w (3856 + u) 0 ≡ 0)
       (less : (t : ℕ) → t ≢ u → (e′ ≤ t → t < f′ → ⊥) → e ≤ t → t < f → ⊥) where
     abbrev queue-words : List ℕ
     queue-words = pushed w k u
@@ -245,51 +245,51 @@ module _ (s : Sheet) (w : List ℕ) (declared : Declared s) (few : taskCount s �
     few-k : k < 256
     few-k = omega (arith, queued-room u (p .queued) u-in free)
 
-    in-place : getD queue-words (6672 + u) 0 ≡ k
+    in-place : getD queue-words (4368 + u) 0 ≡ k
     in-place = push-here (taskCount s) k u w few long u-in free (p .queued)
 
-    else-place : (t : ℕ) → t ≢ u → getD queue-words (6672 + t) 0 ≡ getD w (6672 + t) 0
+    else-place : (t : ℕ) → t ≢ u → getD queue-words (4368 + t) 0 ≡ getD w (4368 + t) 0
     else-place t = push-else (taskCount s) k u w few long u-in free (p .queued) t
 
-    low-words : (j : ℕ) → j < 6416 → getD queue-words j 0 ≡ getD w j 0
+    low-words : (j : ℕ) → j < 4112 → getD queue-words j 0 ≡ getD w j 0
     low-words = push-low (taskCount s) k u w few long u-in free (p .queued)
 
-    other-task : (t : ℕ) → getD w (6672 + t) 0 < 256 → t ≢ u
-    other-task t h q = let x : getD w (6672 + t) 0 ≡ getD w (6672 + u) 0 = ap (λ (z : ℕ). getD w (6672 + z) 0) q in absurd (omega arith)
+    other-task : (t : ℕ) → getD w (4368 + t) 0 < 256 → t ≢ u
+    other-task t h q = let x : getD w (4368 + t) 0 ≡ getD w (4368 + u) 0 = ap (λ (z : ℕ). getD w (4368 + z) 0) q in absurd (omega arith)
 
-    old-place : (t : ℕ) → getD w (6672 + t) 0 < 256 → getD queue-words (6672 + t) 0 ≡ getD w (6672 + t) 0
+    old-place : (t : ℕ) → getD w (4368 + t) 0 < 256 → getD queue-words (4368 + t) 0 ≡ getD w (4368 + t) 0
     old-place t h = else-place t (other-task t h)
 
-    new-place : (t : ℕ) → getD queue-words (6672 + t) 0 < i → (t ≢ u) × (getD w (6672 + t) 0 < i)
+    new-place : (t : ℕ) → getD queue-words (4368 + t) 0 < i → (t ≢ u) × (getD w (4368 + t) 0 < i)
     new-place t h = go (ℕ-discrete t u)
       where
-        go : Dec (t ≡ u) → (t ≢ u) × (getD w (6672 + t) 0 < i)
-        go (yes q) = let x : getD queue-words (6672 + t) 0 ≡ getD queue-words (6672 + u) 0 = ap (λ (z : ℕ). getD queue-words (6672 + z) 0) q in absurd (omega (arith, in-place, p .early))
+        go : Dec (t ≡ u) → (t ≢ u) × (getD w (4368 + t) 0 < i)
+        go (yes q) = let x : getD queue-words (4368 + t) 0 ≡ getD queue-words (4368 + u) 0 = ap (λ (z : ℕ). getD queue-words (4368 + z) 0) q in absurd (omega (arith, in-place, p .early))
         go (no q) = (q, omega (arith, else-place t q))
 
-    level-word : (t : ℕ) → t < taskCount s → getD queue-words (4624 + t) 0 ≡ getD w (4624 + t) 0
-    level-word t h = low-words (4624 + t) (omega arith)
+    level-word : (t : ℕ) → t < taskCount s → getD queue-words (2320 + t) 0 ≡ getD w (2320 + t) 0
+    level-word t h = low-words (2320 + t) (omega arith)
 
-    degree-word : (t : ℕ) → t < taskCount s → getD queue-words (6160 + t) 0 ≡ getD w (6160 + t) 0
-    degree-word t h = low-words (6160 + t) (omega arith)
+    degree-word : (t : ℕ) → t < taskCount s → getD queue-words (3856 + t) 0 ≡ getD w (3856 + t) 0
+    degree-word t h = low-words (3856 + t) (omega arith)
 
-    gathered-push : (t : ℕ) → t < taskCount s → i ≤ getD queue-words (6672 + t) 0 → Dec (t ≡ u) → getD w (4624 + t) 0 ≡ greatest (linkCount s) (gaveBy s c w t)
-    gathered-push t h g (yes q) = let x : getD w (6672 + t) 0 ≡ getD w (6672 + u) 0 = ap (λ (z : ℕ). getD w (6672 + z) 0) q in let y = few-k in p .gathered t h (omega (arith, p .early))
+    gathered-push : (t : ℕ) → t < taskCount s → i ≤ getD queue-words (4368 + t) 0 → Dec (t ≡ u) → getD w (2320 + t) 0 ≡ greatest (linkCount s) (gaveBy s c w t)
+    gathered-push t h g (yes q) = let x : getD w (4368 + t) 0 ≡ getD w (4368 + u) 0 = ap (λ (z : ℕ). getD w (4368 + z) 0) q in let y = few-k in p .gathered t h (omega (arith, p .early))
     gathered-push t h g (no q) = p .gathered t h (omega (arith, else-place t q))
 
-    ready-push : (t : ℕ) → t < taskCount s → getD queue-words (6672 + t) 0 < 256 → Dec (t ≡ u) → getD w (6160 + t) 0 ≡ 0
-    ready-push t h g (yes q) = ap (λ (z : ℕ). getD w (6160 + z) 0) q ∙ none
+    ready-push : (t : ℕ) → t < taskCount s → getD queue-words (4368 + t) 0 < 256 → Dec (t ≡ u) → getD w (3856 + t) 0 ≡ 0
+    ready-push t h g (yes q) = ap (λ (z : ℕ). getD w (3856 + z) 0) q ∙ none
     ready-push t h g (no q) = p .ready t h (omega (arith, else-place t q))
 
-    waits-push : (t : ℕ) → t < taskCount s → (e′ ≤ t → t < f′ → ⊥) → getD w (6160 + t) 0 ≡ 0 → Dec (t ≡ u) → getD queue-words (6672 + t) 0 < 256
-    waits-push t h x g (yes q) = let y : getD queue-words (6672 + t) 0 ≡ getD queue-words (6672 + u) 0 = ap (λ (z : ℕ). getD queue-words (6672 + z) 0) q in omega (arith, in-place, few-k)
+    waits-push : (t : ℕ) → t < taskCount s → (e′ ≤ t → t < f′ → ⊥) → getD w (3856 + t) 0 ≡ 0 → Dec (t ≡ u) → getD queue-words (4368 + t) 0 < 256
+    waits-push t h x g (yes q) = let y : getD queue-words (4368 + t) 0 ≡ getD queue-words (4368 + u) 0 = ap (λ (z : ℕ). getD queue-words (4368 + z) 0) q in omega (arith, in-place, few-k)
     waits-push t h x g (no q) = let y = p .waits t h (less t q x) g in omega (arith, else-place t q)
 
-    falls-push : (l : ℕ) → l < linkCount s → getD queue-words (6672 + sourceOf s l) 0 < 256 → Dec (sourceOf s l ≡ u) → getD queue-words (6672 + targetOf s l) 0 < getD queue-words (6672 + sourceOf s l) 0
+    falls-push : (l : ℕ) → l < linkCount s → getD queue-words (4368 + sourceOf s l) 0 < 256 → Dec (sourceOf s l ≡ u) → getD queue-words (4368 + targetOf s l) 0 < getD queue-words (4368 + sourceOf s l) 0
     falls-push l h g (yes q) =
         let on : c l ≡ true = due-none s c u l (sym (p .degree u u-in) ∙ none) h q in
         let x = p .lit l h on in
-        let y : getD queue-words (6672 + sourceOf s l) 0 ≡ getD queue-words (6672 + u) 0 = ap (λ (z : ℕ). getD queue-words (6672 + z) 0) q in
+        let y : getD queue-words (4368 + sourceOf s l) 0 ≡ getD queue-words (4368 + u) 0 = ap (λ (z : ℕ). getD queue-words (4368 + z) 0) q in
         let z = old-place (targetOf s l) (omega (arith, p .early, few-k)) in
         omega (arith, in-place, p .early)
     falls-push l h g (no q) =
@@ -315,42 +315,42 @@ module _ (s : Sheet) (w : List ℕ) (declared : Declared s) (few : taskCount s �
         }
 
   -- the next task of the queue is taken off
-  module _ (c : ℕ → Bool) (i k v y : ℕ) (p : Peel s c i k 0 0 w) (left : i < k) (v-is : v ≡ getD w (6416 + i) 0) (y-is : y ≡ workOf s v + getD w (4624 + v) 0) (short : workOf s v ≤ 65535) where
+  module _ (c : ℕ → Bool) (i k v y : ℕ) (p : Peel s c i k 0 0 w) (left : i < k) (v-is : v ≡ getD w (4112 + i) 0) (y-is : y ≡ workOf s v + getD w (2320 + v) 0) (short : workOf s v ≤ 65535) where
     abbrev off-words : List ℕ
-    off-words = set w (4624 + v) y
+    off-words = set w (2320 + v) y
 
     pub pop-in : v < taskCount s
     pop-in = rw v-is (p .queued .task i left)
 
-    pub pop-place : getD w (6672 + v) 0 ≡ i
-    pop-place = ap (λ (z : ℕ). getD w (6672 + z) 0) v-is ∙ p .queued .place i left
+    pub pop-place : getD w (4368 + v) 0 ≡ i
+    pop-place = ap (λ (z : ℕ). getD w (4368 + z) 0) v-is ∙ p .queued .place i left
 
     pop-few : i < 256
     pop-few = omega (arith, queued-few (p .queued))
 
-    pub pop-high : (j : ℕ) → 4880 ≤ j → getD off-words j 0 ≡ getD w j 0
-    pop-high j h = let g = pop-in in getD-set-other w (4624 + v) j y 0 (omega arith)
+    pub pop-high : (j : ℕ) → 2576 ≤ j → getD off-words j 0 ≡ getD w j 0
+    pop-high j h = let g = pop-in in getD-set-other w (2320 + v) j y 0 (omega arith)
 
-    pop-here : getD off-words (4624 + v) 0 ≡ y
-    pop-here = let g = pop-in in getD-set-same w (4624 + v) y 0 (omega arith)
+    pop-here : getD off-words (2320 + v) 0 ≡ y
+    pop-here = let g = pop-in in getD-set-same w (2320 + v) y 0 (omega arith)
 
-    pop-else : (t : ℕ) → t ≢ v → getD off-words (4624 + t) 0 ≡ getD w (4624 + t) 0
-    pop-else t e = getD-set-other w (4624 + v) (4624 + t) y 0 (λ x. e (omega arith))
+    pop-else : (t : ℕ) → t ≢ v → getD off-words (2320 + t) 0 ≡ getD w (2320 + t) 0
+    pop-else t e = getD-set-other w (2320 + v) (2320 + t) y 0 (λ x. e (omega arith))
 
-    pub pop-same : (t : ℕ) → getD off-words (6672 + t) 0 ≡ getD w (6672 + t) 0
-    pop-same t = pop-high (6672 + t) (omega arith)
+    pub pop-same : (t : ℕ) → getD off-words (4368 + t) 0 ≡ getD w (4368 + t) 0
+    pop-same t = pop-high (4368 + t) (omega arith)
 
-    not-v : (t : ℕ) → (getD w (6672 + t) 0 ≡ i → ⊥) → t ≢ v
-    not-v t h e = h (ap (λ (z : ℕ). getD w (6672 + z) 0) e ∙ pop-place)
+    not-v : (t : ℕ) → (getD w (4368 + t) 0 ≡ i → ⊥) → t ≢ v
+    not-v t h e = h (ap (λ (z : ℕ). getD w (4368 + z) 0) e ∙ pop-place)
 
-    pub pop-own : getD off-words (4624 + v) 0 ≤ 131070 * i + 65535
+    pub pop-own : getD off-words (2320 + v) 0 ≤ 131070 * i + 65535
     pop-own = rw pop-here (omega (arith, p .bounded v pop-in))
 
-    is-v : (t : ℕ) → t < taskCount s → t ≢ v → getD w (6672 + t) 0 < i + 1 → getD w (6672 + t) 0 < i
-    is-v t h e g = go (ℕ-discrete (getD w (6672 + t) 0) i)
+    is-v : (t : ℕ) → t < taskCount s → t ≢ v → getD w (4368 + t) 0 < i + 1 → getD w (4368 + t) 0 < i
+    is-v t h e g = go (ℕ-discrete (getD w (4368 + t) 0) i)
       where
-        go : Dec (getD w (6672 + t) 0 ≡ i) → getD w (6672 + t) 0 < i
-        go (yes q) = absurd (e (sym (p .queued .back t h (omega (arith, pop-few))) ∙ ap (λ (z : ℕ). getD w (6416 + z) 0) q ∙ sym v-is))
+        go : Dec (getD w (4368 + t) 0 ≡ i) → getD w (4368 + t) 0 < i
+        go (yes q) = absurd (e (sym (p .queued .back t h (omega (arith, pop-few))) ∙ ap (λ (z : ℕ). getD w (4112 + z) 0) q ∙ sym v-is))
         go (no q) = omega arith
 
     solved-here : y ≡ workOf s v + greatest (linkCount s) (levelBy s (levelIn off-words) v)
@@ -361,21 +361,21 @@ module _ (s : Sheet) (w : List ℕ) (declared : Declared s) (few : taskCount s �
       where
         go : (l : ℕ) → l < linkCount s → Dec (sourceOf s l ≡ v) → gaveBy s c w v l ≡ levelBy s (levelIn off-words) v l
         go l h (yes q) =
-            let none : getD w (6160 + v) 0 ≡ 0 = p .ready v pop-in (omega (arith, pop-place, pop-few)) in
+            let none : getD w (3856 + v) 0 ≡ 0 = p .ready v pop-in (omega (arith, pop-place, pop-few)) in
             let on : c l ≡ true = due-none s c v l (sym (p .degree v pop-in) ∙ none) h q in
             let x = p .lit l h on in
             gave-lit s c v l w q on ∙ sym (level-own s (levelIn off-words) v l q ∙ ap (λ (z : ℕ). costOf s l + z) (pop-else (targetOf s l) (not-v (targetOf s l) (λ r. absurd (omega arith)))))
         go l h (no q) = gave-other s c v l w q ∙ sym (level-other s (levelIn off-words) v l q)
 
-    solved-pop : (t : ℕ) → t < taskCount s → getD off-words (6672 + t) 0 < i + 1 → Dec (t ≡ v) → getD off-words (4624 + t) 0 ≡ workOf s t + greatest (linkCount s) (levelBy s (levelIn off-words) t)
+    solved-pop : (t : ℕ) → t < taskCount s → getD off-words (4368 + t) 0 < i + 1 → Dec (t ≡ v) → getD off-words (2320 + t) 0 ≡ workOf s t + greatest (linkCount s) (levelBy s (levelIn off-words) t)
     solved-pop t h g (yes e) = rw e (pop-here ∙ solved-here)
     solved-pop t h g (no e) =
         let x = is-v t h e (rw (pop-same t) at g) in
         let few′ = pop-few in
         pop-else t e ∙ p .solved t h x ∙
-        ap (λ (z : ℕ). workOf s t + z) (level-same s w off-words t (λ l q r. let a : getD w (6672 + sourceOf s l) 0 ≡ getD w (6672 + t) 0 = ap (λ (z : ℕ). getD w (6672 + z) 0) r in let b = p .falls l q (omega arith) in pop-else (targetOf s l) (not-v (targetOf s l) (λ z. absurd (omega arith)))))
+        ap (λ (z : ℕ). workOf s t + z) (level-same s w off-words t (λ l q r. let a : getD w (4368 + sourceOf s l) 0 ≡ getD w (4368 + t) 0 = ap (λ (z : ℕ). getD w (4368 + z) 0) r in let b = p .falls l q (omega arith) in pop-else (targetOf s l) (not-v (targetOf s l) (λ z. absurd (omega arith)))))
 
-    bounded-pop : (t : ℕ) → t < taskCount s → Dec (t ≡ v) → getD off-words (4624 + t) 0 ≤ 131070 * (i + 1)
+    bounded-pop : (t : ℕ) → t < taskCount s → Dec (t ≡ v) → getD off-words (2320 + t) 0 ≤ 131070 * (i + 1)
     bounded-pop t h (yes e) = rw e (omega (arith, pop-own))
     bounded-pop t h (no e) = rw (pop-else t e) (omega (arith, p .bounded t h))
 
@@ -385,13 +385,13 @@ module _ (s : Sheet) (w : List ℕ) (declared : Declared s) (few : taskCount s �
           queued = queued-same (λ j h. pop-high j (omega arith)) (p .queued);
           early = omega arith;
           lit = λ l h q. let x = p .lit l h q in rw (pop-same (targetOf s l)) (omega arith);
-          degree = λ t h. pop-high (6160 + t) (omega arith) ∙ p .degree t h;
+          degree = λ t h. pop-high (3856 + t) (omega arith) ∙ p .degree t h;
           gathered = λ t h g.
               let a = pop-same t in
               pop-else t (not-v t (λ z. absurd (omega arith))) ∙ p .gathered t h (omega arith) ∙
               greatest-cong (linkCount s) (gaveBy s c w t) (gaveBy s c off-words t) (λ l q. gave-same s c w off-words t l (λ x. let b = p .lit l q x in pop-else (targetOf s l) (not-v (targetOf s l) (λ z. absurd (omega arith)))));
-          ready = λ t h g. let a = pop-same t in pop-high (6160 + t) (omega arith) ∙ p .ready t h (omega arith);
-          waits = λ t h x g. rw (pop-same t) (p .waits t h x (sym (pop-high (6160 + t) (omega arith)) ∙ g));
+          ready = λ t h g. let a = pop-same t in pop-high (3856 + t) (omega arith) ∙ p .ready t h (omega arith);
+          waits = λ t h x g. rw (pop-same t) (p .waits t h x (sym (pop-high (3856 + t) (omega arith)) ∙ g));
           falls = λ l h g. let a = pop-same (sourceOf s l) in let b = pop-same (targetOf s l) in omega (arith, p .falls l h (omega arith));
           solved = λ t h g. solved-pop t h g (ℕ-discrete t v);
           bounded = λ t h. bounded-pop t h (ℕ-discrete t v);

@@ -1,8 +1,7 @@
 -- The queue with one task more.
-use Prim.Native.Nat.{ℕ, zero, suc, _+_, _*_, _≤_, _<_}
-use mathlib.Core.Bool.{Bool, true, false}
-use mathlib.Core.Path.{_≡_, refl, ap, ap₂, sym, _∙_, subst}
-use mathlib.Core.Logic.{_≢_, ⊎-elim}
+use Prim.Native.Nat.{ℕ, _+_, _≤_, _<_}
+use mathlib.Core.Path.{_≡_, ap, sym, _∙_}
+use mathlib.Core.Logic.{_≢_}
 use mathlib.Core.List.{List}
 use native.Mathlib.Omega.{arith}
 use native.Mathlib.Decide.{decLt, ℕ-discrete}
@@ -11,26 +10,26 @@ use lib.ListN.{length, getD, set, length-set}
 use lib.Seq.{getD-set-same, getD-set-other}
 use lib.Dec.{ltb}
 use Rattle.workspace.specs.Area.{fixed}
-use Rattle.folds.specs.Folds.{bit, sum}
-use Rattle.folds.proofs.Laws.{sum-le, sum-point, sum-terms}
+use Rattle.folds.specs.Folds.{bit}
+use Rattle.folds.proofs.Laws.{sum-le, sum-point}
 use Rattle.peeling.specs.Words.{Beside, inQueue, Queued, pushed}
 use Rattle.graph.proofs.Reaches.{sum-less, bit-le}
 use Rattle.peeling.proofs.Frames.{beside-none, beside-set}
 
-pub in-queue : (w : List ℕ) (t : ℕ) → getD w (6672 + t) 0 < 256 → inQueue w t ≡ 1
+pub in-queue : (w : List ℕ) (t : ℕ) → getD w (4368 + t) 0 < 256 → inQueue w t ≡ 1
 unfolding inQueue
-in-queue w t h = rw (lt-ltb (getD w (6672 + t) 0) 256 h)
+in-queue w t h = rw (lt-ltb (getD w (4368 + t) 0) 256 h)
 
-pub off-queue : (w : List ℕ) (t : ℕ) → 256 ≤ getD w (6672 + t) 0 → inQueue w t ≡ 0
+pub off-queue : (w : List ℕ) (t : ℕ) → 256 ≤ getD w (4368 + t) 0 → inQueue w t ≡ 0
 unfolding inQueue
-off-queue w t h = rw (le-ltb (getD w (6672 + t) 0) 256 h)
+off-queue w t h = rw (le-ltb (getD w (4368 + t) 0) 256 h)
 
 in-queue-le : (w : List ℕ) (t : ℕ) → inQueue w t ≤ 1
 unfolding inQueue
-in-queue-le w t = bit-le (ltb (getD w (6672 + t) 0) 256)
+in-queue-le w t = bit-le (ltb (getD w (4368 + t) 0) 256)
 
 -- while a task is not in the queue there is room in it
-pub queued-room : {n k : ℕ} {w : List ℕ} (u : ℕ) → Queued n k w → u < n → 256 ≤ getD w (6672 + u) 0 → k < n
+pub queued-room : {n k : ℕ} {w : List ℕ} (u : ℕ) → Queued n k w → u < n → 256 ≤ getD w (4368 + u) 0 → k < n
 queued-room {n} {k} {w} u q h l =
     let a = sum-less n (inQueue w) (λ t. 1) u (λ t p. in-queue-le w t) h (rw (off-queue w u l) (omega arith)) in
     omega (arith, q .count, sum-le n 1 (λ t. 1) (λ t p. omega arith))
@@ -39,56 +38,56 @@ pub queued-few : {n k : ℕ} {w : List ℕ} → Queued n k w → k ≤ n
 queued-few {n} {k} {w} q = omega (arith, q .count, sum-le n 1 (inQueue w) (λ t p. in-queue-le w t))
 
 -- a queue of n tasks holds all
-pub queued-all : {n k : ℕ} {w : List ℕ} → Queued n k w → k ≡ n → (t : ℕ) → t < n → getD w (6672 + t) 0 < 256
-queued-all {n} {k} {w} q e t h = go (decLt (getD w (6672 + t) 0) 256)
+pub queued-all : {n k : ℕ} {w : List ℕ} → Queued n k w → k ≡ n → (t : ℕ) → t < n → getD w (4368 + t) 0 < 256
+queued-all {n} {k} {w} q e t h = go (decLt (getD w (4368 + t) 0) 256)
   where
-    go : Dec (getD w (6672 + t) 0 < 256) → getD w (6672 + t) 0 < 256
+    go : Dec (getD w (4368 + t) 0 < 256) → getD w (4368 + t) 0 < 256
     go (yes l) = l
     go (no l) = absurd (omega (arith, queued-room t q h (omega arith)))
 
-module _ (n k u : ℕ) (w : List ℕ) (few : n ≤ 256) (long : fixed ≤ length w) (u-in : u < n) (free : 256 ≤ getD w (6672 + u) 0) (q : Queued n k w) where
+module _ (n k u : ℕ) (w : List ℕ) (few : n ≤ 256) (long : fixed ≤ length w) (u-in : u < n) (free : 256 ≤ getD w (4368 + u) 0) (q : Queued n k w) where
   abbrev new : List ℕ
-  new = set (set w (6416 + k) u) (6672 + u) k
+  new = set (set w (4112 + k) u) (4368 + u) k
 
   room : k < n
   room = queued-room u q u-in free
 
-  queue-here : getD new (6416 + k) 0 ≡ u
-  queue-here = let r = room in getD-set-other (set w (6416 + k) u) (6672 + u) (6416 + k) k 0 (omega arith) ∙ getD-set-same w (6416 + k) u 0 (omega arith)
+  queue-here : getD new (4112 + k) 0 ≡ u
+  queue-here = let r = room in getD-set-other (set w (4112 + k) u) (4368 + u) (4112 + k) k 0 (omega arith) ∙ getD-set-same w (4112 + k) u 0 (omega arith)
 
-  queue-else : (j : ℕ) → j < k → getD new (6416 + j) 0 ≡ getD w (6416 + j) 0
-  queue-else j h = let r = room in getD-set-other (set w (6416 + k) u) (6672 + u) (6416 + j) k 0 (omega arith) ∙ getD-set-other w (6416 + k) (6416 + j) u 0 (omega arith)
+  queue-else : (j : ℕ) → j < k → getD new (4112 + j) 0 ≡ getD w (4112 + j) 0
+  queue-else j h = let r = room in getD-set-other (set w (4112 + k) u) (4368 + u) (4112 + j) k 0 (omega arith) ∙ getD-set-other w (4112 + k) (4112 + j) u 0 (omega arith)
 
-  place-here : getD new (6672 + u) 0 ≡ k
-  place-here = getD-set-same (set w (6416 + k) u) (6672 + u) k 0 (simp length-set (omega arith))
+  place-here : getD new (4368 + u) 0 ≡ k
+  place-here = getD-set-same (set w (4112 + k) u) (4368 + u) k 0 (simp length-set (omega arith))
 
-  place-else : (t : ℕ) → t ≢ u → getD new (6672 + t) 0 ≡ getD w (6672 + t) 0
-  place-else t h = let r = room in getD-set-other (set w (6416 + k) u) (6672 + u) (6672 + t) k 0 (λ x. h (omega arith)) ∙ getD-set-other w (6416 + k) (6672 + t) u 0 (omega arith)
+  place-else : (t : ℕ) → t ≢ u → getD new (4368 + t) 0 ≡ getD w (4368 + t) 0
+  place-else t h = let r = room in getD-set-other (set w (4112 + k) u) (4368 + u) (4368 + t) k 0 (λ x. h (omega arith)) ∙ getD-set-other w (4112 + k) (4368 + t) u 0 (omega arith)
 
-  not-u : (t : ℕ) → getD w (6672 + t) 0 < 256 → t ≢ u
-  not-u t h e = let x : getD w (6672 + t) 0 ≡ getD w (6672 + u) 0 = ap (λ (y : ℕ). getD w (6672 + y) 0) e in absurd (omega arith)
+  not-u : (t : ℕ) → getD w (4368 + t) 0 < 256 → t ≢ u
+  not-u t h e = let x : getD w (4368 + t) 0 ≡ getD w (4368 + u) 0 = ap (λ (y : ℕ). getD w (4368 + y) 0) e in absurd (omega arith)
 
-  task′ : (j : ℕ) → j < k + 1 → Dec (j ≡ k) → getD new (6416 + j) 0 < n
+  task′ : (j : ℕ) → j < k + 1 → Dec (j ≡ k) → getD new (4112 + j) 0 < n
   task′ j h (yes e) = rw (e, queue-here) u-in
   task′ j h (no e) = rw (queue-else j (omega arith)) (q .task j (omega arith))
 
-  place′ : (j : ℕ) → j < k + 1 → Dec (j ≡ k) → getD new (6672 + getD new (6416 + j) 0) 0 ≡ j
-  place′ j h (yes e) = rw e (ap (λ (x : ℕ). getD new (6672 + x) 0) queue-here ∙ place-here)
+  place′ : (j : ℕ) → j < k + 1 → Dec (j ≡ k) → getD new (4368 + getD new (4112 + j) 0) 0 ≡ j
+  place′ j h (yes e) = rw e (ap (λ (x : ℕ). getD new (4368 + x) 0) queue-here ∙ place-here)
   place′ j h (no e) =
       let r = room in
-      let old : getD w (6672 + getD w (6416 + j) 0) 0 ≡ j = q .place j (omega arith) in
-      ap (λ (x : ℕ). getD new (6672 + x) 0) (queue-else j (omega arith)) ∙ place-else (getD w (6416 + j) 0) (not-u (getD w (6416 + j) 0) (omega arith)) ∙ old
+      let old : getD w (4368 + getD w (4112 + j) 0) 0 ≡ j = q .place j (omega arith) in
+      ap (λ (x : ℕ). getD new (4368 + x) 0) (queue-else j (omega arith)) ∙ place-else (getD w (4112 + j) 0) (not-u (getD w (4112 + j) 0) (omega arith)) ∙ old
 
-  few′ : (t : ℕ) → t < n → getD new (6672 + t) 0 < 256 → Dec (t ≡ u) → getD new (6672 + t) 0 < k + 1
+  few′ : (t : ℕ) → t < n → getD new (4368 + t) 0 < 256 → Dec (t ≡ u) → getD new (4368 + t) 0 < k + 1
   few′ t h l (yes e) = rw (e, place-here) (omega arith)
   few′ t h l (no e) = let p = place-else t e in omega (arith, q .few t h (omega arith))
 
-  back′ : (t : ℕ) → t < n → getD new (6672 + t) 0 < 256 → Dec (t ≡ u) → getD new (6416 + getD new (6672 + t) 0) 0 ≡ t
-  back′ t h l (yes e) = rw e (ap (λ (x : ℕ). getD new (6416 + x) 0) place-here ∙ queue-here)
+  back′ : (t : ℕ) → t < n → getD new (4368 + t) 0 < 256 → Dec (t ≡ u) → getD new (4112 + getD new (4368 + t) 0) 0 ≡ t
+  back′ t h l (yes e) = rw e (ap (λ (x : ℕ). getD new (4112 + x) 0) place-here ∙ queue-here)
   back′ t h l (no e) =
-      let p : getD new (6672 + t) 0 ≡ getD w (6672 + t) 0 = place-else t e in
+      let p : getD new (4368 + t) 0 ≡ getD w (4368 + t) 0 = place-else t e in
       let f = q .few t h (omega arith) in
-      ap (λ (x : ℕ). getD new (6416 + x) 0) p ∙ queue-else (getD w (6672 + t) 0) f ∙ q .back t h (omega arith)
+      ap (λ (x : ℕ). getD new (4112 + x) 0) p ∙ queue-else (getD w (4368 + t) 0) f ∙ q .back t h (omega arith)
 
   queue-same : (j : ℕ) → j ≢ u → inQueue new j ≡ inQueue w j
   unfolding inQueue
@@ -97,7 +96,7 @@ module _ (n k u : ℕ) (w : List ℕ) (few : n ≤ 256) (long : fixed ≤ length
   queued-more : Queued n (k + 1) new
   queued-more =
       let r = room in
-      let h : getD new (6672 + u) 0 < 256 = rw place-here (omega arith) in
+      let h : getD new (4368 + u) 0 < 256 = rw place-here (omega arith) in
       let one : inQueue new u ≡ inQueue w u + 1 = in-queue new u h ∙ sym (ap (λ (x : ℕ). x + 1) (off-queue w u free)) in
       record {
         task = λ j p. task′ j p (ℕ-discrete j k);
@@ -111,18 +110,18 @@ module _ (n k u : ℕ) (w : List ℕ) (few : n ≤ 256) (long : fixed ≤ length
   unfolding pushed
   queued-push = queued-more
 
-  pub push-here : getD (pushed w k u) (6672 + u) 0 ≡ k
+  pub push-here : getD (pushed w k u) (4368 + u) 0 ≡ k
   unfolding pushed
   push-here = place-here
 
-  pub push-else : (t : ℕ) → t ≢ u → getD (pushed w k u) (6672 + t) 0 ≡ getD w (6672 + t) 0
+  pub push-else : (t : ℕ) → t ≢ u → getD (pushed w k u) (4368 + t) 0 ≡ getD w (4368 + t) 0
   unfolding pushed
   push-else = place-else
 
-  pub push-low : (i : ℕ) → i < 6416 → getD (pushed w k u) i 0 ≡ getD w i 0
+  pub push-low : (i : ℕ) → i < 4112 → getD (pushed w k u) i 0 ≡ getD w i 0
   unfolding pushed
-  push-low i h = getD-set-other (set w (6416 + k) u) (6672 + u) i k 0 (omega arith) ∙ getD-set-other w (6416 + k) i u 0 (omega arith)
+  push-low i h = getD-set-other (set w (4112 + k) u) (4368 + u) i k 0 (omega arith) ∙ getD-set-other w (4112 + k) i u 0 (omega arith)
 
   pub push-beside : Beside w (pushed w k u)
   unfolding pushed
-  push-beside = let r = room in beside-set (6672 + u) k (omega arith) (omega arith) (beside-set (6416 + k) u (omega arith) (omega arith) (beside-none w))
+  push-beside = let r = room in beside-set (4368 + u) k (omega arith) (omega arith) (beside-set (4112 + k) u (omega arith) (omega arith) (beside-none w))

@@ -1,25 +1,25 @@
 -- The beginning of peeling: blank tables, the links counted at their sources, and the tasks without links in the queue.
-use Prim.Native.Nat.{ℕ, zero, suc, _+_, _*_, _-_, _≤_, _<_, max}
+use Prim.Native.Nat.{ℕ, _+_, _-_, _≤_, _<_}
 use mathlib.Core.Bool.{Bool, true, false, not, true≢false}
-use mathlib.Core.Path.{_≡_, refl, ap, ap₂, sym, _∙_, subst}
+use mathlib.Core.Path.{_≡_, refl, ap, sym, _∙_, subst}
 use mathlib.Core.Logic.{_≢_}
 use mathlib.Core.List.{List}
 use native.Mathlib.Omega.{arith}
-use native.Mathlib.Decide.{decLt, ℕ-discrete}
-use borrow.Author.Tests.{eq-eqb, ne-eqb, lt-ltb, le-ltb, ltb-true}
+use native.Mathlib.Decide.{ℕ-discrete}
+use borrow.Author.Tests.{le-ltb}
 use lib.ListN.{length, getD, set, length-set}
 use lib.Seq.{getD-set-same, getD-set-other}
-use lib.Dec.{eqb, ltb}
+use lib.Dec.{eqb}
 use Rattle.workspace.specs.Area.{fixed}
-use Rattle.folds.specs.Folds.{bit, both, sum, greatest}
+use Rattle.folds.specs.Folds.{both, sum}
 use Rattle.folds.proofs.Loops.{sum-zero, sum-one}
 use Rattle.folds.proofs.Laws.{sum-le, sum-cong, sum-zeros, greatest-le}
 use Rattle.sheet.specs.Sheet.{Sheet, taskCount, linkCount, sourceOf, targetOf}
 use Rattle.sheet.specs.Tables.{sheetIn}
 use Rattle.peeling.specs.Words.{Held, Beside, Queued, inQueue, pushed, doneBy}
-use Rattle.peeling.specs.Peeling.{dueBy, gaveBy, never, Peel, Peeled, Counted, Filled}
+use Rattle.peeling.specs.Peeling.{dueBy, gaveBy, never, Peeled, Counted, Filled}
 use Rattle.graph.proofs.Reaches.{Declared, bit-le}
-use Rattle.peeling.proofs.Frames.{beside-none, beside-trans, beside-level, beside-set, beside-sheet, beside-held, beside-own, beside-from, loaded-declared}
+use Rattle.peeling.proofs.Frames.{beside-none, beside-trans, beside-level, beside-set, beside-held, beside-own, beside-from}
 use Rattle.peeling.proofs.Pushes.{off-queue, queued-room, push-else, push-beside}
 use Rattle.peeling.proofs.Lights.{due-unlit, due-other, due-cong, gave-unlit, peel-same, peel-push}
 
@@ -27,26 +27,26 @@ use Rattle.peeling.proofs.Lights.{due-unlit, due-other, due-cong, gave-
 pub blank-none : (s : Sheet) (w : List ℕ) → Counted s 0 0 w
 blank-none s w = record { level = λ t h. absurd (omega arith); degree = λ t h. absurd (omega arith); place = λ t h. absurd (omega arith) }
 
-pub blank-more : {s : Sheet} {w : List ℕ} (t : ℕ) → t < 256 → fixed ≤ length w → Counted s t 0 w → Counted s (t + 1) 0 (set (set (set w (4624 + t) 0) (6160 + t) 0) (6672 + t) 256)
+pub blank-more : {s : Sheet} {w : List ℕ} (t : ℕ) → t < 256 → fixed ≤ length w → Counted s t 0 w → Counted s (t + 1) 0 (set (set (set w (2320 + t) 0) (3856 + t) 0) (4368 + t) 256)
 blank-more {s} {w} t h long d = record { level = λ u k. level u k (ℕ-discrete u t); degree = λ u k. degree u k (ℕ-discrete u t) ∙ sym (sum-zero (dueBy s never u)); place = λ u k. place u k (ℕ-discrete u t) }
   where
     new : List ℕ
-    new = set (set (set w (4624 + t) 0) (6160 + t) 0) (6672 + t) 256
+    new = set (set (set w (2320 + t) 0) (3856 + t) 0) (4368 + t) 256
 
-    level : (u : ℕ) → u < t + 1 → Dec (u ≡ t) → getD (set (set (set w (4624 + t) 0) (6160 + t) 0) (6672 + t) 256) (4624 + u) 0 ≡ 0
-    level u k (yes e) = rw e (getD-set-other (set (set w (4624 + t) 0) (6160 + t) 0) (6672 + t) (4624 + t) 256 0 (omega arith) ∙ getD-set-other (set w (4624 + t) 0) (6160 + t) (4624 + t) 0 0 (omega arith) ∙ getD-set-same w (4624 + t) 0 0 (omega arith))
-    level u k (no e) = getD-set-other (set (set w (4624 + t) 0) (6160 + t) 0) (6672 + t) (4624 + u) 256 0 (omega arith) ∙ getD-set-other (set w (4624 + t) 0) (6160 + t) (4624 + u) 0 0 (omega arith) ∙ getD-set-other w (4624 + t) (4624 + u) 0 0 (λ x. e (omega arith)) ∙ d .level u (omega arith)
+    level : (u : ℕ) → u < t + 1 → Dec (u ≡ t) → getD (set (set (set w (2320 + t) 0) (3856 + t) 0) (4368 + t) 256) (2320 + u) 0 ≡ 0
+    level u k (yes e) = rw e (getD-set-other (set (set w (2320 + t) 0) (3856 + t) 0) (4368 + t) (2320 + t) 256 0 (omega arith) ∙ getD-set-other (set w (2320 + t) 0) (3856 + t) (2320 + t) 0 0 (omega arith) ∙ getD-set-same w (2320 + t) 0 0 (omega arith))
+    level u k (no e) = getD-set-other (set (set w (2320 + t) 0) (3856 + t) 0) (4368 + t) (2320 + u) 256 0 (omega arith) ∙ getD-set-other (set w (2320 + t) 0) (3856 + t) (2320 + u) 0 0 (omega arith) ∙ getD-set-other w (2320 + t) (2320 + u) 0 0 (λ x. e (omega arith)) ∙ d .level u (omega arith)
 
-    degree : (u : ℕ) → u < t + 1 → Dec (u ≡ t) → getD (set (set (set w (4624 + t) 0) (6160 + t) 0) (6672 + t) 256) (6160 + u) 0 ≡ 0
-    degree u k (yes e) = rw e (getD-set-other (set (set w (4624 + t) 0) (6160 + t) 0) (6672 + t) (6160 + t) 256 0 (omega arith) ∙ getD-set-same (set w (4624 + t) 0) (6160 + t) 0 0 (simp length-set (omega arith)))
-    degree u k (no e) = getD-set-other (set (set w (4624 + t) 0) (6160 + t) 0) (6672 + t) (6160 + u) 256 0 (omega arith) ∙ getD-set-other (set w (4624 + t) 0) (6160 + t) (6160 + u) 0 0 (λ x. e (omega arith)) ∙ getD-set-other w (4624 + t) (6160 + u) 0 0 (omega arith) ∙ d .degree u (omega arith) ∙ sum-zero (dueBy s never u)
+    degree : (u : ℕ) → u < t + 1 → Dec (u ≡ t) → getD (set (set (set w (2320 + t) 0) (3856 + t) 0) (4368 + t) 256) (3856 + u) 0 ≡ 0
+    degree u k (yes e) = rw e (getD-set-other (set (set w (2320 + t) 0) (3856 + t) 0) (4368 + t) (3856 + t) 256 0 (omega arith) ∙ getD-set-same (set w (2320 + t) 0) (3856 + t) 0 0 (simp length-set (omega arith)))
+    degree u k (no e) = getD-set-other (set (set w (2320 + t) 0) (3856 + t) 0) (4368 + t) (3856 + u) 256 0 (omega arith) ∙ getD-set-other (set w (2320 + t) 0) (3856 + t) (3856 + u) 0 0 (λ x. e (omega arith)) ∙ getD-set-other w (2320 + t) (3856 + u) 0 0 (omega arith) ∙ d .degree u (omega arith) ∙ sum-zero (dueBy s never u)
 
-    place : (u : ℕ) → u < t + 1 → Dec (u ≡ t) → getD (set (set (set w (4624 + t) 0) (6160 + t) 0) (6672 + t) 256) (6672 + u) 0 ≡ 256
-    place u k (yes e) = rw e (getD-set-same (set (set w (4624 + t) 0) (6160 + t) 0) (6672 + t) 256 0 (simp length-set (omega arith)))
-    place u k (no e) = getD-set-other (set (set w (4624 + t) 0) (6160 + t) 0) (6672 + t) (6672 + u) 256 0 (λ x. e (omega arith)) ∙ getD-set-other (set w (4624 + t) 0) (6160 + t) (6672 + u) 0 0 (omega arith) ∙ getD-set-other w (4624 + t) (6672 + u) 0 0 (omega arith) ∙ d .place u (omega arith)
+    place : (u : ℕ) → u < t + 1 → Dec (u ≡ t) → getD (set (set (set w (2320 + t) 0) (3856 + t) 0) (4368 + t) 256) (4368 + u) 0 ≡ 256
+    place u k (yes e) = rw e (getD-set-same (set (set w (2320 + t) 0) (3856 + t) 0) (4368 + t) 256 0 (simp length-set (omega arith)))
+    place u k (no e) = getD-set-other (set (set w (2320 + t) 0) (3856 + t) 0) (4368 + t) (4368 + u) 256 0 (λ x. e (omega arith)) ∙ getD-set-other (set w (2320 + t) 0) (3856 + t) (4368 + u) 0 0 (omega arith) ∙ getD-set-other w (2320 + t) (4368 + u) 0 0 (omega arith) ∙ d .place u (omega arith)
 
-pub blank-beside : {w₀ w : List ℕ} (t : ℕ) → t < 256 → Beside w₀ w → Beside w₀ (set (set (set w (4624 + t) 0) (6160 + t) 0) (6672 + t) 256)
-blank-beside t h b = beside-set (6672 + t) 256 (omega arith) (omega arith) (beside-set (6160 + t) 0 (omega arith) (omega arith) (beside-level t 0 h b))
+pub blank-beside : {w₀ w : List ℕ} (t : ℕ) → t < 256 → Beside w₀ w → Beside w₀ (set (set (set w (2320 + t) 0) (3856 + t) 0) (4368 + t) 256)
+blank-beside t h b = beside-set (4368 + t) 256 (omega arith) (omega arith) (beside-set (3856 + t) 0 (omega arith) (omega arith) (beside-level t 0 h b))
 
 pub counted-at : {s : Sheet} {n n′ l l′ : ℕ} {w : List ℕ} → Counted s n l w → n ≡ n′ → l ≡ l′ → Counted s n′ l′ w
 counted-at {s} {n} {n′} {l} {l′} {w} d e f = subst (λ (x : ℕ). Counted s n′ x w) f (subst (λ (x : ℕ). Counted s x l w) e d)
@@ -61,38 +61,38 @@ unfolding never
 never-is l = refl
 
 module _ (s : Sheet) (w : List ℕ) (l : ℕ) (declared : Declared s) (few : taskCount s ≤ 256) (long : fixed ≤ length w) (l-in : l < linkCount s) (p : Counted s (taskCount s) l w) where
-  pub count-small : {u d : ℕ} → u ≡ sourceOf s l → d ≡ getD w (6160 + u) 0 → d ≤ l
+  pub count-small : {u d : ℕ} → u ≡ sourceOf s l → d ≡ getD w (3856 + u) 0 → d ≤ l
   count-small {u} {d} eu ed =
-      let e : getD w (6160 + u) 0 ≡ getD w (6160 + sourceOf s l) 0 = ap (λ (z : ℕ). getD w (6160 + z) 0) eu in
+      let e : getD w (3856 + u) 0 ≡ getD w (3856 + sourceOf s l) 0 = ap (λ (z : ℕ). getD w (3856 + z) 0) eu in
       omega (arith, p .degree (sourceOf s l) (declared .source l l-in), sum-le l 1 (dueBy s never (sourceOf s l)) (λ j h. due-le s never (sourceOf s l) j))
 
-  pub counted : {u d e : ℕ} (w′ : List ℕ) → u ≡ sourceOf s l → d ≡ getD w (6160 + u) 0 → e ≡ d + 1 → w′ ≡ set w (6160 + u) e → Beside w w′ × Counted s (taskCount s) (l + 1) w′
+  pub counted : {u d e : ℕ} (w′ : List ℕ) → u ≡ sourceOf s l → d ≡ getD w (3856 + u) 0 → e ≡ d + 1 → w′ ≡ set w (3856 + u) e → Beside w w′ × Counted s (taskCount s) (l + 1) w′
   counted {u} {d} {e} w′ eu ed ee ew =
       let h = declared .source l l-in in
-      let new : w′ ≡ set w (6160 + sourceOf s l) e = ew ∙ ap (λ (z : ℕ). set w (6160 + z) e) eu in
-      let e-is : e ≡ getD w (6160 + sourceOf s l) 0 + 1 = ee ∙ ap (λ (z : ℕ). z + 1) (ed ∙ ap (λ (z : ℕ). getD w (6160 + z) 0) eu) in
+      let new : w′ ≡ set w (3856 + sourceOf s l) e = ew ∙ ap (λ (z : ℕ). set w (3856 + z) e) eu in
+      let e-is : e ≡ getD w (3856 + sourceOf s l) 0 + 1 = ee ∙ ap (λ (z : ℕ). z + 1) (ed ∙ ap (λ (z : ℕ). getD w (3856 + z) 0) eu) in
       subst (λ (x : List ℕ). Beside w x × Counted s (taskCount s) (l + 1) x) (sym new) (
-        beside-set (6160 + sourceOf s l) e (omega arith) (omega arith) (beside-none w),
+        beside-set (3856 + sourceOf s l) e (omega arith) (omega arith) (beside-none w),
         record {
-          level = λ t k. getD-set-other w (6160 + sourceOf s l) (4624 + t) e 0 (omega arith) ∙ p .level t k;
+          level = λ t k. getD-set-other w (3856 + sourceOf s l) (2320 + t) e 0 (omega arith) ∙ p .level t k;
           degree = λ t k. at t k e-is (ℕ-discrete t (sourceOf s l));
-          place = λ t k. getD-set-other w (6160 + sourceOf s l) (6672 + t) e 0 (omega arith) ∙ p .place t k;
+          place = λ t k. getD-set-other w (3856 + sourceOf s l) (4368 + t) e 0 (omega arith) ∙ p .place t k;
         },
       )
     where
-      at : (t : ℕ) → t < taskCount s → e ≡ getD w (6160 + sourceOf s l) 0 + 1 → Dec (t ≡ sourceOf s l) → getD (set w (6160 + sourceOf s l) e) (6160 + t) 0 ≡ sum (l + 1) (dueBy s never t)
+      at : (t : ℕ) → t < taskCount s → e ≡ getD w (3856 + sourceOf s l) 0 + 1 → Dec (t ≡ sourceOf s l) → getD (set w (3856 + sourceOf s l) e) (3856 + t) 0 ≡ sum (l + 1) (dueBy s never t)
       at t k e-is (yes q) =
           let h = declared .source l l-in in
-          rw q (getD-set-same w (6160 + sourceOf s l) e 0 (omega arith) ∙ e-is ∙ omega (arith, p .degree (sourceOf s l) h, sum-one l (dueBy s never (sourceOf s l)), due-unlit s never (sourceOf s l) l refl (never-is l)))
+          rw q (getD-set-same w (3856 + sourceOf s l) e 0 (omega arith) ∙ e-is ∙ omega (arith, p .degree (sourceOf s l) h, sum-one l (dueBy s never (sourceOf s l)), due-unlit s never (sourceOf s l) l refl (never-is l)))
       at t k e-is (no q) =
-          getD-set-other w (6160 + sourceOf s l) (6160 + t) e 0 (λ x. q (omega arith)) ∙ omega (arith, p .degree t k, sum-one l (dueBy s never t), due-other s never t l (λ x. q (sym x)))
+          getD-set-other w (3856 + sourceOf s l) (3856 + t) e 0 (λ x. q (omega arith)) ∙ omega (arith, p .degree t k, sum-one l (dueBy s never t), due-other s never t l (λ x. q (sym x)))
 
 -- nothing is in the queue yet
 pub done-none : (s : Sheet) (w : List ℕ) (l : ℕ) → doneBy s 0 w l ≡ false
 unfolding doneBy
-done-none s w l = le-ltb (getD w (6672 + targetOf s l) 0) 0 (omega arith)
+done-none s w l = le-ltb (getD w (4368 + targetOf s l) 0) 0 (omega arith)
 
-pub queued-none : {n : ℕ} {w : List ℕ} → ((t : ℕ) → t < n → getD w (6672 + t) 0 ≡ 256) → Queued n 0 w
+pub queued-none : {n : ℕ} {w : List ℕ} → ((t : ℕ) → t < n → getD w (4368 + t) 0 ≡ 256) → Queued n 0 w
 queued-none {n} {w} place =
     record {
       task = λ j h. absurd (omega arith);
@@ -128,7 +128,7 @@ module _ (s : Sheet) (w : List ℕ) (k t : ℕ) (declared : Declared s) (few : t
   pub offer-room : k < 256
   offer-room = omega (arith, queued-room t (p .peeled .peel .queued) t-in (p .rest t (omega arith) t-in))
 
-  pub offer-stays : {d : ℕ} → d ≡ getD w (6160 + t) 0 → (d ≡ 0 → ⊥) → Beside w w × Filled s k (t + 1) w
+  pub offer-stays : {d : ℕ} → d ≡ getD w (3856 + t) 0 → (d ≡ 0 → ⊥) → Beside w w × Filled s k (t + 1) w
   offer-stays {d} e n =
       let q = p .peeled .peel in (
         beside-none w,
@@ -138,14 +138,14 @@ module _ (s : Sheet) (w : List ℕ) (k t : ℕ) (declared : Declared s) (few : t
         },
       )
     where
-      wait : (u : ℕ) → u < taskCount s → (t + 1 ≤ u → u < taskCount s → ⊥) → getD w (6160 + u) 0 ≡ 0 → Dec (u ≡ t) → getD w (6672 + u) 0 < 256
-      wait u h x g (yes q) = absurd (n (e ∙ ap (λ (z : ℕ). getD w (6160 + z) 0) (sym q) ∙ g))
+      wait : (u : ℕ) → u < taskCount s → (t + 1 ≤ u → u < taskCount s → ⊥) → getD w (3856 + u) 0 ≡ 0 → Dec (u ≡ t) → getD w (4368 + u) 0 < 256
+      wait u h x g (yes q) = absurd (n (e ∙ ap (λ (z : ℕ). getD w (3856 + z) 0) (sym q) ∙ g))
       wait u h x g (no q) = p .peeled .peel .waits u h (λ a b. x (omega arith) b) g
 
-  pub offer-goes : {d : ℕ} (w′ : List ℕ) → d ≡ getD w (6160 + t) 0 → d ≡ 0 → w′ ≡ pushed w k t → Beside w w′ × Filled s (k + 1) (t + 1) w′
+  pub offer-goes : {d : ℕ} (w′ : List ℕ) → d ≡ getD w (3856 + t) 0 → d ≡ 0 → w′ ≡ pushed w k t → Beside w w′ × Filled s (k + 1) (t + 1) w′
   offer-goes {d} w′ e n ew =
       let q = p .peeled .peel in
-      let free : 256 ≤ getD w (6672 + t) 0 = p .rest t (omega arith) t-in in
+      let free : 256 ≤ getD w (4368 + t) 0 = p .rest t (omega arith) t-in in
       subst (λ (x : List ℕ). Beside w x × Filled s (k + 1) (t + 1) x) (sym ew) (
         push-beside (taskCount s) k t w few long t-in free (q .queued),
         record {

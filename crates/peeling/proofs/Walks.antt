@@ -1,14 +1,14 @@
 -- Walking the links into a task that is taken off: which links are counted off before, at and behind each of them.
-use Prim.Native.Nat.{ℕ, zero, suc, _+_, _*_, _-_, _≤_, _<_, max}
-use mathlib.Core.Bool.{Bool, true, false, not, false≢true, true≢false}
+use Prim.Native.Nat.{ℕ, _+_, _*_, _-_, _≤_, _<_, max}
+use mathlib.Core.Bool.{Bool, true, false}
 use mathlib.Core.Path.{_≡_, refl, ap, ap₂, sym, _∙_, subst}
-use mathlib.Core.Logic.{_≢_, _⊎_, inl, inr, ⊎-elim}
+use mathlib.Core.Logic.{_≢_}
 use mathlib.Core.List.{List}
 use native.Mathlib.Omega.{arith}
 use native.Mathlib.Decide.{decLt, ℕ-discrete}
 use borrow.Author.Tests.{eq-eqb, ne-eqb, lt-ltb, le-ltb}
 use lib.ListN.{length, getD, set, length-set}
-use lib.Seq.{getD-set-same, getD-set-other}
+use lib.Seq.{getD-set-same}
 use lib.Dec.{eqb, ltb}
 use Rattle.workspace.specs.Area.{fixed}
 use Rattle.folds.specs.Folds.{both, either}
@@ -16,12 +16,12 @@ use Rattle.folds.proofs.Tests.{both-false, either-true}
 use Rattle.sheet.specs.Sheet.{Sheet, taskCount, linkCount, workOf, sourceOf, targetOf, costOf}
 use Rattle.chains.specs.Chains.{Chained}
 use Rattle.chains.specs.declared.End.the-variants.{Target}
-use Rattle.peeling.specs.Words.{Beside, Queued, pushed, doneBy, doneUpTo}
-use Rattle.peeling.specs.Peeling.{Peel, Peeled, Walking}
+use Rattle.peeling.specs.Words.{Beside, pushed, doneBy, doneUpTo}
+use Rattle.peeling.specs.Peeling.{Peeled, Walking}
 use Rattle.graph.proofs.Reaches.{Declared}
 use Rattle.peeling.proofs.Frames.{beside-none, beside-trans, beside-level, beside-set}
 use Rattle.peeling.proofs.Pushes.{queued-few, queued-room, push-here, push-else, push-low, push-beside}
-use Rattle.peeling.proofs.Lights.{peel-same, light-some, light-free, light-high, light-level, peel-light, peel-push, pop-in, pop-place, pop-high, pop-own, pop-same, peel-pop}
+use Rattle.peeling.proofs.Lights.{peel-same, light-some, light-free, light-high, light-level, peel-light, peel-push, pop-place, pop-own, pop-same, peel-pop}
 
 either-none : (b : Bool) → either b false ≡ b
 either-none true = refl
@@ -31,12 +31,12 @@ module _ (s : Sheet) (i v l : ℕ) where
   -- none of the links into v
   pub up-none : (w : List ℕ) → doneBy s i w l ≡ doneUpTo s i 0 v w l
   unfolding doneBy doneUpTo
-  up-none w = rw (le-ltb l 0 (omega arith), both-false (eqb (targetOf s l) v), either-none (ltb (getD w (6672 + targetOf s l) 0) i))
+  up-none w = rw (le-ltb l 0 (omega arith), both-false (eqb (targetOf s l) v), either-none (ltb (getD w (4368 + targetOf s l) 0) i))
 
   -- no link into v from j up to j′
   pub up-hop : (w : List ℕ) (j j′ : ℕ) → j ≤ j′ → (j ≤ l → l < j′ → targetOf s l ≢ v) → doneUpTo s i j v w l ≡ doneUpTo s i j′ v w l
   unfolding doneUpTo
-  up-hop w j j′ h none = ap (either (ltb (getD w (6672 + targetOf s l) 0) i)) (go (ℕ-discrete (targetOf s l) v) (decLt l j) (decLt l j′))
+  up-hop w j j′ h none = ap (either (ltb (getD w (4368 + targetOf s l) 0) i)) (go (ℕ-discrete (targetOf s l) v) (decLt l j) (decLt l j′))
     where
       go : Dec (targetOf s l ≡ v) → Dec (l < j) → Dec (l < j′) → both (eqb (targetOf s l) v) (ltb l j) ≡ both (eqb (targetOf s l) v) (ltb l j′)
       go (no e) a b = rw (ne-eqb (targetOf s l) v e)
@@ -45,36 +45,36 @@ module _ (s : Sheet) (i v l : ℕ) where
       go (yes e) (no a) (no b) = rw (le-ltb l j (omega arith), le-ltb l j′ (omega arith))
 
   -- all the links into v
-  pub up-end : (w : List ℕ) (m : ℕ) → l < m → getD w (6672 + v) 0 ≡ i → (getD w (6672 + targetOf s l) 0 ≡ i → targetOf s l ≡ v) → doneUpTo s i m v w l ≡ doneBy s (i + 1) w l
+  pub up-end : (w : List ℕ) (m : ℕ) → l < m → getD w (4368 + v) 0 ≡ i → (getD w (4368 + targetOf s l) 0 ≡ i → targetOf s l ≡ v) → doneUpTo s i m v w l ≡ doneBy s (i + 1) w l
   unfolding doneBy doneUpTo
-  up-end w m h here only = go (ℕ-discrete (targetOf s l) v) (decLt (getD w (6672 + targetOf s l) 0) i)
+  up-end w m h here only = go (ℕ-discrete (targetOf s l) v) (decLt (getD w (4368 + targetOf s l) 0) i)
     where
-      go : Dec (targetOf s l ≡ v) → Dec (getD w (6672 + targetOf s l) 0 < i) → either (ltb (getD w (6672 + targetOf s l) 0) i) (both (eqb (targetOf s l) v) (ltb l m)) ≡ ltb (getD w (6672 + targetOf s l) 0) (i + 1)
+      go : Dec (targetOf s l ≡ v) → Dec (getD w (4368 + targetOf s l) 0 < i) → either (ltb (getD w (4368 + targetOf s l) 0) i) (both (eqb (targetOf s l) v) (ltb l m)) ≡ ltb (getD w (4368 + targetOf s l) 0) (i + 1)
       go (yes e) b =
-          let x : getD w (6672 + targetOf s l) 0 ≡ i = ap (λ (z : ℕ). getD w (6672 + z) 0) e ∙ here in
-          rw (eq-eqb (targetOf s l) v e, lt-ltb l m h, either-true (ltb (getD w (6672 + targetOf s l) 0) i)) (sym (lt-ltb (getD w (6672 + targetOf s l) 0) (i + 1) (omega arith)))
-      go (no e) (yes b) = rw (lt-ltb (getD w (6672 + targetOf s l) 0) i b) (sym (lt-ltb (getD w (6672 + targetOf s l) 0) (i + 1) (omega arith)))
+          let x : getD w (4368 + targetOf s l) 0 ≡ i = ap (λ (z : ℕ). getD w (4368 + z) 0) e ∙ here in
+          rw (eq-eqb (targetOf s l) v e, lt-ltb l m h, either-true (ltb (getD w (4368 + targetOf s l) 0) i)) (sym (lt-ltb (getD w (4368 + targetOf s l) 0) (i + 1) (omega arith)))
+      go (no e) (yes b) = rw (lt-ltb (getD w (4368 + targetOf s l) 0) i b) (sym (lt-ltb (getD w (4368 + targetOf s l) 0) (i + 1) (omega arith)))
       go (no e) (no b) =
-          let d : getD w (6672 + targetOf s l) 0 ≢ i = λ q. e (only q) in
-          rw (le-ltb (getD w (6672 + targetOf s l) 0) i (omega arith), ne-eqb (targetOf s l) v e) (sym (le-ltb (getD w (6672 + targetOf s l) 0) (i + 1) (omega arith)))
+          let d : getD w (4368 + targetOf s l) 0 ≢ i = λ q. e (only q) in
+          rw (le-ltb (getD w (4368 + targetOf s l) 0) i (omega arith), ne-eqb (targetOf s l) v e) (sym (le-ltb (getD w (4368 + targetOf s l) 0) (i + 1) (omega arith)))
 
   -- the same where the places are
-  pub up-same : (w w′ : List ℕ) (j : ℕ) → getD w′ (6672 + targetOf s l) 0 ≡ getD w (6672 + targetOf s l) 0 → doneUpTo s i j v w l ≡ doneUpTo s i j v w′ l
+  pub up-same : (w w′ : List ℕ) (j : ℕ) → getD w′ (4368 + targetOf s l) 0 ≡ getD w (4368 + targetOf s l) 0 → doneUpTo s i j v w l ≡ doneUpTo s i j v w′ l
   unfolding doneUpTo
   up-same w w′ j e = ap (λ (x : ℕ). either (ltb x i) (both (eqb (targetOf s l) v) (ltb l j))) (sym e)
 
   -- .. or are late both
-  pub up-late : (w w′ : List ℕ) (j : ℕ) → i ≤ getD w (6672 + targetOf s l) 0 → i ≤ getD w′ (6672 + targetOf s l) 0 → doneUpTo s i j v w l ≡ doneUpTo s i j v w′ l
+  pub up-late : (w w′ : List ℕ) (j : ℕ) → i ≤ getD w (4368 + targetOf s l) 0 → i ≤ getD w′ (4368 + targetOf s l) 0 → doneUpTo s i j v w l ≡ doneUpTo s i j v w′ l
   unfolding doneUpTo
-  up-late w w′ j a b = rw (le-ltb (getD w (6672 + targetOf s l) 0) i a, le-ltb (getD w′ (6672 + targetOf s l) 0) i b)
+  up-late w w′ j a b = rw (le-ltb (getD w (4368 + targetOf s l) 0) i a, le-ltb (getD w′ (4368 + targetOf s l) 0) i b)
 
-  pub up-off : (w : List ℕ) → i ≤ getD w (6672 + targetOf s l) 0 → doneUpTo s i l v w l ≡ false
+  pub up-off : (w : List ℕ) → i ≤ getD w (4368 + targetOf s l) 0 → doneUpTo s i l v w l ≡ false
   unfolding doneUpTo
-  up-off w a = rw (le-ltb (getD w (6672 + targetOf s l) 0) i a, le-ltb l l (omega arith), both-false (eqb (targetOf s l) v))
+  up-off w a = rw (le-ltb (getD w (4368 + targetOf s l) 0) i a, le-ltb l l (omega arith), both-false (eqb (targetOf s l) v))
 
   pub up-on : (w : List ℕ) → targetOf s l ≡ v → doneUpTo s i (l + 1) v w l ≡ true
   unfolding doneUpTo
-  up-on w e = rw (eq-eqb (targetOf s l) v e, lt-ltb l (l + 1) (omega arith), either-true (ltb (getD w (6672 + targetOf s l) 0) i))
+  up-on w e = rw (eq-eqb (targetOf s l) v e, lt-ltb l (l + 1) (omega arith), either-true (ltb (getD w (4368 + targetOf s l) 0) i))
 
 -- one link more is another at that link alone
 pub up-else : (s : Sheet) (i v l j : ℕ) (w : List ℕ) → j ≢ l → doneUpTo s i (l + 1) v w j ≡ doneUpTo s i l v w j
@@ -82,8 +82,8 @@ up-else s i v l j w d = sym (up-hop s i v j w l (l + 1) (omega arith) (λ a b. a
 
 module _ (s : Sheet) (w : List ℕ) (declared : Declared s) (few : taskCount s ≤ 256) (long : fixed ≤ length w) where
   module _ (i k l v : ℕ) (p : Walking s i k l v 0 0 w) (l-in : l < linkCount s) (to : targetOf s l ≡ v) (cheap : costOf s l ≤ 65535) where
-    place-to : getD w (6672 + targetOf s l) 0 ≡ i
-    place-to = ap (λ (z : ℕ). getD w (6672 + z) 0) to ∙ p .here
+    place-to : getD w (4368 + targetOf s l) 0 ≡ i
+    place-to = ap (λ (z : ℕ). getD w (4368 + z) 0) to ∙ p .here
 
     off : doneUpTo s i l v w l ≡ false
     off = up-off s i v l w (omega (arith, place-to))
@@ -91,29 +91,29 @@ module _ (s : Sheet) (w : List ℕ) (declared : Declared s) (few : taskCount s �
     on : doneUpTo s i (l + 1) v w l ≡ true
     on = up-on s i v l w to
 
-    small : costOf s l + getD w (4624 + targetOf s l) 0 ≤ 131070 * (i + 1)
-    small = let e : getD w (4624 + targetOf s l) 0 ≡ getD w (4624 + v) 0 = ap (λ (z : ℕ). getD w (4624 + z) 0) to in omega (arith, p .own)
+    small : costOf s l + getD w (2320 + targetOf s l) 0 ≤ 131070 * (i + 1)
+    small = let e : getD w (2320 + targetOf s l) 0 ≡ getD w (2320 + v) 0 = ap (λ (z : ℕ). getD w (2320 + z) 0) to in omega (arith, p .own)
 
     few-i : i + 1 ≤ 256
     few-i = omega (arith, p .peel .early, queued-few (p .peel .queued))
 
-    module _ (y d : ℕ) (y-is : y ≡ max (getD w (4624 + sourceOf s l) 0) (costOf s l + getD w (4624 + targetOf s l) 0)) (d-is : d ≡ getD w (6160 + sourceOf s l) 0 - 1) where
+    module _ (y d : ℕ) (y-is : y ≡ max (getD w (2320 + sourceOf s l) 0) (costOf s l + getD w (2320 + targetOf s l) 0)) (d-is : d ≡ getD w (3856 + sourceOf s l) 0 - 1) where
       abbrev u : ℕ
       u = sourceOf s l
 
       abbrev lw : List ℕ
-      lw = set (set w (4624 + sourceOf s l) y) (6160 + sourceOf s l) d
+      lw = set (set w (2320 + sourceOf s l) y) (3856 + sourceOf s l) d
 
-      high : (j : ℕ) → 6416 ≤ j → getD lw j 0 ≡ getD w j 0
+      high : (j : ℕ) → 4112 ≤ j → getD lw j 0 ≡ getD w j 0
       high = light-high s w declared few long (doneUpTo s i l v w) (doneUpTo s i (l + 1) v w) (i + 1) k l y d (p .peel) l-in off on (λ j h q. up-else s i v l j w q) (omega (arith, place-to)) small y-is d-is
 
-      some-degree : 1 ≤ getD w (6160 + sourceOf s l) 0
+      some-degree : 1 ≤ getD w (3856 + sourceOf s l) 0
       some-degree = light-some s w declared few long (doneUpTo s i l v w) (doneUpTo s i (l + 1) v w) (i + 1) k l y d (p .peel) l-in off on (λ j h q. up-else s i v l j w q) (omega (arith, place-to)) small y-is d-is
 
-      free : 256 ≤ getD w (6672 + sourceOf s l) 0
+      free : 256 ≤ getD w (4368 + sourceOf s l) 0
       free = light-free s w declared few long (doneUpTo s i l v w) (doneUpTo s i (l + 1) v w) (i + 1) k l y d (p .peel) l-in off on (λ j h q. up-else s i v l j w q) (omega (arith, place-to)) small y-is d-is
 
-      level-v : getD lw (4624 + v) 0 ≡ getD w (4624 + v) 0
+      level-v : getD lw (2320 + v) 0 ≡ getD w (2320 + v) 0
       level-v =
           let f = few-i in
           light-level s w declared few long (doneUpTo s i l v w) (doneUpTo s i (l + 1) v w) (i + 1) k l y d (p .peel) l-in off on (λ j h q. up-else s i v l j w q) (omega (arith, place-to)) small y-is d-is v (p .task) (omega (arith, p .here))
@@ -121,18 +121,18 @@ module _ (s : Sheet) (w : List ℕ) (declared : Declared s) (few : taskCount s �
       lighted : Walking s i k (l + 1) v u (u + 1) lw
       lighted =
           record {
-            peel = peel-same (doneUpTo s i (l + 1) v w) (doneUpTo s i (l + 1) v lw) (λ j h. up-same s i v j w lw (l + 1) (high (6672 + targetOf s j) (omega arith)))
+            peel = peel-same (doneUpTo s i (l + 1) v w) (doneUpTo s i (l + 1) v lw) (λ j h. up-same s i v j w lw (l + 1) (high (4368 + targetOf s j) (omega arith)))
                 (peel-light s w declared few long (doneUpTo s i l v w) (doneUpTo s i (l + 1) v w) (i + 1) k l y d (p .peel) l-in off on (λ j h q. up-else s i v l j w q) (omega (arith, place-to)) small y-is d-is);
             task = p .task;
-            here = high (6672 + v) (omega arith) ∙ p .here;
+            here = high (4368 + v) (omega arith) ∙ p .here;
             own = rw level-v (p .own);
           }
 
       beside-lit : Beside w lw
-      beside-lit = let h = declared .source l l-in in beside-set (6160 + u) d (omega arith) (omega arith) (beside-level u y (omega arith) (beside-none w))
+      beside-lit = let h = declared .source l l-in in beside-set (3856 + u) d (omega arith) (omega arith) (beside-level u y (omega arith) (beside-none w))
 
-      degree-lit : getD lw (6160 + u) 0 ≡ d
-      degree-lit = let h = declared .source l l-in in getD-set-same (set w (4624 + u) y) (6160 + u) d 0 (simp length-set (omega arith))
+      degree-lit : getD lw (3856 + u) 0 ≡ d
+      degree-lit = let h = declared .source l l-in in getD-set-same (set w (2320 + u) y) (3856 + u) d 0 (simp length-set (omega arith))
 
       -- the source still waits
       stays : d ≢ 0 → Walking s i k (l + 1) v 0 0 lw
@@ -140,8 +140,8 @@ module _ (s : Sheet) (w : List ℕ) (declared : Declared s) (few : taskCount s �
           let q = lighted in
           record { peel = record { queued = q .peel .queued; early = q .peel .early; lit = q .peel .lit; degree = q .peel .degree; gathered = q .peel .gathered; ready = q .peel .ready; waits = λ t a b c. wait q t a c (ℕ-discrete t u); falls = q .peel .falls; solved = q .peel .solved; bounded = q .peel .bounded }; task = q .task; here = q .here; own = q .own }
         where
-          wait : Walking s i k (l + 1) v u (u + 1) lw → (t : ℕ) → t < taskCount s → getD lw (6160 + t) 0 ≡ 0 → Dec (t ≡ u) → getD lw (6672 + t) 0 < 256
-          wait q t a c (yes e) = absurd (h (sym degree-lit ∙ ap (λ (z : ℕ). getD lw (6160 + z) 0) (sym e) ∙ c))
+          wait : Walking s i k (l + 1) v u (u + 1) lw → (t : ℕ) → t < taskCount s → getD lw (3856 + t) 0 ≡ 0 → Dec (t ≡ u) → getD lw (4368 + t) 0 < 256
+          wait q t a c (yes e) = absurd (h (sym degree-lit ∙ ap (λ (z : ℕ). getD lw (3856 + z) 0) (sym e) ∙ c))
           wait q t a c (no e) = q .peel .waits t a (λ x y. e (omega arith)) c
 
       -- the source is ready
@@ -150,59 +150,59 @@ module _ (s : Sheet) (w : List ℕ) (declared : Declared s) (few : taskCount s �
           let q = lighted in
           let lw-long : fixed ≤ length lw = simp length-set long in
           let u-in : u < taskCount s = declared .source l l-in in
-          let u-free : 256 ≤ getD lw (6672 + u) 0 = rw (high (6672 + u) (omega arith)) free in
+          let u-free : 256 ≤ getD lw (4368 + u) 0 = rw (high (4368 + u) (omega arith)) free in
           let f = few-i in
-          let there : getD (pushed lw k u) (6672 + u) 0 ≡ k = push-here (taskCount s) k u lw few lw-long u-in u-free (q .peel .queued) in
-          let else : (t : ℕ) → t ≢ u → getD (pushed lw k u) (6672 + t) 0 ≡ getD lw (6672 + t) 0 = push-else (taskCount s) k u lw few lw-long u-in u-free (q .peel .queued) in (
+          let there : getD (pushed lw k u) (4368 + u) 0 ≡ k = push-here (taskCount s) k u lw few lw-long u-in u-free (q .peel .queued) in
+          let else : (t : ℕ) → t ≢ u → getD (pushed lw k u) (4368 + t) 0 ≡ getD lw (4368 + t) 0 = push-else (taskCount s) k u lw few lw-long u-in u-free (q .peel .queued) in (
             push-beside (taskCount s) k u lw few lw-long u-in u-free (q .peel .queued),
             record {
               peel = peel-same (doneUpTo s i (l + 1) v lw) (doneUpTo s i (l + 1) v (pushed lw k u)) (λ j a. same j (ℕ-discrete (targetOf s j) u) there else u-free (q .peel .early))
                   (peel-push s lw declared few lw-long (doneUpTo s i (l + 1) v lw) (i + 1) k u (u + 1) 0 0 u (q .peel) u-in u-free (degree-lit ∙ h) (λ t a b c d. a (omega arith)));
               task = q .task;
-              here = else v (λ e. let x : getD lw (6672 + v) 0 ≡ getD lw (6672 + u) 0 = ap (λ (z : ℕ). getD lw (6672 + z) 0) e in absurd (omega (arith, q .here))) ∙ q .here;
-              own = rw (push-low (taskCount s) k u lw few lw-long u-in u-free (q .peel .queued) (4624 + v) (let g = q .task in omega arith)) (q .own);
+              here = else v (λ e. let x : getD lw (4368 + v) 0 ≡ getD lw (4368 + u) 0 = ap (λ (z : ℕ). getD lw (4368 + z) 0) e in absurd (omega (arith, q .here))) ∙ q .here;
+              own = rw (push-low (taskCount s) k u lw few lw-long u-in u-free (q .peel .queued) (2320 + v) (let g = q .task in omega arith)) (q .own);
             },
           )
         where
-          same : (j : ℕ) → Dec (targetOf s j ≡ u) → getD (pushed lw k u) (6672 + u) 0 ≡ k → ((t : ℕ) → t ≢ u → getD (pushed lw k u) (6672 + t) 0 ≡ getD lw (6672 + t) 0) → 256 ≤ getD lw (6672 + u) 0 → i + 1 ≤ k → doneUpTo s i (l + 1) v lw j ≡ doneUpTo s i (l + 1) v (pushed lw k u) j
+          same : (j : ℕ) → Dec (targetOf s j ≡ u) → getD (pushed lw k u) (4368 + u) 0 ≡ k → ((t : ℕ) → t ≢ u → getD (pushed lw k u) (4368 + t) 0 ≡ getD lw (4368 + t) 0) → 256 ≤ getD lw (4368 + u) 0 → i + 1 ≤ k → doneUpTo s i (l + 1) v lw j ≡ doneUpTo s i (l + 1) v (pushed lw k u) j
           same j (yes e) there else u-free early =
-              let a : getD lw (6672 + targetOf s j) 0 ≡ getD lw (6672 + u) 0 = ap (λ (z : ℕ). getD lw (6672 + z) 0) e in
-              let b : getD (pushed lw k u) (6672 + targetOf s j) 0 ≡ getD (pushed lw k u) (6672 + u) 0 = ap (λ (z : ℕ). getD (pushed lw k u) (6672 + z) 0) e in
+              let a : getD lw (4368 + targetOf s j) 0 ≡ getD lw (4368 + u) 0 = ap (λ (z : ℕ). getD lw (4368 + z) 0) e in
+              let b : getD (pushed lw k u) (4368 + targetOf s j) 0 ≡ getD (pushed lw k u) (4368 + u) 0 = ap (λ (z : ℕ). getD (pushed lw k u) (4368 + z) 0) e in
               up-late s i v j lw (pushed lw k u) (l + 1) (omega (arith, few-i)) (omega arith)
           same j (no e) there else u-free early = up-same s i v j lw (pushed lw k u) (l + 1) (else (targetOf s j) e)
 
     -- what a turn of the walk computes, from what its calls say
-    pub visit-degree : {u d : ℕ} → u ≡ sourceOf s l → d ≡ getD w (6160 + u) 0 → 1 ≤ d
+    pub visit-degree : {u d : ℕ} → u ≡ sourceOf s l → d ≡ getD w (3856 + u) 0 → 1 ≤ d
     visit-degree {u} {d} eu ed =
-        let e : getD w (6160 + u) 0 ≡ getD w (6160 + sourceOf s l) 0 = ap (λ (z : ℕ). getD w (6160 + z) 0) eu in
-        omega (arith, some-degree (max (getD w (4624 + sourceOf s l) 0) (costOf s l + getD w (4624 + targetOf s l) 0)) (getD w (6160 + sourceOf s l) 0 - 1) refl refl)
+        let e : getD w (3856 + u) 0 ≡ getD w (3856 + sourceOf s l) 0 = ap (λ (z : ℕ). getD w (3856 + z) 0) eu in
+        omega (arith, some-degree (max (getD w (2320 + sourceOf s l) 0) (costOf s l + getD w (2320 + targetOf s l) 0)) (getD w (3856 + sourceOf s l) 0 - 1) refl refl)
 
     pub visit-room : k < 256
     visit-room =
-        omega (arith, queued-room (sourceOf s l) (p .peel .queued) (declared .source l l-in) (free (max (getD w (4624 + sourceOf s l) 0) (costOf s l + getD w (4624 + targetOf s l) 0)) (getD w (6160 + sourceOf s l) 0 - 1) refl refl))
+        omega (arith, queued-room (sourceOf s l) (p .peel .queued) (declared .source l l-in) (free (max (getD w (2320 + sourceOf s l) 0) (costOf s l + getD w (2320 + targetOf s l) 0)) (getD w (3856 + sourceOf s l) 0 - 1) refl refl))
 
-    most : {u c x y z : ℕ} → u ≡ sourceOf s l → c ≡ costOf s l → x ≡ getD w (4624 + v) 0 → y ≡ getD w (4624 + u) 0 → z ≡ max y (c + x) → z ≡ max (getD w (4624 + sourceOf s l) 0) (costOf s l + getD w (4624 + targetOf s l) 0)
-    most eu ec ex ey ez = ez ∙ ap₂ max (ey ∙ ap (λ (i : ℕ). getD w (4624 + i) 0) eu) (ap₂ _+_ ec (ex ∙ ap (λ (i : ℕ). getD w (4624 + i) 0) (sym to)))
+    most : {u c x y z : ℕ} → u ≡ sourceOf s l → c ≡ costOf s l → x ≡ getD w (2320 + v) 0 → y ≡ getD w (2320 + u) 0 → z ≡ max y (c + x) → z ≡ max (getD w (2320 + sourceOf s l) 0) (costOf s l + getD w (2320 + targetOf s l) 0)
+    most eu ec ex ey ez = ez ∙ ap₂ max (ey ∙ ap (λ (i : ℕ). getD w (2320 + i) 0) eu) (ap₂ _+_ ec (ex ∙ ap (λ (i : ℕ). getD w (2320 + i) 0) (sym to)))
 
-    pub visit-fits : {u c x y z : ℕ} → u ≡ sourceOf s l → c ≡ costOf s l → x ≡ getD w (4624 + v) 0 → y ≡ getD w (4624 + u) 0 → z ≡ max y (c + x) → z < 4294967296
+    pub visit-fits : {u c x y z : ℕ} → u ≡ sourceOf s l → c ≡ costOf s l → x ≡ getD w (2320 + v) 0 → y ≡ getD w (2320 + u) 0 → z ≡ max y (c + x) → z < 4294967296
     visit-fits eu ec ex ey ez = omega (arith, most eu ec ex ey ez, small, few-i, p .peel .bounded (sourceOf s l) (declared .source l l-in))
 
-    module _ {u c x y d z z′ e : ℕ} (eu : u ≡ sourceOf s l) (ec : c ≡ costOf s l) (ex : x ≡ getD w (4624 + v) 0) (ey : y ≡ getD w (4624 + u) 0) (ed : d ≡ getD w (6160 + u) 0) (ez : z ≡ max y (c + x)) (ez′ : z′ ≡ z) (ee : e ≡ d - 1) where
-      z-is : z′ ≡ max (getD w (4624 + sourceOf s l) 0) (costOf s l + getD w (4624 + targetOf s l) 0)
+    module _ {u c x y d z z′ e : ℕ} (eu : u ≡ sourceOf s l) (ec : c ≡ costOf s l) (ex : x ≡ getD w (2320 + v) 0) (ey : y ≡ getD w (2320 + u) 0) (ed : d ≡ getD w (3856 + u) 0) (ez : z ≡ max y (c + x)) (ez′ : z′ ≡ z) (ee : e ≡ d - 1) where
+      z-is : z′ ≡ max (getD w (2320 + sourceOf s l) 0) (costOf s l + getD w (2320 + targetOf s l) 0)
       z-is = ez′ ∙ most eu ec ex ey ez
 
-      e-is : e ≡ getD w (6160 + sourceOf s l) 0 - 1
-      e-is = ee ∙ ap (λ (i : ℕ). i - 1) (ed ∙ ap (λ (i : ℕ). getD w (6160 + i) 0) eu)
+      e-is : e ≡ getD w (3856 + sourceOf s l) 0 - 1
+      e-is = ee ∙ ap (λ (i : ℕ). i - 1) (ed ∙ ap (λ (i : ℕ). getD w (3856 + i) 0) eu)
 
-      words : (w′ : List ℕ) → w′ ≡ set (set w (4624 + u) z′) (6160 + u) e → w′ ≡ set (set w (4624 + sourceOf s l) z′) (6160 + sourceOf s l) e
-      words w′ h = h ∙ ap (λ (i : ℕ). set (set w (4624 + i) z′) (6160 + i) e) eu
+      words : (w′ : List ℕ) → w′ ≡ set (set w (2320 + u) z′) (3856 + u) e → w′ ≡ set (set w (2320 + sourceOf s l) z′) (3856 + sourceOf s l) e
+      words w′ h = h ∙ ap (λ (i : ℕ). set (set w (2320 + i) z′) (3856 + i) e) eu
 
-      pub visit-stays : (w′ : List ℕ) → w′ ≡ set (set w (4624 + u) z′) (6160 + u) e → (d ≡ 1 → ⊥) → Beside w w′ × Walking s i k (l + 1) v 0 0 w′
+      pub visit-stays : (w′ : List ℕ) → w′ ≡ set (set w (2320 + u) z′) (3856 + u) e → (d ≡ 1 → ⊥) → Beside w w′ × Walking s i k (l + 1) v 0 0 w′
       visit-stays w′ h n =
           let f = visit-degree eu ed in
           subst (λ (x : List ℕ). Beside w x × Walking s i k (l + 1) v 0 0 x) (sym (words w′ h)) (beside-lit z′ e z-is e-is, stays z′ e z-is e-is (λ q. n (omega arith)))
 
-      pub visit-goes : (w′ w″ : List ℕ) → w′ ≡ set (set w (4624 + u) z′) (6160 + u) e → w″ ≡ pushed w′ k u → d ≡ 1 → Beside w w″ × Walking s i (k + 1) (l + 1) v 0 0 w″
+      pub visit-goes : (w′ w″ : List ℕ) → w′ ≡ set (set w (2320 + u) z′) (3856 + u) e → w″ ≡ pushed w′ k u → d ≡ 1 → Beside w w″ × Walking s i (k + 1) (l + 1) v 0 0 w″
       visit-goes w′ w″ h g n =
           let q = goes z′ e z-is e-is (omega arith) in
           subst (λ (x : List ℕ). Beside w x × Walking s i (k + 1) (l + 1) v 0 0 x) (sym (g ∙ ap₂ (λ (x : List ℕ) (i : ℕ). pushed x k i) (words w′ h) eu)) (beside-trans (beside-lit z′ e z-is e-is) (q .0), q .1)
@@ -212,48 +212,48 @@ module _ (s : Sheet) (w : List ℕ) (declared : Declared s) (few : taskCount s �
   walking-hop i k j j′ v p h none =
       record { peel = peel-same (doneUpTo s i j v w) (doneUpTo s i j′ v w) (λ l g. up-hop s i v l w j j′ h (none l g)) (p .peel); task = p .task; here = p .here; own = p .own }
 
-  pub walk-begins : (i k v h : ℕ) → Chained Target s w → Walking s i k 0 v 0 0 w → h ≡ getD w (4880 + v) 0 → (h ≤ linkCount s) × (h < linkCount s → targetOf s h ≡ v) × Walking s i k h v 0 0 w
+  pub walk-begins : (i k v h : ℕ) → Chained Target s w → Walking s i k 0 v 0 0 w → h ≡ getD w (2576 + v) 0 → (h ≤ linkCount s) × (h < linkCount s → targetOf s h ≡ v) × Walking s i k h v 0 0 w
   walk-begins i k v h d p e = (
     rw e (d .head-few v (p .task)),
     λ g. ap (targetOf s) e ∙ d .head-own v (p .task) (rw e at g),
     walking-hop i k 0 h v p (omega arith) (λ l g a b. d .head-none v (p .task) l (rw e at b)),
   )
 
-  pub walk-more : (i k v l h : ℕ) → Chained Target s w → Walking s i k (l + 1) v 0 0 w → l < linkCount s → targetOf s l ≡ v → h ≡ getD w (5136 + l) 0 → (h ≤ linkCount s) × (h < linkCount s → targetOf s h ≡ v) × Walking s i k h v 0 0 w
+  pub walk-more : (i k v l h : ℕ) → Chained Target s w → Walking s i k (l + 1) v 0 0 w → l < linkCount s → targetOf s l ≡ v → h ≡ getD w (2832 + l) 0 → (h ≤ linkCount s) × (h < linkCount s → targetOf s h ≡ v) × Walking s i k h v 0 0 w
   walk-more i k v l h d p g to e = (
     rw e (d .next-few l g),
     λ a. ap (targetOf s) e ∙ d .next-own l g (rw e at a) ∙ to,
     walking-hop i k (l + 1) h v p (let x = d .next-more l g in omega arith) (λ j a b q r. d .next-none l g j (omega arith) (rw e at q) (r ∙ sym to)),
   )
 
-  pub walk-far : (l h : ℕ) → Chained Target s w → l < linkCount s → h ≡ getD w (5136 + l) 0 → l < h
+  pub walk-far : (l h : ℕ) → Chained Target s w → l < linkCount s → h ≡ getD w (2832 + l) 0 → l < h
   walk-far l h d g e = let x = d .next-more l g in omega arith
 
   pub walk-done : (i k v l : ℕ) → Walking s i k l v 0 0 w → linkCount s ≤ l → Peeled s (i + 1) k 0 0 w
   walk-done i k v l p h =
       record { peel = peel-same (doneUpTo s i l v w) (doneBy s (i + 1) w) (λ j g. up-end s i v j w l (omega arith) (p .here) (λ q. only (targetOf s j) (declared .target j g) q)) (p .peel) }
     where
-      only : (t : ℕ) → t < taskCount s → getD w (6672 + t) 0 ≡ i → t ≡ v
+      only : (t : ℕ) → t < taskCount s → getD w (4368 + t) 0 ≡ i → t ≡ v
       only t g q =
           let a = queued-few (p .peel .queued) in
           let b = p .peel .early in
           let here = p .here in
-          sym (p .peel .queued .back t g (omega arith)) ∙ ap (λ (z : ℕ). getD w (6416 + z) 0) (q ∙ sym here) ∙ p .peel .queued .back v (p .task) (omega arith)
+          sym (p .peel .queued .back t g (omega arith)) ∙ ap (λ (z : ℕ). getD w (4112 + z) 0) (q ∙ sym here) ∙ p .peel .queued .back v (p .task) (omega arith)
 
   -- the next task of the queue is taken off
-  module _ (i k : ℕ) (p : Peeled s i k 0 0 w) (left : i < k) {v : ℕ} (v-is : v ≡ getD w (6416 + i) 0) where
+  module _ (i k : ℕ) (p : Peeled s i k 0 0 w) (left : i < k) {v : ℕ} (v-is : v ≡ getD w (4112 + i) 0) where
     pub take-in : v < taskCount s
     take-in = rw v-is (p .peel .queued .task i left)
 
-    pub take-fits : {b : ℕ} → b ≡ getD w (4624 + v) 0 → b ≤ 131070 * 256
+    pub take-fits : {b : ℕ} → b ≡ getD w (2320 + v) 0 → b ≤ 131070 * 256
     take-fits e = omega (arith, p .peel .bounded v take-in, queued-few (p .peel .queued))
 
-    pub taken : {a b z : ℕ} (w′ : List ℕ) → a ≡ workOf s v → b ≡ getD w (4624 + v) 0 → z ≡ a + b → a ≤ 65535 → w′ ≡ set w (4624 + v) z → Beside w w′ × Walking s (getD w′ (6672 + v) 0) k 0 v 0 0 w′ × (getD w′ (6672 + v) 0 ≡ i)
+    pub taken : {a b z : ℕ} (w′ : List ℕ) → a ≡ workOf s v → b ≡ getD w (2320 + v) 0 → z ≡ a + b → a ≤ 65535 → w′ ≡ set w (2320 + v) z → Beside w w′ × Walking s (getD w′ (4368 + v) 0) k 0 v 0 0 w′ × (getD w′ (4368 + v) 0 ≡ i)
     taken {a} {b} {z} w′ ea eb ez short e =
-        let z-is : z ≡ workOf s v + getD w (4624 + v) 0 = ez ∙ ap₂ _+_ ea eb in
+        let z-is : z ≡ workOf s v + getD w (2320 + v) 0 = ez ∙ ap₂ _+_ ea eb in
         let short′ : workOf s v ≤ 65535 = omega arith in
-        let new : List ℕ = set w (4624 + v) z in
-        let here : getD new (6672 + v) 0 ≡ i = pop-same s w declared few long (doneBy s i w) i k v z (p .peel) left v-is z-is short′ v ∙ pop-place s w declared few long (doneBy s i w) i k v z (p .peel) left v-is z-is short′ in
+        let new : List ℕ = set w (2320 + v) z in
+        let here : getD new (4368 + v) 0 ≡ i = pop-same s w declared few long (doneBy s i w) i k v z (p .peel) left v-is z-is short′ v ∙ pop-place s w declared few long (doneBy s i w) i k v z (p .peel) left v-is z-is short′ in
         let walking : Walking s i k 0 v 0 0 new =
         record {
           peel = peel-same (doneBy s i w) (doneUpTo s i 0 v new) (λ l h. up-none s i v l w ∙ up-same s i v l w new 0 (pop-same s w declared few long (doneBy s i w) i k v z (p .peel) left v-is z-is short′ (targetOf s l)))
@@ -262,5 +262,5 @@ module _ (s : Sheet) (w : List ℕ) (declared : Declared s) (few : taskCount s �
           here = here;
           own = pop-own s w declared few long (doneBy s i w) i k v z (p .peel) left v-is z-is short′;
         } in
-        subst (λ (x : List ℕ). Beside w x × Walking s (getD x (6672 + v) 0) k 0 v 0 0 x × (getD x (6672 + v) 0 ≡ i)) (sym e)
+        subst (λ (x : List ℕ). Beside w x × Walking s (getD x (4368 + v) 0) k 0 v 0 0 x × (getD x (4368 + v) 0 ≡ i)) (sym e)
         (beside-level v z (let h = take-in in omega arith) (beside-none w), subst (λ (j : ℕ). Walking s j k 0 v 0 0 new) (sym here) walking, here)

@@ -1,2 +1,3 @@
+-- The definitions of `peeling`.
 pub mod Words
 pub mod Peeling

@@ -3,8 +3,8 @@ use Prim.Native.Nat.{ℕ, _+_, _*_, _≤_, _<_}
 use mathlib.Core.Bool.{Bool, true, false, not}
 use mathlib.Core.Path.{_≡_}
 use mathlib.Core.List.{List}
-use lib.ListN.{length, getD}
-use lib.Dec.{eqb, ltb}
+use lib.ListN.{getD}
+use lib.Dec.{eqb}
 use Rattle.folds.specs.Folds.{pick, bit, both, sum, greatest}
 use Rattle.sheet.specs.Sheet.{Sheet, taskCount, linkCount, workOf, sourceOf, targetOf, costOf}
 use Rattle.graph.specs.Graph.{levelBy, reaches}
@@ -16,23 +16,23 @@ dueBy s c t l = bit (both (eqb (sourceOf s l) t) (not (c l)))
 
 -- .. and what a link out of t that is counted off gives it
 unfoldable pub gaveBy : Sheet → (ℕ → Bool) → List ℕ → ℕ → ℕ → ℕ
-gaveBy s c w t l = pick (both (eqb (sourceOf s l) t) (c l)) (costOf s l + getD w (4624 + targetOf s l) 0) 0
+gaveBy s c w t l = pick (both (eqb (sourceOf s l) t) (c l)) (costOf s l + getD w (2320 + targetOf s l) 0) 0
 
 unfoldable pub levelIn : List ℕ → ℕ → ℕ
-levelIn w t = getD w (4624 + t) 0
+levelIn w t = getD w (2320 + t) 0
 
 -- i of the k tasks of the queue are taken off; of the tasks from e up to f it is not said that they wait for a link
 pub record Peel (s : Sheet) (c : ℕ → Bool) (i k e f : ℕ) (w : List ℕ) : Type 0 where
   pub queued : Queued (taskCount s) k w
   pub early : i ≤ k
-  pub lit : (l : ℕ) → l < linkCount s → c l ≡ true → getD w (6672 + targetOf s l) 0 < i
-  pub degree : (t : ℕ) → t < taskCount s → getD w (6160 + t) 0 ≡ sum (linkCount s) (dueBy s c t)
-  pub gathered : (t : ℕ) → t < taskCount s → i ≤ getD w (6672 + t) 0 → getD w (4624 + t) 0 ≡ greatest (linkCount s) (gaveBy s c w t)
-  pub ready : (t : ℕ) → t < taskCount s → getD w (6672 + t) 0 < 256 → getD w (6160 + t) 0 ≡ 0
-  pub waits : (t : ℕ) → t < taskCount s → (e ≤ t → t < f → ⊥) → getD w (6160 + t) 0 ≡ 0 → getD w (6672 + t) 0 < 256
-  pub falls : (l : ℕ) → l < linkCount s → getD w (6672 + sourceOf s l) 0 < 256 → getD w (6672 + targetOf s l) 0 < getD w (6672 + sourceOf s l) 0
-  pub solved : (t : ℕ) → t < taskCount s → getD w (6672 + t) 0 < i → getD w (4624 + t) 0 ≡ workOf s t + greatest (linkCount s) (levelBy s (levelIn w) t)
-  pub bounded : (t : ℕ) → t < taskCount s → getD w (4624 + t) 0 ≤ 131070 * i
+  pub lit : (l : ℕ) → l < linkCount s → c l ≡ true → getD w (4368 + targetOf s l) 0 < i
+  pub degree : (t : ℕ) → t < taskCount s → getD w (3856 + t) 0 ≡ sum (linkCount s) (dueBy s c t)
+  pub gathered : (t : ℕ) → t < taskCount s → i ≤ getD w (4368 + t) 0 → getD w (2320 + t) 0 ≡ greatest (linkCount s) (gaveBy s c w t)
+  pub ready : (t : ℕ) → t < taskCount s → getD w (4368 + t) 0 < 256 → getD w (3856 + t) 0 ≡ 0
+  pub waits : (t : ℕ) → t < taskCount s → (e ≤ t → t < f → ⊥) → getD w (3856 + t) 0 ≡ 0 → getD w (4368 + t) 0 < 256
+  pub falls : (l : ℕ) → l < linkCount s → getD w (4368 + sourceOf s l) 0 < 256 → getD w (4368 + targetOf s l) 0 < getD w (4368 + sourceOf s l) 0
+  pub solved : (t : ℕ) → t < taskCount s → getD w (4368 + t) 0 < i → getD w (2320 + t) 0 ≡ workOf s t + greatest (linkCount s) (levelBy s (levelIn w) t)
+  pub bounded : (t : ℕ) → t < taskCount s → getD w (2320 + t) 0 ≤ 131070 * i
 
 -- between two tasks
 pub record Peeled (s : Sheet) (i k e f : ℕ) (w : List ℕ) : Type 0 where
@@ -42,8 +42,8 @@ pub record Peeled (s : Sheet) (i k e f : ℕ) (w : List ℕ) : Type 0 where
 pub record Walking (s : Sheet) (i k j v e f : ℕ) (w : List ℕ) : Type 0 where
   pub peel : Peel s (doneUpTo s i j v w) (i + 1) k e f w
   pub task : v < taskCount s
-  pub here : getD w (6672 + v) 0 ≡ i
-  pub own : getD w (4624 + v) 0 ≤ 131070 * i + 65535
+  pub here : getD w (4368 + v) 0 ≡ i
+  pub own : getD w (2320 + v) 0 ≤ 131070 * i + 65535
 
 -- no link is counted off
 unfoldable pub never : ℕ → Bool
@@ -51,22 +51,22 @@ never l = false
 
 -- before it: the tables of the tasks below n are blank, and the links below l are counted at their sources
 pub record Counted (s : Sheet) (n l : ℕ) (w : List ℕ) : Type 0 where
-  pub level : (t : ℕ) → t < n → getD w (4624 + t) 0 ≡ 0
-  pub degree : (t : ℕ) → t < n → getD w (6160 + t) 0 ≡ sum l (dueBy s never t)
-  pub place : (t : ℕ) → t < n → getD w (6672 + t) 0 ≡ 256
+  pub level : (t : ℕ) → t < n → getD w (2320 + t) 0 ≡ 0
+  pub degree : (t : ℕ) → t < n → getD w (3856 + t) 0 ≡ sum l (dueBy s never t)
+  pub place : (t : ℕ) → t < n → getD w (4368 + t) 0 ≡ 256
 
 -- the tasks below t without links are in the queue
 pub record Filled (s : Sheet) (k t : ℕ) (w : List ℕ) : Type 0 where
   pub peeled : Peeled s 0 k t (taskCount s) w
-  pub rest : (u : ℕ) → t ≤ u → u < taskCount s → 256 ≤ getD w (6672 + u) 0
+  pub rest : (u : ℕ) → t ≤ u → u < taskCount s → 256 ≤ getD w (4368 + u) 0
 
 -- the search for paths to a goal: the queue holds the goal and tasks that reach it, none of which the goal has a link to;
 -- of the links that c names the sources are in it
 pub record Search (s : Sheet) (goal : ℕ) (c : ℕ → Bool) (k : ℕ) (w : List ℕ) : Type 0 where
   pub queued : Queued (taskCount s) k w
-  pub goal-in : getD w (6672 + goal) 0 < 256
-  pub sound : (t : ℕ) → t < taskCount s → getD w (6672 + t) 0 < 256 → (t ≡ goal → ⊥) → reaches (taskCount s) s t goal ≡ true
-  pub closed : (l : ℕ) → l < linkCount s → c l ≡ true → getD w (6672 + sourceOf s l) 0 < 256
+  pub goal-in : getD w (4368 + goal) 0 < 256
+  pub sound : (t : ℕ) → t < taskCount s → getD w (4368 + t) 0 < 256 → (t ≡ goal → ⊥) → reaches (taskCount s) s t goal ≡ true
+  pub closed : (l : ℕ) → l < linkCount s → c l ≡ true → getD w (4368 + sourceOf s l) 0 < 256
   pub apart : (l : ℕ) → l < linkCount s → c l ≡ true → sourceOf s l ≡ goal → ⊥
 
 pub record Searched (s : Sheet) (goal i k : ℕ) (w : List ℕ) : Type 0 where
@@ -75,18 +75,18 @@ pub record Searched (s : Sheet) (goal i k : ℕ) (w : List ℕ) : Type 0 where
 pub record Spreading (s : Sheet) (goal i k j v : ℕ) (w : List ℕ) : Type 0 where
   pub search : Search s goal (doneUpTo s i j v w) k w
   pub task : v < taskCount s
-  pub here : getD w (6672 + v) 0 ≡ i
+  pub here : getD w (4368 + v) 0 ≡ i
   pub early : i < k
 
 -- u in the queue of k tasks, which now has r
 pub record Noted (n k u r : ℕ) (w w′ : List ℕ) : Type 0 where
   pub queued : Queued n r w′
   pub more : k ≤ r
-  pub here : getD w′ (6672 + u) 0 < 256
-  pub else : (t : ℕ) → (t ≡ u → ⊥) → getD w′ (6672 + t) 0 ≡ getD w (6672 + t) 0
-  pub kept : (t : ℕ) → getD w (6672 + t) 0 < 256 → getD w′ (6672 + t) 0 ≡ getD w (6672 + t) 0
-  pub late : 256 ≤ getD w (6672 + u) 0 → getD w′ (6672 + u) 0 ≡ k
+  pub here : getD w′ (4368 + u) 0 < 256
+  pub else : (t : ℕ) → (t ≡ u → ⊥) → getD w′ (4368 + t) 0 ≡ getD w (4368 + t) 0
+  pub kept : (t : ℕ) → getD w (4368 + t) 0 < 256 → getD w′ (4368 + t) 0 ≡ getD w (4368 + t) 0
+  pub late : 256 ≤ getD w (4368 + u) 0 → getD w′ (4368 + u) 0 ≡ k
 
 -- none of the tasks below n is in the queue
 pub record Emptied (n : ℕ) (w : List ℕ) : Type 0 where
-  pub at : (t : ℕ) → t < n → getD w (6672 + t) 0 ≡ 256
+  pub at : (t : ℕ) → t < n → getD w (4368 + t) 0 ≡ 256

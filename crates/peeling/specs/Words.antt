@@ -1,9 +1,9 @@
 -- What the search for circles and levels keeps in the work area, word by word.
 --
---   4624 + t level of task t, or what its links gave it so far
---   4880 + t first link into task t, 5136 + l next link into the target of link l (the number of links where there is none)
---   6160 + t links out of task t that are still to be counted off
---   6416 + j task j of the queue, 6672 + t place of task t in the queue (256 where it is not in it)
+--   2320 + t level of task t, or what its links gave it so far
+--   2576 + t first link into task t, 2832 + l next link into the target of link l (the number of links where there is none)
+--   3856 + t links out of task t that are still to be counted off
+--   4112 + j task j of the queue, 4368 + t place of task t in the queue (256 where it is not in it)
 use Prim.Native.Nat.{ℕ, _+_, _≤_, _<_}
 use mathlib.Core.Bool.{Bool}
 use mathlib.Core.Path.{_≡_}
@@ -25,33 +25,33 @@ pub record Held (w : List ℕ) : Type 0 where
 -- all but the words of the search is as it was
 pub record Kept (w w′ : List ℕ) : Type 0 where
   pub long : length w′ ≡ length w
-  pub low : (i : ℕ) → i < 4624 → getD w′ i 0 ≡ getD w i 0
-  pub high : (i : ℕ) → 8192 ≤ i → getD w′ i 0 ≡ getD w i 0
+  pub low : (i : ℕ) → i < 2320 → getD w′ i 0 ≡ getD w i 0
+  pub high : (i : ℕ) → 4624 ≤ i → getD w′ i 0 ≡ getD w i 0
 
 -- the chains are as they were too
 pub record Beside (w w′ : List ℕ) : Type 0 where
   pub kept : Kept w w′
-  pub chains : (i : ℕ) → 4880 ≤ i → i < 6160 → getD w′ i 0 ≡ getD w i 0
+  pub chains : (i : ℕ) → 2576 ≤ i → i < 3856 → getD w′ i 0 ≡ getD w i 0
 
 -- the queue holds k tasks below n, each once
 unfoldable pub inQueue : List ℕ → ℕ → ℕ
-inQueue w t = bit (ltb (getD w (6672 + t) 0) 256)
+inQueue w t = bit (ltb (getD w (4368 + t) 0) 256)
 
 pub record Queued (n k : ℕ) (w : List ℕ) : Type 0 where
-  pub task : (j : ℕ) → j < k → getD w (6416 + j) 0 < n
-  pub place : (j : ℕ) → j < k → getD w (6672 + getD w (6416 + j) 0) 0 ≡ j
-  pub few : (t : ℕ) → t < n → getD w (6672 + t) 0 < 256 → getD w (6672 + t) 0 < k
-  pub back : (t : ℕ) → t < n → getD w (6672 + t) 0 < 256 → getD w (6416 + getD w (6672 + t) 0) 0 ≡ t
+  pub task : (j : ℕ) → j < k → getD w (4112 + j) 0 < n
+  pub place : (j : ℕ) → j < k → getD w (4368 + getD w (4112 + j) 0) 0 ≡ j
+  pub few : (t : ℕ) → t < n → getD w (4368 + t) 0 < 256 → getD w (4368 + t) 0 < k
+  pub back : (t : ℕ) → t < n → getD w (4368 + t) 0 < 256 → getD w (4112 + getD w (4368 + t) 0) 0 ≡ t
   pub count : k ≡ sum n (inQueue w)
 
 -- link l leads to one of the first i tasks of the queue
 unfoldable pub doneBy : Sheet → ℕ → List ℕ → ℕ → Bool
-doneBy s i w l = ltb (getD w (6672 + targetOf s l) 0) i
+doneBy s i w l = ltb (getD w (4368 + targetOf s l) 0) i
 
 -- .. or, being below j, to v
 unfoldable pub doneUpTo : Sheet → ℕ → ℕ → ℕ → List ℕ → ℕ → Bool
-doneUpTo s i j v w l = either (ltb (getD w (6672 + targetOf s l) 0) i) (both (eqb (targetOf s l) v) (ltb l j))
+doneUpTo s i j v w l = either (ltb (getD w (4368 + targetOf s l) 0) i) (both (eqb (targetOf s l) v) (ltb l j))
 
 -- u put at place k of the queue
 unfoldable pub pushed : List ℕ → ℕ → ℕ → List ℕ
-pushed w k u = set (set w (6416 + k) u) (6672 + u) k
+pushed w k u = set (set w (4112 + k) u) (4368 + u) k

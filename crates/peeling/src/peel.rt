@@ -2,7 +2,7 @@
 // A task has its level when it is taken off; who is left over leads to a circle.
 ghost use mathlib.Core.Path.{_≡_};
 ghost use Prim.Native.Nat.{_+_, _<_};
-ghost use lib.ListN.{getD, length};
+ghost use lib.ListN.{getD};
 ghost use Rattle.sheet.specs.Sheet.{taskCount, linkCount, targetOf};
 ghost use Rattle.sheet.specs.Tables.{sheetIn};
 ghost use Rattle.chains.specs.Chains.{Chained};
@@ -18,17 +18,17 @@ use sheet::tables;
 fn visit(w: &mut [u32], k: usize, v: usize, l: usize) -> usize
     requires { ⌜ Held (now w) ⌝ }
     requires { ⌜ (l < linkCount (sheetIn (now w))) × (targetOf (sheetIn (now w)) l ≡ v) ⌝ }
-    requires { ⌜ Walking (sheetIn (now w)) (getD (now w) (6672 + v) 0) k l v 0 0 (now w) ⌝ }
-    ensures { λ r. ⌜ Beside (now (w .entry)) (now (w .exit)) × Walking (sheetIn (now (w .entry))) (getD (now (w .entry)) (6672 + v) 0) r (l + 1) v 0 0 (now (w .exit)) ⌝ }
+    requires { ⌜ Walking (sheetIn (now w)) (getD (now w) (4368 + v) 0) k l v 0 0 (now w) ⌝ }
+    ensures { λ r. ⌜ Beside (now (w .entry)) (now (w .exit)) × Walking (sheetIn (now (w .entry))) (getD (now (w .entry)) (4368 + v) 0) r (l + 1) v 0 0 (now (w .exit)) ⌝ }
 {
     let u = tables::source(w, l);
     let c = tables::cost(w, l);
-    let x = workspace::word(w, 4624 + v);
-    let y = workspace::word(w, 4624 + u);
-    let d = workspace::word(w, 6160 + u);
+    let x = workspace::word(w, 2320 + v);
+    let y = workspace::word(w, 2320 + u);
+    let d = workspace::word(w, 3856 + u);
     let z = words::later(y, c + x);
-    w[4624 + u] = workspace::narrow(z);
-    w[6160 + u] = workspace::narrow(d - 1);
+    w[2320 + u] = workspace::narrow(z);
+    w[3856 + u] = workspace::narrow(d - 1);
     if d == 1 {
         queue::push(w, k, u);
         return k + 1;
@@ -40,8 +40,8 @@ fn visit(w: &mut [u32], k: usize, v: usize, l: usize) -> usize
 fn walk(w: &mut [u32], k: usize, v: usize) -> usize
     requires { ⌜ Held (now w) ⌝ }
     requires { ⌜ Chained Target (sheetIn (now w)) (now w) ⌝ }
-    requires { ⌜ Walking (sheetIn (now w)) (getD (now w) (6672 + v) 0) k 0 v 0 0 (now w) ⌝ }
-    ensures { λ r. ⌜ Beside (now (w .entry)) (now (w .exit)) × Peeled (sheetIn (now (w .entry))) (getD (now (w .entry)) (6672 + v) 0 + 1) r 0 0 (now (w .exit)) ⌝ }
+    requires { ⌜ Walking (sheetIn (now w)) (getD (now w) (4368 + v) 0) k 0 v 0 0 (now w) ⌝ }
+    ensures { λ r. ⌜ Beside (now (w .entry)) (now (w .exit)) × Peeled (sheetIn (now (w .entry))) (getD (now (w .entry)) (4368 + v) 0 + 1) r 0 0 (now (w .exit)) ⌝ }
 {
     let m = tables::links(w);
     let mut q = k;
@@ -61,10 +61,10 @@ fn take(w: &mut [u32], i: usize, k: usize) -> usize
     requires { ⌜ Peeled (sheetIn (now w)) i k 0 0 (now w) ⌝ }
     ensures { λ r. ⌜ Beside (now (w .entry)) (now (w .exit)) × Peeled (sheetIn (now (w .entry))) (i + 1) r 0 0 (now (w .exit)) ⌝ }
 {
-    let v = workspace::word(w, 6416 + i);
+    let v = workspace::word(w, 4112 + i);
     let a = tables::work(w, v);
-    let b = workspace::word(w, 4624 + v);
-    w[4624 + v] = workspace::narrow(a + b);
+    let b = workspace::word(w, 2320 + v);
+    w[2320 + v] = workspace::narrow(a + b);
     walk(w, k, v)
 }
 
@@ -91,7 +91,7 @@ fn offer(w: &mut [u32], k: usize, t: usize) -> usize
     requires { ⌜ Filled (sheetIn (now w)) k t (now w) ⌝ }
     ensures { λ r. ⌜ Beside (now (w .entry)) (now (w .exit)) × Filled (sheetIn (now (w .entry))) r (t + 1) (now (w .exit)) ⌝ }
 {
-    if workspace::word(w, 6160 + t) == 0 {
+    if workspace::word(w, 3856 + t) == 0 {
         queue::push(w, k, t);
         return k + 1;
     }
@@ -122,9 +122,9 @@ fn blank(w: &mut [u32])
     let n = tables::tasks(w);
     let mut t: usize = 0;
     while t < n {
-        w[4624 + t] = 0;
-        w[6160 + t] = 0;
-        w[6672 + t] = 256;
+        w[2320 + t] = 0;
+        w[3856 + t] = 0;
+        w[4368 + t] = 256;
         t += 1;
     }
 }
@@ -137,8 +137,8 @@ fn count_one(w: &mut [u32], l: usize)
     ensures { λ _. ⌜ Beside (now (w .entry)) (now (w .exit)) × Counted (sheetIn (now (w .entry))) (taskCount (sheetIn (now (w .entry)))) (l + 1) (now (w .exit)) ⌝ }
 {
     let u = tables::source(w, l);
-    let d = workspace::word(w, 6160 + u);
-    w[6160 + u] = workspace::narrow(d + 1);
+    let d = workspace::word(w, 3856 + u);
+    w[3856 + u] = workspace::narrow(d + 1);
 }
 
 // All links are counted.

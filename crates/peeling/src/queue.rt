@@ -9,6 +9,6 @@ pub fn push(w: &mut [u32], k: usize, u: usize)
     requires { ⌜ (fixed ≤ length (now w)) × (k < 256) × (u < 256) ⌝ }
     ensures { λ _. ⌜ now (w .exit) ≡ pushed (now (w .entry)) k u ⌝ }
 {
-    w[6416 + k] = workspace::narrow(u);
-    w[6672 + u] = workspace::narrow(k);
+    w[4112 + k] = workspace::narrow(u);
+    w[4368 + u] = workspace::narrow(k);
 }

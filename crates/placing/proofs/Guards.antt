@@ -64,13 +64,13 @@ module _ (w : List ℕ) (kept : Kept w) (u : ℕ) (h : u < taskCount (sheetIn w)
 
   -- where u's latest message comes from, when it is there, and when the latest from elsewhere is
   abbrev main : ℕ
-  main = getD w (13072 + u) 0
+  main = getD w (7456 + u) 0
 
   abbrev latest : ℕ
-  latest = getD w (12560 + u) 0
+  latest = getD w (6944 + u) 0
 
   abbrev other : ℕ
-  other = getD w (12816 + u) 0
+  other = getD w (7200 + u) 0
 
   latest-is : latest ≡ arrival s σ u
   latest-is = arrival-kept (kept .caches) u h

@@ -1,6 +1,7 @@
+-- The laws of `placing`.
 pub mod Ranks
 pub mod Starts
 pub mod Spent
 pub mod Guards
 pub mod Steps
-pub mod Singles
+pub mod Joins

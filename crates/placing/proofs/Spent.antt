@@ -1,5 +1,5 @@
 -- The idle test by counts: a processor is spent for t if as many links from it wait as lead from it to successors of t.
-use Prim.Native.Nat.{ℕ, zero, suc, _+_, _*_, _≤_, _<_}
+use Prim.Native.Nat.{ℕ, _+_, _*_, _/_, _%_, _^_, _≤_, _<_}
 use mathlib.Core.Bool.{Bool, true, false, not, true≢false}
 use mathlib.Core.Path.{_≡_, refl, ap, sym, _∙_, subst}
 use mathlib.Core.Logic.{_≢_}
@@ -9,7 +9,7 @@ use native.Mathlib.Decide.{ℕ-discrete}
 use borrow.Author.Tests.{eq-eqb, ne-eqb, lt-ltb, eqb-true}
 use lib.ListN.{getD}
 use lib.Dec.{eqb}
-use Rattle.folds.specs.Folds.{pick, both, either, any, sum}
+use Rattle.folds.specs.Folds.{pick, both, either, sum}
 use Rattle.folds.proofs.Tests.{both-parts}
 use Rattle.folds.proofs.Laws.{sum-zeros, sum-cong, sum-mono, sum-swap, all-eqb, none-any}
 use Rattle.sheet.specs.Sheet.{Sheet, taskCount, linkCount, sourceOf, targetOf}
@@ -18,35 +18,14 @@ use Rattle.planner.specs.Schedule.{Schedule, placed, stands, placeOf}
 use Rattle.planner.specs.Placing.{followsBy, follows, spentBy, spent}
 use Rattle.planner.proofs.Ready.{ready-free}
 use Rattle.schedule.specs.Layout.{scheduleIn}
+use Rattle.arrivals.specs.Kept.{countedBy, into, intoFrom, waits, oneBy, known, Single, Closed, Counted}
+use Rattle.arrivals.proofs.Counts.{sum-single, counts-from-le}
+use Rattle.arrivals.proofs.Few.{few-from}
+use Rattle.arrivals.proofs.Fours.{four-byte}
 use Rattle.arrivals.proofs.Links.{few-counted}
-use Rattle.arrivals.specs.Kept.{countedBy, into, intoFrom, waits, oneBy, known, Closed, Counted}
-use Rattle.placing.specs.Choosing.{Single, Choosing, knownInto, dueBy, OnBoard}
+use Rattle.placing.specs.Choosing.{Choosing, knownInto, dueBy, OnBoard}
 use Rattle.placing.specs.declared.Senders.{Senders}
 use Rattle.placing.specs.declared.Senders.the-variants.{One, All}
-
--- at most one i below n has p: the number of those with p is 1 or 0
-sum-single : (n : ℕ) (p : ℕ → Bool) → ((i j : ℕ) → i < n → j < n → p i ≡ true → p j ≡ true → i ≡ j) → sum n (λ i. pick (p i) 1 0) ≡ pick (any n p) 1 0
-unfolding sum any
-sum-single zero p h = refl
-sum-single (suc n) p h = go (p n) refl (sum-single n p (λ i j a b. h i j (omega arith) (omega arith)))
-  where
-    others : p n ≡ true → (i : ℕ) → i < n → p i ≡ false
-    others e i k = at (p i) refl
-      where
-        at : (b : Bool) → p i ≡ b → p i ≡ false
-        at true q = let z : i ≡ n = h i n (omega arith) (omega arith) q e in absurd (omega arith)
-        at false q = q
-
-    go : (b : Bool) → p n ≡ b → sum n (λ i. pick (p i) 1 0) ≡ pick (any n p) 1 0 → sum n (λ i. pick (p i) 1 0) + pick (p n) 1 0 ≡ pick (either (any n p) (p n)) 1 0
-    go true e ih =
-        let a : any n p ≡ false = none-any n p (others e) in
-        let b : sum n (λ i. pick (p i) 1 0) ≡ 0 = ih ∙ rw a in
-        rw (a, e) (omega arith)
-    go false e ih = rw e (last (any n p) ih)
-      where
-        last : (b : Bool) → sum n (λ i. pick (p i) 1 0) ≡ pick b 1 0 → sum n (λ i. pick (p i) 1 0) + 0 ≡ pick (either b false) 1 0
-        last true q = omega arith
-        last false q = omega arith
 
 module _ (s : Sheet) (σ : Schedule) (t k : ℕ) (k-in : k < 16) (free : placed σ t ≡ false) (closed : Closed s σ) (single : Single s) where
   abbrev part : ℕ → ℕ → ℕ
@@ -155,20 +134,13 @@ module _ (s : Sheet) (σ : Schedule) (t k : ℕ) (k-in : k < 16) (free : placed 
 one-le-all : (s : Sheet) (σ : Schedule) (t k i : ℕ) → dueBy s σ t (One k) i ≤ dueBy s σ t All i
 unfolding dueBy knownInto countedBy
 one-le-all s σ t k i =
-    less (eqb (sourceOf s i) t)
-    (sum-mono (linkCount s) (countedBy (intoFrom s σ (targetOf s i) k) oneBy (known s σ)) (countedBy (into s (targetOf s i)) oneBy (known s σ))
-    (λ l h. part (eqb (targetOf s l) (targetOf s i)) (stands σ (sourceOf s l) k) (placed σ (sourceOf s l))))
+    less (eqb (sourceOf s i) t) (counts-from-le (linkCount s) (into s (targetOf s i)) (λ l. stands σ (sourceOf s l) k) (known s σ) oneBy)
   where
-    part : (a b d : Bool) → pick (both (both a b) d) 1 0 ≤ pick (both a d) 1 0
-    part true true d = omega arith
-    part true false d = omega arith
-    part false b d = omega arith
-
     less : (b : Bool) {x y : ℕ} → x ≤ y → pick b x 0 ≤ pick b y 0
     less true h = h
     less false h = omega arith
 
-module _ (w : List ℕ) (t k : ℕ) (c : Choosing w t) (k-in : k < 16) {p : ℕ} (ep : p ≡ getD w (13360 + k) 0) where
+module _ (w : List ℕ) (t k : ℕ) (c : Choosing w t) (k-in : k < 16) {p : ℕ} (ep : p ≡ getD w (7744 + k) 0) where
   abbrev s : Sheet
   s = sheetIn w
 
@@ -179,7 +151,7 @@ module _ (w : List ℕ) (t k : ℕ) (c : Choosing w t) (k-in : k < 16) {p : ℕ}
   waiting-is = ep ∙ c .kept .caches .counted .pending k k-in
 
   pub spent-kept : {d : ℕ} → d ≡ sum (linkCount s) (dueBy s σ t (One k)) → eqb d p ≡ spent s σ t k
-  spent-kept q = rw (q, waiting-is) (spent-is s σ t k k-in (ready-free s σ t (c .isReady)) (c .kept .caches .closed) (c .single))
+  spent-kept q = rw (q, waiting-is) (spent-is s σ t k k-in (ready-free s σ t (c .isReady)) (c .kept .caches .closed) (c .kept .single))
 
   -- more links wait than are due from all processors
   pub spent-more : {d : ℕ} → d ≡ sum (linkCount s) (dueBy s σ t All) → d < p → false ≡ spent s σ t k
@@ -189,7 +161,7 @@ module _ (w : List ℕ) (t k : ℕ) (c : Choosing w t) (k-in : k < 16) {p : ℕ}
 
   pub spent-none : p ≡ 0 → true ≡ spent s σ t k
   spent-none e =
-      let d = due-none s σ t k k-in (ready-free s σ t (c .isReady)) (c .kept .caches .closed) (c .single) (sym waiting-is ∙ e) in
+      let d = due-none s σ t k k-in (ready-free s σ t (c .isReady)) (c .kept .caches .closed) (c .kept .single) (sym waiting-is ∙ e) in
       sym (eq-eqb (sum (linkCount s) (dueBy s σ t (One k))) p (d ∙ sym e)) ∙ spent-kept refl
 
 -- a link that does not lead from t counts nothing
@@ -201,15 +173,30 @@ pub due-own : (s : Sheet) (σ : Schedule) (t : ℕ) (from : Senders) (l : ℕ) �
 unfolding dueBy
 due-own s σ t from l e ev ex = rw (eq-eqb (sourceOf s l) t e) (ex ∙ ap (λ (u : ℕ). knownInto s σ u from) ev)
 
+-- a successor of t is not placed either
+pub target-free : {w : List ℕ} {t : ℕ} → Choosing w t → (l : ℕ) → l < linkCount (sheetIn w) → sourceOf (sheetIn w) l ≡ t → {v : ℕ} → v ≡ targetOf (sheetIn w) l → placed (scheduleIn w) v ≡ false
+target-free {w} {t} c l h own ev = ap (placed (scheduleIn w)) ev ∙ go (placed (scheduleIn w) (targetOf (sheetIn w) l)) refl
+  where
+    go : (b : Bool) → placed (scheduleIn w) (targetOf (sheetIn w) l) ≡ b → placed (scheduleIn w) (targetOf (sheetIn w) l) ≡ false
+    go true e = absurd (true≢false (sym (c .kept .caches .closed l h e) ∙ ap (placed (scheduleIn w)) own ∙ ready-free (sheetIn w) (scheduleIn w) t (c .isReady)))
+    go false e = e
+
 -- the known links into v stand in its words
 module _ {s : Sheet} {σ : Schedule} {w : List ℕ} (ranged : Ranged s) (d : Counted s σ (known s σ) w) (v : ℕ) (h : v < taskCount s) where
-  pub known-one : {from : Senders} {k x : ℕ} → from ≡ One k → OnBoard from → x ≡ getD w (14336 + (16 * v + k)) 0 → (x ≡ knownInto s σ v from) × (x ≤ 1024)
+  pub known-one : Single s → placed σ v ≡ false → {from : Senders} {k x : ℕ} → from ≡ One k → OnBoard from → x ≡ getD w (7792 + (4 * v + k / 4)) 0
+      → (x / 2 ^ (8 * (k % 4)) % 256 ≡ knownInto s σ v from) × (x / 2 ^ (8 * (k % 4)) % 256 ≤ 1024)
   unfolding knownInto
-  known-one {from} {k} e on ex =
+  known-one single free {from} {k} {x} e on ex =
       let k-in : k < 16 = subst OnBoard e on in
-      (ex ∙ d .count v k h k-in ∙ ap (knownInto s σ v) (sym e), omega (arith, ex, few-counted ranged d v k h k-in .count))
+      let counts : ℕ → ℕ = λ i. sum (linkCount s) (countedBy (intoFrom s σ v (4 * (k / 4) + i)) oneBy (known s σ)) in
+      let q : 4 * (k / 4) + k % 4 ≡ k = omega arith in (
+        ap (λ (y : ℕ). y / 2 ^ (8 * (k % 4)) % 256) (ex ∙ d .packed v (k / 4) h (omega arith))
+            ∙ four-byte counts (k % 4) (omega arith) (λ i g. few-from s σ ranged single v h free (known s σ) (λ l p. p) (4 * (k / 4) + i))
+            ∙ ap (λ (y : ℕ). sum (linkCount s) (countedBy (intoFrom s σ v y) oneBy (known s σ))) q ∙ ap (knownInto s σ v) (sym e),
+        omega arith,
+      )
 
-  pub known-all : {from : Senders} {x : ℕ} → from ≡ All → x ≡ getD w (12304 + v) 0 → (x ≡ knownInto s σ v from) × (x ≤ 1024)
+  pub known-all : {from : Senders} {x : ℕ} → from ≡ All → x ≡ getD w (6688 + v) 0 → (x ≡ knownInto s σ v from) × (x ≤ 1024)
   unfolding knownInto
   known-all {from} e ex = (ex ∙ d .seen v h ∙ ap (knownInto s σ v) (sym e), omega (arith, ex, few-counted ranged d v 0 h (omega arith) .seen))
 

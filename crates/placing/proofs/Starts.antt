@@ -1,24 +1,24 @@
--- What is kept gives starts, fits and holders.
-use Prim.Native.Nat.{ℕ, _+_, _*_, _≤_, _<_, max}
-use mathlib.Core.Bool.{Bool, true, false, not, true≢false}
+-- What is kept gives starts and fits.
+use Prim.Native.Nat.{ℕ, _+_, _≤_, _<_, max}
+use mathlib.Core.Bool.{Bool, true, false, not}
 use mathlib.Core.Path.{_≡_, refl, ap, sym, _∙_}
 use mathlib.Core.Logic.{_≢_}
 use mathlib.Core.List.{List}
 use native.Mathlib.Omega.{arith}
 use native.Mathlib.Decide.{decLt, ℕ-discrete}
-use borrow.Author.Tests.{eq-eqb, ne-eqb, lt-ltb, lt-leb, le-leb, eqb-true, ltb-false}
+use borrow.Author.Tests.{eq-eqb, ne-eqb, lt-leb, le-leb, ltb-false}
 use lib.ListN.{getD}
-use lib.Dec.{eqb, ltb, leb}
-use Rattle.folds.specs.Folds.{pick, both, sum, greatest}
-use Rattle.folds.proofs.Laws.{any-ltb, sum-zeros, term-le-greatest, greatest-mono, greatest-le}
+use lib.Dec.{eqb, leb}
+use Rattle.folds.specs.Folds.{pick, both, greatest}
+use Rattle.folds.proofs.Laws.{term-le-greatest, greatest-mono, greatest-le}
 use Rattle.sheet.specs.Sheet.{Sheet, taskCount, linkCount, sourceOf, targetOf, costOf, storeOf}
 use Rattle.sheet.specs.Tables.{sheetIn, Ranged}
 use Rattle.planner.specs.Schedule.{Schedule, put, placed, stands, placeOf, finishOf}
-use Rattle.planner.specs.Placing.{comes, endBy, endOf, startBy, startFrom, startOn, holdsBy, holdsPredecessor, fits, storeOn}
+use Rattle.planner.specs.Placing.{comes, endBy, endOf, startBy, startFrom, startOn, fits, storeOn}
 use Rattle.planner.proofs.Ready.{ready-free, ready-source}
 use Rattle.schedule.specs.Layout.{scheduleIn}
 use Rattle.schedule.proofs.Rows.{on-long, finish-long}
-use Rattle.arrivals.specs.Kept.{countedBy, into, intoFrom, intoOff, reachBy, oneBy, known, Caches}
+use Rattle.arrivals.specs.Kept.{countedBy, into, intoOff, reachBy, known, Caches}
 use Rattle.arrivals.specs.Steps.{Placeable}
 use Rattle.arrivals.proofs.Counts.{off-le, from-le-off}
 use Rattle.arrivals.proofs.Placing.{store-put}
@@ -65,15 +65,15 @@ module _ {s : Sheet} {σ : Schedule} {w : List ℕ} (ranged : Ranged s) (c : Cac
       go (yes e) = rw (eq-eqb (placeOf σ (sourceOf s l)) p e, ne-eqb (placeOf σ (sourceOf s l)) k (λ z. d (sym z ∙ e)))
       go (no e) = rw (ne-eqb (placeOf σ (sourceOf s l)) p e)
 
-  off-is : Dec (k ≡ getD w (13072 + t) 0) → offK ≡ pick (eqb k (getD w (13072 + t) 0)) (getD w (12816 + t) 0) (getD w (12560 + t) 0)
-  off-is (yes e) = rw (eq-eqb k (getD w (13072 + t) 0) e) (ap (λ (p : ℕ). greatest (linkCount s) (countedBy (intoOff s σ t p) (reachBy s σ) (known s σ))) e ∙ sym (c .counted .off t t-in))
+  off-is : Dec (k ≡ getD w (7456 + t) 0) → offK ≡ pick (eqb k (getD w (7456 + t) 0)) (getD w (7200 + t) 0) (getD w (6944 + t) 0)
+  off-is (yes e) = rw (eq-eqb k (getD w (7456 + t) 0) e) (ap (λ (p : ℕ). greatest (linkCount s) (countedBy (intoOff s σ t p) (reachBy s σ) (known s σ))) e ∙ sym (c .counted .off t t-in))
   off-is (no e) =
-      let p = getD w (13072 + t) 0 in
+      let p = getD w (7456 + t) 0 in
       let a = c .counted .arrived t t-in in
       let b = c .counted .main t t-in in
       let x = off-le (linkCount s) (into s t) (reachBy s σ) (known s σ) (λ l. stands σ (sourceOf s l) k) in
       let y = from-le-off (linkCount s) (into s t) (reachBy s σ) (known s σ) (λ l. stands σ (sourceOf s l) p) (λ l. stands σ (sourceOf s l) k) (apart p e) in
-      rw (ne-eqb k (getD w (13072 + t) 0) e) (omega arith)
+      rw (ne-eqb k (getD w (7456 + t) 0) e) (omega arith)
 
   -- a predecessor on k is done by k's end
   done : (l : ℕ) → l < linkCount s → stands σ (sourceOf s l) k ≡ true → finishOf σ (sourceOf s l) ≤ endOf s σ k
@@ -93,32 +93,12 @@ module _ {s : Sheet} {σ : Schedule} {w : List ℕ} (ranged : Ranged s) (c : Cac
   unfolding startBy comes countedBy
   lower l h = lower-by (eqb (targetOf s l) t) (placed σ (sourceOf s l)) (stands σ (sourceOf s l) k) (finishOf σ (sourceOf s l)) (costOf s l)
 
-  pub start-kept : (e : ℕ) → endOf s σ k ≤ e → max e (pick (eqb k (getD w (13072 + t) 0)) (getD w (12816 + t) 0) (getD w (12560 + t) 0)) ≡ startFrom s σ t k e
+  pub start-kept : (e : ℕ) → endOf s σ k ≤ e → max e (pick (eqb k (getD w (7456 + t) 0)) (getD w (7200 + t) 0) (getD w (6944 + t) 0)) ≡ startFrom s σ t k e
   unfolding startFrom
   start-kept e h =
       let x : greatest (linkCount s) (startBy s σ t k) ≤ max (endOf s σ k) offK = greatest-le (linkCount s) (startBy s σ t k) (max (endOf s σ k) offK) upper in
       let y : offK ≤ greatest (linkCount s) (startBy s σ t k) = greatest-mono (linkCount s) (countedBy (intoOff s σ t k) (reachBy s σ) (known s σ)) (startBy s σ t k) lower in
-      rw (← off-is (ℕ-discrete k (getD w (13072 + t) 0))) (omega arith)
-
-  -- k holds a predecessor of t
-  module _ (k-in : k < 16) where
-    holder : (l : ℕ) → stands σ (sourceOf s l) k ≡ true → placed σ (sourceOf s l) ≡ true
-    unfolding stands placed
-    holder l e = lt-ltb (placeOf σ (sourceOf s l)) 16 (omega (arith, eqb-true (placeOf σ (sourceOf s l)) k e))
-
-    pub holds-kept : ltb 0 (getD w (14336 + (16 * t + k)) 0) ≡ holdsPredecessor s σ t k
-    unfolding holdsPredecessor holdsBy countedBy
-    holds-kept =
-        rw (c .counted .count t k t-in k-in)
-        (ap (λ (x : ℕ). ltb x (sum (linkCount s) (countedBy (intoFrom s σ t k) oneBy (known s σ)))) (sym (sum-zeros (linkCount s) (λ l. 0) (λ l h. refl)))
-        ∙ any-ltb (linkCount s) (λ l. 0) (countedBy (intoFrom s σ t k) oneBy (known s σ)) (holdsBy s σ t k) (λ l h. omega arith)
-        (λ l h. is (eqb (targetOf s l) t) (stands σ (sourceOf s l) k) (placed σ (sourceOf s l)) (holder l)))
-      where
-        is : (a b d : Bool) → (b ≡ true → d ≡ true) → both a b ≡ ltb 0 (pick (both (both a b) d) 1 0)
-        is true true true g = refl
-        is true true false g = absurd (true≢false (sym (g refl)))
-        is true false d g = refl
-        is false b d g = refl
+      rw (← off-is (ℕ-discrete k (getD w (7456 + t) 0))) (omega arith)
 
 -- a start fits a word
 pub start-small : (w : List ℕ) (t k : ℕ) → Choosing w t → k < 16 → ((i : ℕ) → getD w i 0 < 4294967296) → startOn (sheetIn w) (scheduleIn w) t k < 4294967296
@@ -127,13 +107,13 @@ start-small w t k c k-in small =
     let s = sheetIn w in
     let σ = scheduleIn w in
     let e = endOf s σ k in
-    let m = getD w (13072 + t) 0 in
+    let m = getD w (7456 + t) 0 in
     omega (
       arith,
       start-kept (c .kept .ranged) (c .kept .caches) t k (c .task) e (omega arith),
       c .kept .caches .ends .ends k k-in,
-      small (13328 + k),
-      pick-less (eqb k m) (small (12816 + t)) (small (12560 + t)),
+      small (7712 + k),
+      pick-less (eqb k m) (small (7200 + t)) (small (6944 + t)),
     )
   where
     pick-less : (b : Bool) {x y n : ℕ} → x < n → y < n → pick b x y < n
@@ -141,8 +121,8 @@ start-small w t k c k-in small =
     pick-less false h g = g
 
 -- t fits k: what is kept of k's store and of t's links, against the limit and what is on k already
-pub fits-kept : (w : List ℕ) (t k : ℕ) → Choosing w t → k < 16 → {x y z v m : ℕ} → x ≡ getD w (13344 + k) 0 → y ≡ storeOf (sheetIn w) t → z ≡ getD w (12048 + t) 0 → m ≡ sheetIn w .limit
-    → v ≡ getD w (18432 + (16 * t + k)) 0 → leb (x + y + z) (m + v) ≡ fits (sheetIn w) (scheduleIn w) t k
+pub fits-kept : (w : List ℕ) (t k : ℕ) → Choosing w t → k < 16 → {x y z v m : ℕ} → x ≡ getD w (7728 + k) 0 → y ≡ storeOf (sheetIn w) t → z ≡ getD w (6432 + t) 0 → m ≡ sheetIn w .limit
+    → v ≡ getD w (7760 + k) 0 → leb (x + y + z) (m + v) ≡ fits (sheetIn w) (scheduleIn w) t k
 unfolding fits
 fits-kept w t k choosing k-in {x} {y} {z} {v} {m} ex ey ez em ev =
     let s = sheetIn w in
@@ -150,7 +130,7 @@ fits-kept w t k choosing k-in {x} {y} {z} {v} {m} ex ey ez em ev =
     let e = store-put s σ t k 0 0 (placeable w t k choosing k-in) in
     let a = choosing .kept .caches .ends .stores k k-in in
     let b = choosing .kept .caches .gathered .bytes t (choosing .task) in
-    let d = choosing .kept .caches .counted .local t k (choosing .task) k-in in
+    let d = choosing .surveyed .bytes k k-in in
     let q : x + y + z ≡ storeOn s (put σ t k 0 0) k + v = omega arith in
     rw (q, em) (cancel (storeOn s (put σ t k 0 0) k) (s .limit) v (decLt (s .limit) (storeOn s (put σ t k 0 0) k)))
   where

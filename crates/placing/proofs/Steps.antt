@@ -30,11 +30,16 @@ module _ (s : Sheet) (σ : Schedule) (t : ℕ) where
   guard = barred s
 
   module _ (k : ℕ) where
-    pub join-key-is : {x a bars r : ℕ} {held fit able early may : Bool} → k < 16 → Bars s σ t bars → x ≡ startOn s σ t k → a ≡ arrival s σ t → held ≡ holdsPredecessor s σ t k → fit ≡ fits s σ t k
-        → able ≡ both held fit → early ≡ both (not (eqb k bars)) (ltb x a) → may ≡ both able early → r ≡ pick may (lowKey x k) 0 → r ≡ joinKey s σ t k
+    pub join-key-is : {x a bars r : ℕ} {fit early may : Bool} → k < 16 → Bars s σ t bars → holdsPredecessor s σ t k ≡ true → x ≡ startOn s σ t k → a ≡ arrival s σ t → fit ≡ fits s σ t k → early ≡ both (not (eqb k bars)) (ltb x a)
+        → may ≡ both fit early → r ≡ pick may (lowKey x k) 0 → r ≡ joinKey s σ t k
     unfolding mayJoin joinKey
-    join-key-is {x} {a} {bars} h b ex ea eh ef eo ee em er =
-        er ∙ ap₂ (λ (m : Bool) (y : ℕ). pick m (lowKey y k) 0) (em ∙ ap₂ both (eo ∙ ap₂ both eh ef) (ee ∙ ap₂ both (ap not (b .is k h)) (ap₂ ltb ex ea))) ex
+    join-key-is {x} {a} {bars} h b held ex ea ef ee em er =
+        er ∙ rw held (ap₂ (λ (m : Bool) (y : ℕ). pick m (lowKey y k) 0) (em ∙ ap₂ both ef (ee ∙ ap₂ both (ap not (b .is k h)) (ap₂ ltb ex ea))) ex)
+
+    -- 0 where k holds no predecessor
+    pub join-none : holdsPredecessor s σ t k ≡ false → joinKey s σ t k ≡ 0
+    unfolding mayJoin joinKey
+    join-none e = rw e
 
     pub idle-late : {x a : ℕ} → x ≡ endOf s σ k → a ≡ arrival s σ t → a < x → 0 ≡ idleKey s σ t k
     unfolding mayTake idleKey
@@ -95,12 +100,12 @@ module _ (s : Sheet) (σ : Schedule) (t : ℕ) where
 module _ (w : List ℕ) (t : ℕ) (c : Choosing w t) {a d : ℕ} (ea : a ≡ arrival (sheetIn w) (scheduleIn w) t) (ed : d ≡ sum (linkCount (sheetIn w)) (dueBy (sheetIn w) (scheduleIn w) t All)) where
   no-key : (k : ℕ) → k < 16 → mayBeIdle w a d k ≡ false → idleKey (sheetIn w) (scheduleIn w) t k ≡ 0
   unfolding mayBeIdle
-  no-key k h e = go (decLt d (getD w (13360 + k) 0)) (decLt a (getD w (13328 + k) 0))
+  no-key k h e = go (decLt d (getD w (7744 + k) 0)) (decLt a (getD w (7712 + k) 0))
     where
-      go : Dec (d < getD w (13360 + k) 0) → Dec (a < getD w (13328 + k) 0) → idleKey (sheetIn w) (scheduleIn w) t k ≡ 0
+      go : Dec (d < getD w (7744 + k) 0) → Dec (a < getD w (7712 + k) 0) → idleKey (sheetIn w) (scheduleIn w) t k ≡ 0
       go (yes l) b = sym (idle-waits (sheetIn w) (scheduleIn w) t k (sym (spent-more w t k c h refl ed l)))
       go (no l) (yes b) = sym (idle-late (sheetIn w) (scheduleIn w) t k (c .kept .caches .ends .ends k h) ea b)
-      go (no l) (no b) = absurd (true≢false (sym (parts-both (leb (getD w (13328 + k) 0) a) (leb (getD w (13360 + k) 0) d) (le-leb (getD w (13328 + k) 0) a (omega arith)) (le-leb (getD w (13360 + k) 0) d (omega arith))) ∙ e))
+      go (no l) (no b) = absurd (true≢false (sym (parts-both (leb (getD w (7712 + k) 0) a) (leb (getD w (7744 + k) 0) d) (le-leb (getD w (7712 + k) 0) a (omega arith)) (le-leb (getD w (7744 + k) 0) d (omega arith))) ∙ e))
 
   pub none-idle : {n : ℕ} → n ≡ scheduleIn w .opened → any n (mayBeIdle w a d) ≡ false → none ≡ idle (sheetIn w) (barred (sheetIn w)) (scheduleIn w) t
   none-idle {n} en e =

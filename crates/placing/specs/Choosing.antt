@@ -13,18 +13,14 @@ use Rattle.levelling.specs.Found.{Levelled}
 use Rattle.schedule.specs.Layout.{scheduleIn}
 use Rattle.placing.specs.declared.Senders.{Senders}
 use Rattle.placing.specs.declared.Senders.the-variants.{One, All}
-use Rattle.arrivals.specs.Kept.{countedBy, into, intoFrom, oneBy, known, Kept}
-
--- no two links join the same tasks in the same direction
-pub record Single (s : Sheet) : Type 0 where
-  pub once : (i j : ℕ) → i < linkCount s → j < linkCount s → sourceOf s i ≡ sourceOf s j → targetOf s i ≡ targetOf s j → i ≡ j
+use Rattle.arrivals.specs.Kept.{countedBy, into, intoFrom, oneBy, known, Surveyed, Kept}
 
 pub record Choosing (w : List ℕ) (t : ℕ) : Type 0 where
   pub kept : Kept w
   pub levelled : Levelled (sheetIn w) w
-  pub single : Single (sheetIn w)
   pub task : t < taskCount (sheetIn w)
   pub isReady : ready (sheetIn w) (scheduleIn w) t ≡ true
+  pub surveyed : Surveyed (sheetIn w) (scheduleIn w) t w
 
 -- the known links into v from one processor, or from all
 unfoldable pub knownInto : Sheet → Schedule → ℕ → Senders → ℕ

@@ -1,3 +1,4 @@
+-- The definitions of `placing`.
 pub mod Choosing
 pub mod Ranks
 pub mod Guards

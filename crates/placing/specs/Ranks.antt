@@ -37,4 +37,4 @@ module _ (s : Sheet) (σ : Schedule) (t : ℕ) where
 
 -- by its words in the area, k ends by a, and no more than d links from it wait
 unfoldable pub mayBeIdle : List ℕ → ℕ → ℕ → ℕ → Bool
-mayBeIdle w a d k = both (leb (getD w (13328 + k) 0) a) (leb (getD w (13360 + k) 0) d)
+mayBeIdle w a d k = both (leb (getD w (7712 + k) 0) a) (leb (getD w (7744 + k) 0) d)

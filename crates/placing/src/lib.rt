@@ -1,5 +1,6 @@
 // Where a task goes: starts, fits and the guard, and the four placing steps.
 ghost use mathlib.Core.Path.{_≡_};
+ghost use mathlib.Core.Bool.{true, false};
 ghost use mathlib.Core.Option.{none};
 ghost use Prim.Native.Nat.{_+_, _*_, _<_, _≤_, max};
 ghost use lib.ListN.{getD, length};
@@ -8,6 +9,7 @@ ghost use Rattle.folds.specs.Folds.{pick, both, either, any, sum};
 ghost use Rattle.workspace.specs.Area.{fixed};
 ghost use Rattle.sheet.specs.Sheet.{taskCount, linkCount};
 ghost use Rattle.sheet.specs.Tables.{sheetIn};
+ghost use Rattle.planner.specs.Schedule.{placed};
 ghost use Rattle.planner.specs.Placing.{arrival, endOf, startFrom, startOn, fits, holdsPredecessor, barred, spent};
 ghost use Rattle.planner.specs.Planner.{join, idle, another, lastResort, choice};
 ghost use Rattle.schedule.specs.Layout.{scheduleIn};
@@ -27,18 +29,18 @@ fn end_of(w: &[u32], k: usize) -> usize
     requires { ⌜ k < 16 ⌝ }
     ensures { λ r. ⌜ (r ≡ endOf (sheetIn (now (w .entry))) (scheduleIn (now (w .entry))) k) × (r < 4294967296) ⌝ }
 {
-    workspace::word(w, 13328 + k)
+    workspace::word(w, 7712 + k)
 }
 
 // The latest reach of t from all processors but k.
 fn reach_of(w: &[u32], t: usize, k: usize) -> usize
     requires { ⌜ Kept (now w) ⌝ }
     requires { ⌜ t < taskCount (sheetIn (now w)) ⌝ }
-    ensures { λ r. ⌜ (r ≡ pick (eqb k (getD (now (w .entry)) (13072 + t) 0)) (getD (now (w .entry)) (12816 + t) 0) (getD (now (w .entry)) (12560 + t) 0)) × (r < 4294967296) ⌝ }
+    ensures { λ r. ⌜ (r ≡ pick (eqb k (getD (now (w .entry)) (7456 + t) 0)) (getD (now (w .entry)) (7200 + t) 0) (getD (now (w .entry)) (6944 + t) 0)) × (r < 4294967296) ⌝ }
 {
-    let at = workspace::word(w, 13072 + t);
-    let other = workspace::word(w, 12816 + t);
-    let most = workspace::word(w, 12560 + t);
+    let at = workspace::word(w, 7456 + t);
+    let other = workspace::word(w, 7200 + t);
+    let most = workspace::word(w, 6944 + t);
     if k == at { other } else { most }
 }
 
@@ -61,25 +63,16 @@ pub fn start_on(w: &[u32], t: usize, k: usize) -> usize
     start_from(w, t, k, end_of(w, k))
 }
 
-// k holds a predecessor of t.
-fn holds_predecessor(w: &[u32], t: usize, k: usize) -> bool
-    requires { ⌜ Kept (now w) ⌝ }
-    requires { ⌜ (t < taskCount (sheetIn (now w))) × (k < 16) ⌝ }
-    ensures { λ r. ⌜ r ≡ holdsPredecessor (sheetIn (now (w .entry))) (scheduleIn (now (w .entry))) t k ⌝ }
-{
-    0 < workspace::word(w, 14336 + (16 * t + k))
-}
-
 // t fits k.
 fn fits_on(w: &[u32], t: usize, k: usize) -> bool
     requires { ⌜ Choosing (now w) t ⌝ }
     requires { ⌜ k < 16 ⌝ }
     ensures { λ r. ⌜ r ≡ fits (sheetIn (now (w .entry))) (scheduleIn (now (w .entry))) t k ⌝ }
 {
-    let x = workspace::word(w, 13344 + k);
+    let x = workspace::word(w, 7728 + k);
     let y = tables::store(w, t);
-    let z = workspace::word(w, 12048 + t);
-    let v = workspace::word(w, 18432 + (16 * t + k));
+    let z = workspace::word(w, 6432 + t);
+    let v = workspace::word(w, 7760 + k);
     x + y + z <= tables::limit(w) + v
 }
 
@@ -89,15 +82,15 @@ pub enum Senders {
     All,
 }
 
-// The known links into v.
+// The known links into v, which is not placed.
 fn known_into(w: &[u32], v: usize, from: Senders) -> usize
     requires { ⌜ Kept (now w) ⌝ }
-    requires { ⌜ (v < taskCount (sheetIn (now w))) × OnBoard from ⌝ }
+    requires { ⌜ (v < taskCount (sheetIn (now w))) × (placed (scheduleIn (now w)) v ≡ false) × OnBoard from ⌝ }
     ensures { λ r. ⌜ (r ≡ knownInto (sheetIn (now (w .entry))) (scheduleIn (now (w .entry))) v from) × (r ≤ 1024) ⌝ }
 {
     match from {
-        Senders::One(k) => workspace::word(w, 14336 + (16 * v + k)),
-        Senders::All => workspace::word(w, 12304 + v),
+        Senders::One(k) => (workspace::word(w, 7792 + (4 * v + k / 4)) >> (8 * (k % 4))) % 256,
+        Senders::All => workspace::word(w, 6688 + v),
     }
 }
 
@@ -127,7 +120,7 @@ fn are_both(a: bool, b: bool) -> bool
 // Each successor of each task on k is placed or is a successor of t: no other link from k waits than the p that are due.
 fn is_spent(w: &[u32], t: usize, k: usize, p: usize) -> bool
     requires { ⌜ Choosing (now w) t ⌝ }
-    requires { ⌜ (k < 16) × (p ≡ getD (now w) (13360 + k) 0) ⌝ }
+    requires { ⌜ (k < 16) × (p ≡ getD (now w) (7744 + k) 0) ⌝ }
     ensures { λ r. ⌜ r ≡ spent (sheetIn (now (w .entry))) (scheduleIn (now (w .entry))) t k ⌝ }
 {
     if p == 0 {
@@ -175,7 +168,7 @@ fn bars_for(w: &[u32], t: usize, u: usize) -> usize
     if a == 0 {
         return 16;
     }
-    let k = workspace::word(w, 13072 + u);
+    let k = workspace::word(w, 7456 + u);
     let best = start_on(w, u, k);
     let finish = start_on(w, t, k) + tables::work(w, t);
     if best < a {
@@ -203,32 +196,34 @@ fn guard_of(w: &[u32], q: &[u64], t: usize) -> usize
     }
 }
 
-// The key of k in step 1; a is t's arrival, and the guard bars one processor.
+// The key of k, which holds a predecessor of t, in step 1; a is t's arrival, and the guard bars one processor.
 fn join_key(w: &[u32], t: usize, bars: usize, a: usize, k: usize) -> usize
     requires { ⌜ Choosing (now w) t ⌝ }
-    requires { ⌜ (a ≡ arrival (sheetIn (now w)) (scheduleIn (now w)) t) × (k < 16) ⌝ }
+    requires { ⌜ (a ≡ arrival (sheetIn (now w)) (scheduleIn (now w)) t) × (k < 16) × (holdsPredecessor (sheetIn (now w)) (scheduleIn (now w)) t k ≡ true) ⌝ }
     requires { ⌜ Bars (sheetIn (now w)) (scheduleIn (now w)) t bars ⌝ }
     ensures { λ r. ⌜ r ≡ joinKey (sheetIn (now (w .entry))) (scheduleIn (now (w .entry))) t k ⌝ }
 {
     let x = start_on(w, t, k);
-    let open = are_both(holds_predecessor(w, t, k), fits_on(w, t, k));
     let early = are_both(k != bars, x < a);
-    low_key(are_both(open, early), x, k)
+    low_key(are_both(fits_on(w, t, k), early), x, k)
 }
 
-// Step 1: join.
+// Step 1: join. Only where t's links come from, which are mostly fewer than the processors.
 fn join_on(w: &[u32], t: usize, bars: usize, a: usize) -> Found
     requires { ⌜ Choosing (now w) t ⌝ }
     requires { ⌜ a ≡ arrival (sheetIn (now w)) (scheduleIn (now w)) t ⌝ }
     requires { ⌜ Bars (sheetIn (now w)) (scheduleIn (now w)) t bars ⌝ }
     ensures { λ r. ⌜ (foundOf r ≡ join (sheetIn (now (w .entry))) (barred (sheetIn (now (w .entry)))) (scheduleIn (now (w .entry))) t) × Below 16 r ⌝ }
 {
-    let n = schedule::opened(w);
+    let n = workspace::word(w, 6176 + t);
+    let mut l = chains::first(w, End::Target, t);
     let mut best: usize = 0;
-    let mut k: usize = 0;
-    while k < n {
+    let mut i: usize = 0;
+    while i < n {
+        let k = schedule::place(w, tables::source(w, l));
         best = words::later(best, join_key(w, t, bars, a, k));
-        k += 1;
+        l = chains::next(w, End::Target, l);
+        i += 1;
     }
     processor_of(best)
 }
@@ -241,7 +236,7 @@ fn idle_key(w: &[u32], t: usize, a: usize, d: usize, k: usize) -> usize
     requires { ⌜ d ≡ sum (linkCount (sheetIn (now w))) (dueBy (sheetIn (now w)) (scheduleIn (now w)) t Senders.All) ⌝ }
     ensures { λ r. ⌜ r ≡ idleKey (sheetIn (now (w .entry))) (scheduleIn (now (w .entry))) t k ⌝ }
 {
-    let p = workspace::word(w, 13360 + k);
+    let p = workspace::word(w, 7744 + k);
     if d < p {
         return 0;
     }
@@ -271,8 +266,8 @@ fn may_be_idle(w: &[u32], n: usize, a: usize, d: usize) -> bool
     let mut found = false;
     let mut k: usize = 0;
     while k < n {
-        let e = workspace::word(w, 13328 + k);
-        let p = workspace::word(w, 13360 + k);
+        let e = workspace::word(w, 7712 + k);
+        let p = workspace::word(w, 7744 + k);
         found = is_either(found, are_both(e <= a, p <= d));
         k += 1;
     }

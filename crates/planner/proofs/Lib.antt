@@ -1,3 +1,4 @@
+-- The laws of `planner`.
 pub mod Ready
 pub mod Choosing
 pub mod Schedules

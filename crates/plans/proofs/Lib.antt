@@ -1,1 +1,2 @@
+-- The laws of `plans`.
 pub mod Planning

@@ -1,3 +1,4 @@
+-- The laws of `programmes`.
 pub mod Sums
 pub mod Gathers
 pub mod Parts

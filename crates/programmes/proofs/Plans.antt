@@ -25,8 +25,8 @@ use Rattle.planner.specs.Placing.{barred}
 use Rattle.planner.specs.Planner.{planned, bundleOf, plan}
 use Rattle.planner.proofs.Schedules.{Built, built, placing, tally, Plan, Completed, plan-of, empty-free, empty-fair, planned-build}
 use Rattle.schedule.specs.Layout.{scheduleIn}
-use Rattle.placing.specs.Choosing.{Single}
-use Rattle.placing.proofs.Singles.{read-single}
+use Rattle.arrivals.specs.Kept.{Single}
+use Rattle.arrivals.proofs.Singles.{read-single}
 use Rattle.turns.specs.Turns.{Afterwards}
 use Rattle.programmes.specs.Scheduled.{Scheduled}
 use Rattle.programmes.specs.Written.{bundleFor, planFor, WriteIs, PlanIs}

@@ -1,3 +1,4 @@
+-- The definitions of `programmes`.
 pub mod Bytes
 pub mod Laid
 pub mod Queues

@@ -1,1 +1,2 @@
+-- The definitions of `reader`.
 pub mod Whole

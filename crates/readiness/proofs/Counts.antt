@@ -15,7 +15,7 @@ use Rattle.planner.specs.Placing.{comes, lacks, satisfied, ready, partlyReady, 
 use Rattle.arrivals.specs.Kept.{countedBy, into, oneBy, known, Caches}
 
 module _ {s : Sheet} {σ : Schedule} {w : List ℕ} (c : Caches s σ w) (t : ℕ) (h : t < taskCount s) where
-  pub arrival-kept : getD w (12560 + t) 0 ≡ arrival s σ t
+  pub arrival-kept : getD w (6944 + t) 0 ≡ arrival s σ t
   unfolding arrival arrivalBy comes countedBy
   arrival-kept = c .counted .arrived t h
 
@@ -25,7 +25,7 @@ module _ {s : Sheet} {σ : Schedule} {w : List ℕ} (c : Caches s σ w) (t : ℕ
   less false b = omega arith
 
   -- as many links are known as there are
-  satisfied-kept : eqb (getD w (12304 + t) 0) (getD w (11792 + t) 0) ≡ all (linkCount s) (satisfied s σ t)
+  satisfied-kept : eqb (getD w (6688 + t) 0) (getD w (6176 + t) 0) ≡ all (linkCount s) (satisfied s σ t)
   unfolding countedBy satisfied
   satisfied-kept =
       rw (c .counted .seen t h, c .gathered .number t h)
@@ -37,7 +37,7 @@ module _ {s : Sheet} {σ : Schedule} {w : List ℕ} (c : Caches s σ w) (t : ℕ
       is true false = refl
       is false b = refl
 
-  lacks-kept : ltb (getD w (12304 + t) 0) (getD w (11792 + t) 0) ≡ any (linkCount s) (lacks s σ t)
+  lacks-kept : ltb (getD w (6688 + t) 0) (getD w (6176 + t) 0) ≡ any (linkCount s) (lacks s σ t)
   unfolding countedBy lacks
   lacks-kept =
       rw (c .counted .seen t h, c .gathered .number t h)
@@ -49,7 +49,7 @@ module _ {s : Sheet} {σ : Schedule} {w : List ℕ} (c : Caches s σ w) (t : ℕ
       is true false = refl
       is false b = refl
 
-  comes-kept : ltb 0 (getD w (12304 + t) 0) ≡ any (linkCount s) (comes s σ t)
+  comes-kept : ltb 0 (getD w (6688 + t) 0) ≡ any (linkCount s) (comes s σ t)
   unfolding countedBy comes
   comes-kept =
       rw (c .counted .seen t h)
@@ -61,7 +61,7 @@ module _ {s : Sheet} {σ : Schedule} {w : List ℕ} (c : Caches s σ w) (t : ℕ
       is false = refl
 
   -- as the code reads it: x of n links are known
-  module _ {x n : ℕ} (ex : x ≡ getD w (12304 + t) 0) (en : n ≡ getD w (11792 + t) 0) where
+  module _ {x n : ℕ} (ex : x ≡ getD w (6688 + t) 0) (en : n ≡ getD w (6176 + t) 0) where
     pub ready-kept : placed σ t ≡ false → eqb x n ≡ ready s σ t
     unfolding ready
     ready-kept e = rw (e, ex, en) satisfied-kept

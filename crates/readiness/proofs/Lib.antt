@@ -1,3 +1,4 @@
+-- The laws of `readiness`.
 pub mod Searches
 pub mod Counts
 pub mod Keys

@@ -103,7 +103,7 @@ module _ {s : Sheet} {σ : Schedule} where
 
   -- the links from t, chained
   module _ {w : List ℕ} (chained : Chained Source s w) (ranged : Ranged s) (t : ℕ) (h : t < taskCount s) where
-    pub walk-begins : {l : ℕ} {q : List ℕ} → l ≡ getD w (9232 + t) 0 → l ≤ linkCount s → KeyedPast s σ t 0 q → Walking s σ t l q
+    pub walk-begins : {l : ℕ} {q : List ℕ} → l ≡ getD w (4896 + t) 0 → l ≤ linkCount s → KeyedPast s σ t 0 q → Walking s σ t l q
     walk-begins {l} e few k =
         record {
           here = few;
@@ -119,7 +119,7 @@ module _ {s : Sheet} {σ : Schedule} where
         go p i b o (yes c) = absurd (chained .head-none t h i (omega (arith, e)) o)
         go p i b o (no c) = p .none-leads i (omega arith) b o
 
-    pub walk-more : {l l′ v : ℕ} {q q′ : List ℕ} → l < linkCount s → l′ ≡ getD w (9488 + l) 0 → l′ ≤ linkCount s → v ≡ targetOf s l → Renewed s σ q q′ v → Walking s σ t l q → Walking s σ t l′ q′
+    pub walk-more : {l l′ v : ℕ} {q q′ : List ℕ} → l < linkCount s → l′ ≡ getD w (5152 + l) 0 → l′ ≤ linkCount s → v ≡ targetOf s l → Renewed s σ q q′ v → Walking s σ t l q → Walking s σ t l′ q′
     walk-more {l} {l′} {v} b e few ev r g =
         record {
           here = few;

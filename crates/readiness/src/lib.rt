@@ -35,7 +35,7 @@ pub fn arrival_of(w: &[u32], t: usize) -> usize
     requires { ⌜ t < taskCount (sheetIn (now w)) ⌝ }
     ensures { λ r. ⌜ (r ≡ arrival (sheetIn (now (w .entry))) (scheduleIn (now (w .entry))) t) × (r < 4294967296) ⌝ }
 {
-    workspace::word(w, 12560 + t)
+    workspace::word(w, 6944 + t)
 }
 
 fn is_ready(w: &[u32], t: usize) -> bool
@@ -46,7 +46,7 @@ fn is_ready(w: &[u32], t: usize) -> bool
     if is_placed(w, t) {
         false
     } else {
-        workspace::word(w, 12304 + t) == workspace::word(w, 11792 + t)
+        workspace::word(w, 6688 + t) == workspace::word(w, 6176 + t)
     }
 }
 
@@ -58,8 +58,8 @@ fn is_partly_ready(w: &[u32], t: usize) -> bool
     if is_placed(w, t) {
         return false;
     }
-    let x = workspace::word(w, 12304 + t);
-    let n = workspace::word(w, 11792 + t);
+    let x = workspace::word(w, 6688 + t);
+    let n = workspace::word(w, 6176 + t);
     if 0 < x { x < n } else { false }
 }
 

@@ -1,2 +1,3 @@
+-- The laws of `schedule`.
 pub mod Rows
 pub mod Puts

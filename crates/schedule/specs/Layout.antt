@@ -1,14 +1,14 @@
 -- Which words of the work area hold the schedule under construction, and which hold what is kept beside it.
 --
---   8192 + t place, 8448 + t start and 8704 + t finish of task t; 8960 + i task placed at turn i (256 each)
---   9216 processors opened, 9217 tasks placed
---   9232 + t first link out of task t, 9488 + l next link out of the same task as link l
---   10512 + t first link into task t, 10768 + l next link into the same task as link l
---   11792 + t number and 12048 + t bytes of all links into task t
---   of the links into task t from placed tasks: 12304 + t number, 12560 + t latest reach, which comes from processor 13072 + t,
---   12816 + t latest reach from any other processor
---   13328 + k end and 13344 + k store of processor k, 13360 + k links from it to tasks that are not placed
---   14336 + (16 t + k) number and 18432 + (16 t + k) bytes of the links into task t from processor k
+--   3856 + t place, 4112 + t start and 4368 + t finish of task t; 4624 + i task placed at turn i (256 each)
+--   4880 processors opened, 4881 tasks placed
+--   4896 + t first link out of task t, 5152 + l next link out of the same task as link l
+--   6176 + t number and 6432 + t bytes of all links into task t
+--   of the links into task t from placed tasks: 6688 + t number, 6944 + t latest reach, which comes from processor 7456 + t,
+--   7200 + t latest reach from any other processor
+--   7712 + k end and 7728 + k store of processor k, 7744 + k links from it to tasks that are not placed
+--   of the links into the task of this turn: 7760 + k bytes and 7776 + k number of those from processor k
+--   7792 + (4 t + j) number of the links into task t from processors 4 j to 4 j + 3, a byte for each
 use Prim.Native.Nat.{ℕ, _+_}
 use mathlib.Core.List.{List}
 use lib.ListN.{getD, set}
@@ -18,14 +18,14 @@ use Rattle.planner.specs.Schedule.{Schedule}
 unfoldable pub scheduleIn : List ℕ → Schedule
 scheduleIn w =
     record {
-      on = listed (getD w 0 0) (λ t. getD w (8192 + t) 0);
-      start = listed (getD w 0 0) (λ t. getD w (8448 + t) 0);
-      finish = listed (getD w 0 0) (λ t. getD w (8704 + t) 0);
-      order = listed (getD w 9217 0) (λ i. getD w (8960 + i) 0);
-      opened = getD w 9216 0;
+      on = listed (getD w 0 0) (λ t. getD w (3856 + t) 0);
+      start = listed (getD w 0 0) (λ t. getD w (4112 + t) 0);
+      finish = listed (getD w 0 0) (λ t. getD w (4368 + t) 0);
+      order = listed (getD w 4881 0) (λ i. getD w (4624 + i) 0);
+      opened = getD w 4880 0;
     }
 
 -- the words with t on k from a to b, where p tasks were placed before, and o processors are open now
 unfoldable pub putWords : List ℕ → ℕ → ℕ → ℕ → ℕ → ℕ → ℕ → List ℕ
 putWords w t k a b p o =
-    set (set (set (set (set (set w (8192 + t) k) (8448 + t) a) (8704 + t) b) (8960 + p) t) 9217 (p + 1)) 9216 o
+    set (set (set (set (set (set w (3856 + t) k) (4112 + t) a) (4368 + t) b) (4624 + p) t) 4881 (p + 1)) 4880 o

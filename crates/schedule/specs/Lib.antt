@@ -1,1 +1,2 @@
+-- The definitions of `schedule`.
 pub mod Layout

@@ -18,7 +18,7 @@ pub fn place(w: &[u32], t: usize) -> usize
     requires { ⌜ t < taskCount (sheetIn (now w)) ⌝ }
     ensures { λ r. ⌜ (r ≡ placeOf (scheduleIn (now (w .entry))) t) × (r < 4294967296) ⌝ }
 {
-    workspace::word(w, 8192 + t)
+    workspace::word(w, 3856 + t)
 }
 
 pub fn start(w: &[u32], t: usize) -> usize
@@ -26,7 +26,7 @@ pub fn start(w: &[u32], t: usize) -> usize
     requires { ⌜ t < taskCount (sheetIn (now w)) ⌝ }
     ensures { λ r. ⌜ (r ≡ startOf (scheduleIn (now (w .entry))) t) × (r < 4294967296) ⌝ }
 {
-    workspace::word(w, 8448 + t)
+    workspace::word(w, 4112 + t)
 }
 
 pub fn finish(w: &[u32], t: usize) -> usize
@@ -34,7 +34,7 @@ pub fn finish(w: &[u32], t: usize) -> usize
     requires { ⌜ t < taskCount (sheetIn (now w)) ⌝ }
     ensures { λ r. ⌜ (r ≡ finishOf (scheduleIn (now (w .entry))) t) × (r < 4294967296) ⌝ }
 {
-    workspace::word(w, 8704 + t)
+    workspace::word(w, 4368 + t)
 }
 
 // The task that was placed at turn i.
@@ -43,7 +43,7 @@ pub fn turn(w: &[u32], i: usize) -> usize
     requires { ⌜ (i < 256) × (i < length ((scheduleIn (now w)) .order)) ⌝ }
     ensures { λ r. ⌜ (r ≡ getD ((scheduleIn (now (w .entry))) .order) i 0) × (r < 4294967296) ⌝ }
 {
-    workspace::word(w, 8960 + i)
+    workspace::word(w, 4624 + i)
 }
 
 pub fn opened(w: &[u32]) -> usize
@@ -51,15 +51,15 @@ pub fn opened(w: &[u32]) -> usize
     requires { ⌜ scheduleIn (now w) .opened ≤ 16 ⌝ }
     ensures { λ r. ⌜ (r ≡ scheduleIn (now (w .entry)) .opened) × (r ≤ 16) ⌝ }
 {
-    workspace::word(w, 9216)
+    workspace::word(w, 4880)
 }
 
 // How many tasks are placed.
 pub fn placed(w: &[u32]) -> usize
     requires { ⌜ Loaded (now w) ⌝ }
-    ensures { λ r. ⌜ (r ≡ length ((scheduleIn (now (w .entry))) .order)) × (r ≡ getD (now (w .entry)) 9217 0) × (r < 4294967296) ⌝ }
+    ensures { λ r. ⌜ (r ≡ length ((scheduleIn (now (w .entry))) .order)) × (r ≡ getD (now (w .entry)) 4881 0) × (r < 4294967296) ⌝ }
 {
-    workspace::word(w, 9217)
+    workspace::word(w, 4881)
 }
 
 pub fn level_of(w: &[u32], t: usize) -> usize
@@ -68,7 +68,7 @@ pub fn level_of(w: &[u32], t: usize) -> usize
     requires { ⌜ t < taskCount (sheetIn (now w)) ⌝ }
     ensures { λ r. ⌜ (r ≡ level (sheetIn (now (w .entry))) t) × (r < 4294967296) ⌝ }
 {
-    workspace::word(w, 4624 + t)
+    workspace::word(w, 2320 + t)
 }
 
 // t on k from start to finish, as the task after the n that are placed; so many processors are open now.
@@ -77,12 +77,12 @@ pub fn put(w: &mut [u32], t: usize, k: usize, start: usize, finish: usize, n: us
     requires { ⌜ (t < 256) × (k < 16) × (start < 4294967296) × (finish < 4294967296) × (n < 256) × (opened ≤ 16) ⌝ }
     ensures { λ _. ⌜ now (w .exit) ≡ putWords (now (w .entry)) t k start finish n opened ⌝ }
 {
-    w[8192 + t] = workspace::narrow(k);
-    w[8448 + t] = workspace::narrow(start);
-    w[8704 + t] = workspace::narrow(finish);
-    w[8960 + n] = workspace::narrow(t);
-    w[9217] = workspace::narrow(n + 1);
-    w[9216] = workspace::narrow(opened);
+    w[3856 + t] = workspace::narrow(k);
+    w[4112 + t] = workspace::narrow(start);
+    w[4368 + t] = workspace::narrow(finish);
+    w[4624 + n] = workspace::narrow(t);
+    w[4881] = workspace::narrow(n + 1);
+    w[4880] = workspace::narrow(opened);
 }
 
 // The claim: the latest finish.

@@ -145,7 +145,7 @@ module _ (w : List ℕ) where
           few-links n m x y e few,
           lt-leb (taskCount (sheetIn w)) x (omega (arith, tasks-in w, e .0)),
           lt-leb (taskCount (sheetIn w)) y (omega (arith, tasks-in w, e .0)),
-          f .pairs x y (omega (arith, e .0, f .loaded .tasks)) (omega (arith, e .0, f .loaded .tasks)),
+          f .pairs x y (omega (arith, e .0)) (omega (arith, e .0)),
         )
 
     pub link-twice : pairIn w x y ≡ true → linkFault (sheetIn w) x y ≡ some 8

@@ -1,3 +1,4 @@
+-- The laws of `sheet`.
 pub mod Rows
 pub mod Bits
 pub mod Fills

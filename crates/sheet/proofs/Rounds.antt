@@ -44,7 +44,7 @@ ended-value s t e [] h = split (eqb (taskCount s) 0) refl h
     split true q h = not-value h
     split false q h = let busy : taskCount s ≡ 0 → ⊥ = eqb-false (taskCount s) 0 q in (refl, omega arith, cc)
 
-abbrev byteOf : Kind → ℕ
+abbrev pub byteOf : Kind → ℕ
 byteOf board = 0x4D
 byteOf task = 0x54
 byteOf link = 0x45
@@ -61,7 +61,7 @@ kind-byte : (c : ℕ) (k : Kind) → kindOf c ≡ some k → c ≡ byteOf k
 kind-byte c k = by-byte c board k _ (by-byte c task k _ (by-byte c link k _ (by-byte c end k none not-some)))
 
 -- a command that comes next, by its first byte and the rest
-first-byte : (p : Progress) (d : List ℕ) (k : Kind) → judge sheetFormat p d ≡ go k → d ≡ byteOf k ∷ drop 1 d
+pub first-byte : (p : Progress) (d : List ℕ) (k : Kind) → judge sheetFormat p d ≡ go k → d ≡ byteOf k ∷ drop 1 d
 first-byte p d k j =
     let c = comes sheetFormat p d k j in
     drop-cons d 0 0 (c .more) ∙ ap (λ (x : ℕ). x ∷ drop 1 d) (kind-byte _ k (c .kind))

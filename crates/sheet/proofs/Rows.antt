@@ -1,13 +1,13 @@
 -- What the words of the tables say of the sheet in them.
 use Prim.Native.Nat.{ℕ, _+_, _≤_, _<_}
-use mathlib.Core.Path.{_≡_, ap, sym, _∙_}
+use mathlib.Core.Path.{_≡_, ap, ap₂, sym, _∙_}
 use mathlib.Core.List.{List}
 use native.Mathlib.Omega.{arith}
 use lib.ListN.{length, getD}
 use Rattle.folds.specs.Folds.{listed}
 use Rattle.folds.proofs.Lists.{length-listed, getD-listed, listed-cong}
 use Rattle.sheet.specs.Sheet.{Task, Link, noTask, noLink, taskCount, linkCount, workOf, storeOf, sourceOf, targetOf, costOf, bytesOf}
-use Rattle.sheet.specs.Tables.{taskIn, linkIn, sheetIn, Loaded, Ranged}
+use Rattle.sheet.specs.Tables.{taskOfWord, linkOfWords, taskIn, linkIn, sheetIn, Loaded, Ranged}
 
 module _ (w : List ℕ) where
   pub tasks-in : taskCount (sheetIn w) ≡ getD w 0 0
@@ -26,27 +26,27 @@ module _ (w : List ℕ) where
   unfolding sheetIn
   link-in l h = getD-listed _ (linkIn w) l noLink (rw links-in at h)
 
-  pub work-in : (t : ℕ) → t < taskCount (sheetIn w) → workOf (sheetIn w) t ≡ getD w (16 + t) 0
+  pub work-in : (t : ℕ) → t < taskCount (sheetIn w) → workOf (sheetIn w) t ≡ taskIn w t .work
   unfolding workOf
   work-in t h = ap (λ (x : Task). x .work) (task-in t h)
 
-  pub store-in : (t : ℕ) → t < taskCount (sheetIn w) → storeOf (sheetIn w) t ≡ getD w (272 + t) 0
+  pub store-in : (t : ℕ) → t < taskCount (sheetIn w) → storeOf (sheetIn w) t ≡ taskIn w t .store
   unfolding storeOf
   store-in t h = ap (λ (x : Task). x .store) (task-in t h)
 
-  pub source-in : (l : ℕ) → l < linkCount (sheetIn w) → sourceOf (sheetIn w) l ≡ getD w (528 + l) 0
+  pub source-in : (l : ℕ) → l < linkCount (sheetIn w) → sourceOf (sheetIn w) l ≡ linkIn w l .source
   unfolding sourceOf
   source-in l h = ap (λ (x : Link). x .source) (link-in l h)
 
-  pub target-in : (l : ℕ) → l < linkCount (sheetIn w) → targetOf (sheetIn w) l ≡ getD w (1552 + l) 0
+  pub target-in : (l : ℕ) → l < linkCount (sheetIn w) → targetOf (sheetIn w) l ≡ linkIn w l .target
   unfolding targetOf
   target-in l h = ap (λ (x : Link). x .target) (link-in l h)
 
-  pub cost-in : (l : ℕ) → l < linkCount (sheetIn w) → costOf (sheetIn w) l ≡ getD w (2576 + l) 0
+  pub cost-in : (l : ℕ) → l < linkCount (sheetIn w) → costOf (sheetIn w) l ≡ linkIn w l .cost
   unfolding costOf
   cost-in l h = ap (λ (x : Link). x .cost) (link-in l h)
 
-  pub bytes-in : (l : ℕ) → l < linkCount (sheetIn w) → bytesOf (sheetIn w) l ≡ getD w (3600 + l) 0
+  pub bytes-in : (l : ℕ) → l < linkCount (sheetIn w) → bytesOf (sheetIn w) l ≡ linkIn w l .bytes
   unfolding bytesOf
   bytes-in l h = ap (λ (x : Link). x .bytes) (link-in l h)
 
@@ -81,7 +81,7 @@ ranged w h =
       few-tasks = rw (tasks-in w) (h .tasks);
       few-links = rw (links-in w) (h .links);
       few-processors = h .processors;
-      works = λ t l. rw (work-in w t l) (h .works t (rw (tasks-in w) at l));
+      works = λ t l. rw (work-in w t l) (omega arith);
       stores = λ t l. rw (store-in w t l) (h .stores t (rw (tasks-in w) at l));
       source = λ l k. rw (source-in w l k, tasks-in w) (h .source l (rw (links-in w) at k));
       target = λ l k. rw (target-in w l k, tasks-in w) (h .target l (rw (links-in w) at k));
@@ -89,14 +89,13 @@ ranged w h =
       sizes = λ l k. rw (bytes-in w l k) (h .sizes l (rw (links-in w) at k));
     }
 
--- below word 4624 an area is all the sheet
-module _ (w w′ : List ℕ) (same : (i : ℕ) → i < 4624 → getD w′ i 0 ≡ getD w i 0) where
-  task-frame : (t : ℕ) → t < 256 → taskIn w′ t ≡ taskIn w t
-  task-frame t h = λ x. record { work = same (16 + t) (omega arith) x; store = same (272 + t) (omega arith) x }
+-- below word 2320 an area is all the sheet
+module _ (w w′ : List ℕ) (same : (i : ℕ) → i < 2320 → getD w′ i 0 ≡ getD w i 0) where
+  pub task-frame : (t : ℕ) → t < 256 → taskIn w′ t ≡ taskIn w t
+  task-frame t h = ap taskOfWord (same (16 + t) (omega arith))
 
-  link-frame : (l : ℕ) → l < 1024 → linkIn w′ l ≡ linkIn w l
-  link-frame l h =
-      λ x. record { source = same (528 + l) (omega arith) x; target = same (1552 + l) (omega arith) x; cost = same (2576 + l) (omega arith) x; bytes = same (3600 + l) (omega arith) x }
+  pub link-frame : (l : ℕ) → l < 1024 → linkIn w′ l ≡ linkIn w l
+  link-frame l h = ap₂ linkOfWords (same (272 + l) (omega arith)) (same (1296 + l) (omega arith))
 
   pub sheet-frame : getD w 0 0 ≤ 256 → getD w 1 0 ≤ 1024 → sheetIn w′ ≡ sheetIn w
   unfolding sheetIn
@@ -120,12 +119,11 @@ module _ (w w′ : List ℕ) (same : (i : ℕ) → i < 4624 → getD w′ i 0 �
         tasks = omega arith;
         links = omega arith;
         processors = omega (arith, same 2 (omega arith), h .processors);
-        works = λ t l. omega (arith, same (16 + t) (omega arith), h .works t (omega arith));
-        stores = λ t l. omega (arith, same (272 + t) (omega arith), h .stores t (omega arith));
-        source = λ l k. omega (arith, same (528 + l) (omega arith), h .source l (omega arith));
-        target = λ l k. omega (arith, same (1552 + l) (omega arith), h .target l (omega arith));
-        costs = λ l k. omega (arith, same (2576 + l) (omega arith), h .costs l (omega arith));
-        sizes = λ l k. omega (arith, same (3600 + l) (omega arith), h .sizes l (omega arith));
+        stores = λ t l. rw (same (16 + t) (omega arith)) (h .stores t (omega arith));
+        source = λ l k. rw (same (272 + l) (omega arith), n) (h .source l (omega arith));
+        target = λ l k. rw (same (272 + l) (omega arith), n) (h .target l (omega arith));
+        costs = λ l k. rw (same (272 + l) (omega arith)) (h .costs l (omega arith));
+        sizes = λ l k. rw (same (1296 + l) (omega arith)) (h .sizes l (omega arith));
       }
 
 -- the tables up to their counts are the sheet's lists

@@ -1,3 +1,4 @@
+-- The definitions of `sheet`.
 pub mod Sheet
 pub mod Format
 pub mod Writing

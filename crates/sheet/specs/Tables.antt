@@ -10,29 +10,34 @@ use Rattle.workspace.specs.Area.{fixed}
 use Rattle.sheet.specs.Sheet.{Sheet, Task, Link, taskCount, linkCount, workOf, storeOf, sourceOf, targetOf, costOf, bytesOf}
 use Rattle.sheet.specs.Format.{joins}
 
+-- the task of a word, and the link of two
+abbrev pub taskOfWord : ℕ → Task
+taskOfWord x = record { work = x % 65536; store = x / 65536 }
+
+abbrev pub linkOfWords : ℕ → ℕ → Link
+linkOfWords x y = record { source = x % 256; target = x / 256 % 256; cost = x / 65536; bytes = y }
+
 abbrev pub taskIn : List ℕ → ℕ → Task
-taskIn w t = record { work = getD w (16 + t) 0; store = getD w (272 + t) 0 }
+taskIn w t = taskOfWord (getD w (16 + t) 0)
 
 abbrev pub linkIn : List ℕ → ℕ → Link
-linkIn w l =
-    record { source = getD w (528 + l) 0; target = getD w (1552 + l) 0; cost = getD w (2576 + l) 0; bytes = getD w (3600 + l) 0 }
+linkIn w l = linkOfWords (getD w (272 + l) 0) (getD w (1296 + l) 0)
 
 unfoldable pub sheetIn : List ℕ → Sheet
 sheetIn w =
     record { processors = getD w 2 0; limit = getD w 3 0; tasks = listed (getD w 0 0) (taskIn w); links = listed (getD w 1 0) (linkIn w) }
 
--- the tables hold a sheet whose numbers are in their ranges and whose links name its tasks
+-- the tables hold a sheet whose numbers are in their ranges (a work always is) and whose links name its tasks
 pub record Loaded (w : List ℕ) : Type 0 where
   pub long : fixed ≤ length w
   pub tasks : getD w 0 0 ≤ 256
   pub links : getD w 1 0 ≤ 1024
   pub processors : getD w 2 0 ≤ 16
-  pub works : (t : ℕ) → t < getD w 0 0 → getD w (16 + t) 0 < 65536
-  pub stores : (t : ℕ) → t < getD w 0 0 → getD w (272 + t) 0 < 65536
-  pub source : (l : ℕ) → l < getD w 1 0 → getD w (528 + l) 0 < getD w 0 0
-  pub target : (l : ℕ) → l < getD w 1 0 → getD w (1552 + l) 0 < getD w 0 0
-  pub costs : (l : ℕ) → l < getD w 1 0 → getD w (2576 + l) 0 < 65536
-  pub sizes : (l : ℕ) → l < getD w 1 0 → getD w (3600 + l) 0 < 65536
+  pub stores : (t : ℕ) → t < getD w 0 0 → taskIn w t .store < 65536
+  pub source : (l : ℕ) → l < getD w 1 0 → linkIn w l .source < getD w 0 0
+  pub target : (l : ℕ) → l < getD w 1 0 → linkIn w l .target < getD w 0 0
+  pub costs : (l : ℕ) → l < getD w 1 0 → linkIn w l .cost < 65536
+  pub sizes : (l : ℕ) → l < getD w 1 0 → linkIn w l .bytes < 65536
 
 -- the same of the sheet itself
 pub record Ranged (s : Sheet) : Type 0 where
@@ -51,24 +56,24 @@ unfoldable pub bitAt : ℕ → ℕ → ℕ
 bitAt x j = x / 2 ^ j % 2
 
 unfoldable pub pairIn : List ℕ → ℕ → ℕ → Bool
-pairIn w a b = eqb (bitAt (getD w (18432 + (8 * a + b / 32)) 0) (b % 32)) 1
+pairIn w a b = eqb (bitAt (getD w (3856 + (8 * a + b / 32)) 0) (b % 32)) 1
 
--- a sheet that is being read: its tables, and a bit for each pair of tasks that a link joins
+-- a sheet whose links are being read: its tables, and a bit for each pair of tasks that a link joins
 pub record Filling (w : List ℕ) : Type 0 where
   pub loaded : Loaded w
-  pub pairs : (a b : ℕ) → a < 256 → b < 256 → pairIn w a b ≡ joins (sheetIn w) a b
+  pub pairs : (a b : ℕ) → a < getD w 0 0 → b < getD w 0 0 → pairIn w a b ≡ joins (sheetIn w) a b
 
 -- the words with one task more, and with one link more
 unfoldable pub taskWords : List ℕ → ℕ → ℕ → ℕ → List ℕ
-taskWords w n work store = set (set (set w (16 + n) work) (272 + n) store) 0 (n + 1)
+taskWords w n work store = set (set w (16 + n) (work + 65536 * store)) 0 (n + 1)
 
 unfoldable pub linkWords : List ℕ → ℕ → ℕ → ℕ → ℕ → ℕ → List ℕ
 linkWords w m source target cost bytes =
-    set (set (set (set (set w (528 + m) source) (1552 + m) target) (2576 + m) cost) (3600 + m) bytes) 1 (m + 1)
+    set (set (set w (272 + m) (source + 256 * target + 65536 * cost)) (1296 + m) bytes) 1 (m + 1)
 
 -- the words with the bit of a pair set, where it was not
 unfoldable pub pairWords : List ℕ → ℕ → ℕ → List ℕ
-pairWords w a b = set w (18432 + (8 * a + b / 32)) (getD w (18432 + (8 * a + b / 32)) 0 + 2 ^ (b % 32))
+pairWords w a b = set w (3856 + (8 * a + b / 32)) (getD w (3856 + (8 * a + b / 32)) 0 + 2 ^ (b % 32))
 
 -- the words of a sheet without tasks
 unfoldable pub boardWords : List ℕ → ℕ → ℕ → List ℕ
@@ -77,11 +82,11 @@ boardWords w processors limit = set (set (set (set w 0 0) 1 0) 2 processors) 3 l
 -- the pair words below word n are 0, and the words before them as they were
 pub record Blanked (n : ℕ) (w last : List ℕ) : Type 0 where
   pub long : length last ≡ length w
-  pub low : (i : ℕ) → i < 18432 → getD last i 0 ≡ getD w i 0
-  pub zeros : (i : ℕ) → 18432 ≤ i → i < n → getD last i 0 ≡ 0
+  pub low : (i : ℕ) → i < 3856 → getD last i 0 ≡ getD w i 0
+  pub zeros : (i : ℕ) → 3856 ≤ i → i < n → getD last i 0 ≡ 0
 
--- the tables hold this sheet, which is being filled
-pub record FillingOf (s : Sheet) (w last : List ℕ) : Type 0 where
+-- the tables hold this sheet
+pub record LoadedOf (s : Sheet) (w last : List ℕ) : Type 0 where
   pub long : length last ≡ length w
-  pub filling : Filling last
+  pub loaded : Loaded last
   pub sheet : sheetIn last ≡ s

@@ -1,10 +1,11 @@
 // The tables of a sheet in the work area: accessors that speak of the sheet, and the stores that add a task or a link.
 ghost use mathlib.Core.Path.{_≡_};
-ghost use Prim.Native.Nat.{ℕ, _+_, _<_, _≤_};
-ghost use lib.ListN.{getD, length};
+ghost use mathlib.Core.List.{[]};
+ghost use Prim.Native.Nat.{_<_, _≤_};
+ghost use lib.ListN.{length};
 ghost use Rattle.workspace.specs.Area.{fixed};
 ghost use Rattle.sheet.specs.Sheet.{taskCount, linkCount, workOf, storeOf, sourceOf, targetOf, costOf, bytesOf};
-ghost use Rattle.sheet.specs.Tables.{sheetIn, Loaded, taskWords, linkWords, boardWords};
+ghost use Rattle.sheet.specs.Tables.{sheetIn, Loaded, LoadedOf, taskWords, linkWords};
 
 pub fn tasks(w: &[u32]) -> usize
     requires { ⌜ Loaded (now w) ⌝ }
@@ -39,7 +40,7 @@ pub fn work(w: &[u32], t: usize) -> usize
     requires { ⌜ t < taskCount (sheetIn (now w)) ⌝ }
     ensures { λ r. ⌜ (r ≡ workOf (sheetIn (now (w .entry))) t) × (r ≤ 65535) ⌝ }
 {
-    workspace::word(w, 16 + t)
+    workspace::word(w, 16 + t) % 65536
 }
 
 pub fn store(w: &[u32], t: usize) -> usize
@@ -47,7 +48,7 @@ pub fn store(w: &[u32], t: usize) -> usize
     requires { ⌜ t < taskCount (sheetIn (now w)) ⌝ }
     ensures { λ r. ⌜ (r ≡ storeOf (sheetIn (now (w .entry))) t) × (r ≤ 65535) ⌝ }
 {
-    workspace::word(w, 272 + t)
+    workspace::word(w, 16 + t) / 65536
 }
 
 pub fn source(w: &[u32], l: usize) -> usize
@@ -55,7 +56,7 @@ pub fn source(w: &[u32], l: usize) -> usize
     requires { ⌜ l < linkCount (sheetIn (now w)) ⌝ }
     ensures { λ r. ⌜ (r ≡ sourceOf (sheetIn (now (w .entry))) l) × (r < taskCount (sheetIn (now (w .entry)))) ⌝ }
 {
-    workspace::word(w, 528 + l)
+    workspace::word(w, 272 + l) % 256
 }
 
 pub fn target(w: &[u32], l: usize) -> usize
@@ -63,7 +64,7 @@ pub fn target(w: &[u32], l: usize) -> usize
     requires { ⌜ l < linkCount (sheetIn (now w)) ⌝ }
     ensures { λ r. ⌜ (r ≡ targetOf (sheetIn (now (w .entry))) l) × (r < taskCount (sheetIn (now (w .entry)))) ⌝ }
 {
-    workspace::word(w, 1552 + l)
+    workspace::word(w, 272 + l) / 256 % 256
 }
 
 pub fn cost(w: &[u32], l: usize) -> usize
@@ -71,7 +72,7 @@ pub fn cost(w: &[u32], l: usize) -> usize
     requires { ⌜ l < linkCount (sheetIn (now w)) ⌝ }
     ensures { λ r. ⌜ (r ≡ costOf (sheetIn (now (w .entry))) l) × (r ≤ 65535) ⌝ }
 {
-    workspace::word(w, 2576 + l)
+    workspace::word(w, 272 + l) / 65536
 }
 
 pub fn size(w: &[u32], l: usize) -> usize
@@ -79,13 +80,13 @@ pub fn size(w: &[u32], l: usize) -> usize
     requires { ⌜ l < linkCount (sheetIn (now w)) ⌝ }
     ensures { λ r. ⌜ (r ≡ bytesOf (sheetIn (now (w .entry))) l) × (r ≤ 65535) ⌝ }
 {
-    workspace::word(w, 3600 + l)
+    workspace::word(w, 1296 + l)
 }
 
 // A sheet without tasks.
 pub fn put_board(w: &mut [u32], processors: u8, limit: u32)
-    requires { ⌜ fixed ≤ length (now w) ⌝ }
-    ensures { λ _. ⌜ now (w .exit) ≡ boardWords (now (w .entry)) processors limit ⌝ }
+    requires { ⌜ (fixed ≤ length (now w)) × (processors ≤ 16) ⌝ }
+    ensures { λ _. ⌜ LoadedOf (record { processors = processors; limit = limit; tasks = []; links = [] }) (now (w .entry)) (now (w .exit)) ⌝ }
 {
     w[0] = 0;
     w[1] = 0;
@@ -98,19 +99,16 @@ pub fn put_task(w: &mut [u32], n: usize, work: u16, store: u16)
     requires { ⌜ (fixed ≤ length (now w)) × (n < 256) ⌝ }
     ensures { λ _. ⌜ now (w .exit) ≡ taskWords (now (w .entry)) n work store ⌝ }
 {
-    w[16 + n] = work as u32;
-    w[272 + n] = store as u32;
+    w[16 + n] = work as u32 + 65536 * store as u32;
     w[0] = workspace::narrow(n + 1);
 }
 
 // Link m, behind those before it.
 pub fn put_link(w: &mut [u32], m: usize, source: u16, target: u16, cost: u16, bytes: u16)
-    requires { ⌜ (fixed ≤ length (now w)) × (m < 1024) ⌝ }
+    requires { ⌜ (fixed ≤ length (now w)) × (m < 1024) × (source < 256) × (target < 256) ⌝ }
     ensures { λ _. ⌜ now (w .exit) ≡ linkWords (now (w .entry)) m source target cost bytes ⌝ }
 {
-    w[528 + m] = source as u32;
-    w[1552 + m] = target as u32;
-    w[2576 + m] = cost as u32;
-    w[3600 + m] = bytes as u32;
+    w[272 + m] = source as u32 + 256 * target as u32 + 65536 * cost as u32;
+    w[1296 + m] = bytes as u32;
     w[1] = workspace::narrow(m + 1);
 }

@@ -3,13 +3,12 @@ use Prim.Native.Nat.{ℕ, zero, suc, _+_, _*_, _/_, _%_, _<_, _≤_}
 use mathlib.Core.Path.{_≡_, refl, sym, ap, ap₂, subst, _∙_}
 use mathlib.Core.Bool.{Bool, true, false, not}
 use mathlib.Core.Option.{Option, none, some}
-use mathlib.Core.List.{List, [], _∷_, _++_, append-assoc, append-nil}
+use mathlib.Core.List.{List, [], _∷_, _++_, append-nil}
 use native.Mathlib.Omega.{arith}
-use native.Mathlib.Numerals.{add-one, add-two}
 use native.Mathlib.Decide.{ℕ-discrete}
 use borrow.Author.Tests.{eq-eqb, ne-eqb, eqb-true, le-leb, lt-leb}
-use lib.ListN.{length, getD, take, length-append, List·getD-append}
-use lib.Seq.{ext-getD, getD-at, take-suc, take-all, append-snoc}
+use lib.ListN.{length, getD, length-append, List·getD-append}
+use lib.Seq.{ext-getD, getD-at, append-snoc}
 use lib.Dec.{eqb, leb}
 use Rattle.folds.specs.Folds.{pick, both, any, listed}
 use Rattle.folds.specs.Answers.{Answer, value}
@@ -61,59 +60,6 @@ module _ (p l : ℕ) (tv lv : List ℕ) where
 
     pub written-length : length (valueBytes p l tv lv) ≡ 7 + 5 * (length tv / 2) + 7 * (length lv / 4)
     written-length = ap length values-bytes ∙ sheet-length (sheetOfValues p l tv lv) ∙ ap₂ (λ (n m : ℕ). 7 + 5 * n + 7 * m) values-tasks values-links
-
--- the values of the sheet that they are the values of
-task-values-append : (ts us : List Task) → taskValues (ts ++ us) ≡ taskValues ts ++ taskValues us
-task-values-append [] us = refl
-task-values-append (t ∷ ts) us = ap (λ (v : List ℕ). t .work ∷ t .store ∷ v) (task-values-append ts us)
-
-link-values-append : (ls us : List Link) → linkValues (ls ++ us) ≡ linkValues ls ++ linkValues us
-link-values-append [] us = refl
-link-values-append (l ∷ ls) us = ap (λ (v : List ℕ). l .source ∷ l .target ∷ l .cost ∷ l .bytes ∷ v) (link-values-append ls us)
-
-take-two : (v : List ℕ) (n : ℕ) → n + 2 ≤ length v → take (n + 2) v ≡ take n v ++ getD v n 0 ∷ getD v (n + 1) 0 ∷ []
-take-two v n h =
-    rw (add-two, add-one)
-    (take-suc v (suc n) 0 (omega arith) ∙ ap (λ (x : List ℕ). x ++ getD v (suc n) 0 ∷ []) (take-suc v n 0 (omega arith)) ∙ append-snoc (take n v) (getD v n 0) (getD v (suc n) 0 ∷ []))
-
-take-four : (v : List ℕ) (n : ℕ) → n + 4 ≤ length v → take (n + 4) v ≡ take n v ++ getD v n 0 ∷ getD v (n + 1) 0 ∷ getD v (n + 2) 0 ∷ getD v (n + 3) 0 ∷ []
-take-four v n h =
-    let e : n + 4 ≡ n + 2 + 2 = omega arith in
-    let f : n + 2 + 1 ≡ n + 3 = omega arith in
-    ap (λ (k : ℕ). take k v) e
-    ∙ take-two v (n + 2) (omega arith)
-    ∙ ap₂ (λ (x : List ℕ) (k : ℕ). x ++ getD v (n + 2) 0 ∷ getD v k 0 ∷ []) (take-two v n (omega arith)) f
-    ∙ append-assoc (take n v) (getD v n 0 ∷ getD v (n + 1) 0 ∷ []) (getD v (n + 2) 0 ∷ getD v (n + 3) 0 ∷ [])
-
-task-values-take : (v : List ℕ) (n : ℕ) → 2 * n ≤ length v → taskValues (listed n (taskValue v)) ≡ take (2 * n) v
-unfolding listed
-task-values-take v zero h = refl
-task-values-take v (suc n) h =
-    let e : 2 * suc n ≡ 2 * n + 2 = omega arith in
-    task-values-append (listed n (taskValue v)) (taskValue v n ∷ [])
-    ∙ ap (λ (x : List ℕ). x ++ getD v (2 * n) 0 ∷ getD v (2 * n + 1) 0 ∷ []) (task-values-take v n (omega arith))
-    ∙ sym (ap (λ (k : ℕ). take k v) e ∙ take-two v (2 * n) (omega arith))
-
-link-values-take : (v : List ℕ) (n : ℕ) → 4 * n ≤ length v → linkValues (listed n (linkValue v)) ≡ take (4 * n) v
-unfolding listed
-link-values-take v zero h = refl
-link-values-take v (suc n) h =
-    let e : 4 * suc n ≡ 4 * n + 4 = omega arith in
-    link-values-append (listed n (linkValue v)) (linkValue v n ∷ [])
-    ∙ ap (λ (x : List ℕ). x ++ getD v (4 * n) 0 ∷ getD v (4 * n + 1) 0 ∷ getD v (4 * n + 2) 0 ∷ getD v (4 * n + 3) 0 ∷ []) (link-values-take v n (omega arith))
-    ∙ sym (ap (λ (k : ℕ). take k v) e ∙ take-four v (4 * n) (omega arith))
-
-module _ (p l : ℕ) (tv lv : List ℕ) where
-  pub values-of-tasks : length tv % 2 ≡ 0 → taskValues (sheetOfValues p l tv lv .tasks) ≡ tv
-  unfolding sheetOfValues
-  values-of-tasks h = task-values-take tv (length tv / 2) (omega arith) ∙ take-all (2 * (length tv / 2)) tv (omega arith)
-
-  pub values-of-links : length lv % 4 ≡ 0 → linkValues (sheetOfValues p l tv lv .links) ≡ lv
-  unfolding sheetOfValues
-  values-of-links h = link-values-take lv (length lv / 4) (omega arith) ∙ take-all (4 * (length lv / 4)) lv (omega arith)
-
-  pub values-of : length tv % 2 ≡ 0 → length lv % 4 ≡ 0 → (taskValues (sheetOfValues p l tv lv .tasks) ≡ tv) × (linkValues (sheetOfValues p l tv lv .links) ≡ lv)
-  values-of h k = (values-of-tasks h, values-of-links k)
 
 -- a sheet is the sheet of its values, and its bytes are those of its values
 pub task-values-length : (ts : List Task) → length (taskValues ts) ≡ 2 * length ts

@@ -1,28 +1,28 @@
 -- A sheet given by its values: what the reader says of the bytes of a task and of a link, and the ways on and out of taking them in.
-use Prim.Native.Nat.{ℕ, zero, suc, _+_, _*_, _/_, _%_, _-_, _<_, _≤_}
-use mathlib.Core.Path.{_≡_, refl, sym, ap, ap₂, subst, _∙_}
+use Prim.Native.Nat.{ℕ, _+_, _*_, _/_, _%_, _-_, _<_, _≤_}
+use mathlib.Core.Path.{_≡_, refl, sym, ap, subst, _∙_}
 use mathlib.Core.Bool.{Bool, true, false, not}
-use mathlib.Core.Option.{Option, none, some}
+use mathlib.Core.Option.{none, some}
 use mathlib.Core.Logic.{_≢_, _⊎_, inl, inr}
 use mathlib.Core.List.{List, [], _∷_, _++_}
 use native.Mathlib.Omega.{arith}
 use native.Mathlib.Decide.{ℕ-discrete}
-use borrow.Author.Tests.{eq-eqb, ne-eqb, lt-ltb, le-ltb, lt-leb, le-leb}
-use lib.ListN.{length, getD, drop}
-use lib.Dec.{eqb, ltb, leb}
-use Rattle.folds.specs.Folds.{pick, both, either, any, listed}
-use Rattle.folds.specs.Answers.{Answer, value, refused}
+use borrow.Author.Tests.{eq-eqb, ne-eqb, le-ltb, lt-leb, le-leb}
+use lib.ListN.{length, getD}
+use lib.Dec.{eqb, leb}
+use Rattle.folds.specs.Folds.{pick, both}
+use Rattle.folds.specs.Answers.{Answer}
 use Rattle.folds.proofs.Tests.{both-false}
 use Rattle.folds.proofs.Lists.{rest, rest-all, rest-more, rest-none}
 use Rattle.numbers.specs.Number.{numberAt, numberBytes}
 use Rattle.numbers.proofs.Laws.{numberAt-cons, number-of-bytes}
-use Rattle.commands.specs.Commands.{Outcome, refuse, go, judge, verdict, readAll}
+use Rattle.commands.specs.Commands.{refuse, go, judge, verdict, readAll}
 use Rattle.commands.specs.Reading.{Going}
 use Rattle.commands.proofs.Going.{starts, goes, refuses, going-is, going-on}
 use Rattle.sheet.specs.Sheet.{Sheet, Task, Link, taskCount, linkCount}
 use Rattle.sheet.specs.Format.{board, task, link, end, Progress, fresh, fault, sheetFormat, readForm}
 use Rattle.sheet.specs.Writing.{boardBytes, taskBytes, linkBytes, taskValue, linkValue, linkValueBytes, taskValueBytes, valueBytes}
-use Rattle.sheet.specs.Tables.{sheetIn, pairIn, Filling, FillingOf, taskWords, linkWords, pairWords}
+use Rattle.sheet.specs.Tables.{sheetIn, pairIn, Loaded, Filling, LoadedOf, taskWords, linkWords, pairWords}
 use Rattle.sheet.specs.Faults.{begun, taskFault, linkFault}
 use Rattle.sheet_reader.specs.Answers.{ReadIs, valuesClosed}
 use Rattle.sheet_reader.specs.Scanning.{Scanning, readOn}
@@ -30,7 +30,7 @@ use Rattle.sheet_reader.specs.declared.Reading.{Reading}
 use Rattle.sheet_reader.specs.declared.Reading.the-variants.{Read, Refused}
 use Rattle.sheet.proofs.Rows.{tasks-in, links-in}
 use Rattle.sheet.proofs.Judging.{fault-task, fault-link, fault-end}
-use Rattle.sheet_reader.proofs.Scans.{read-refused, task-few, link-few, source-small, target-small, link-single, scan-task, scan-link, scan-refuse, scan-bare, scan-whole, scan-board, read-through}
+use Rattle.sheet_reader.proofs.Scans.{read-refused, task-few, link-few, source-small, target-small, link-single, link-filling, scan-task, scan-link, scan-refuse, scan-bare, scan-whole}
 
 pub scan-at : {a : Answer Sheet} {d w₀ w : List ℕ} {n m e : ℕ} (e′ : ℕ) → Scanning a d w₀ w n m e → e ≡ e′ → Scanning a d w₀ w n m e′
 scan-at {a} {d} {w₀} {w} {n} {m} e′ s h = subst (λ (k : ℕ). Scanning a d w₀ w n m k) h s
@@ -114,22 +114,26 @@ module _ (g : ℕ → Link) (m : ℕ) (X : List ℕ) {a : Answer Sheet} {w₀ w 
   link-verdict : judge sheetFormat (begun (sheetIn w)) (linkBytes (g j ∷ rest (j + 1) (m - (j + 1)) g) ++ X) ≡ verdict sheetFormat link (linkFault (sheetIn w) (g j .source) (g j .target))
   link-verdict = judge-link (g j) (rest (j + 1) (m - (j + 1)) g) X (sheetIn w)
 
-  pub take-link : linkFault (sheetIn w) (g j .source) (g j .target) ≡ none → g j .cost < 65536 → g j .bytes < 65536
-      → Scanning a (linkBytes (rest (j + 1) (m - (j + 1)) g) ++ X) w₀ (linkWords (pairWords w (g j .source) (g j .target)) j (g j .source) (g j .target) (g j .cost) (g j .bytes)) n (j + 1) (e + 7)
-  take-link clear h₁ h₂ =
+  pub take-link : Filling w → linkFault (sheetIn w) (g j .source) (g j .target) ≡ none → g j .cost < 65536 → g j .bytes < 65536
+      → Filling (linkWords (pairWords w (g j .source) (g j .target)) j (g j .source) (g j .target) (g j .cost) (g j .bytes))
+      × Scanning a (linkBytes (rest (j + 1) (m - (j + 1)) g) ++ X) w₀ (linkWords (pairWords w (g j .source) (g j .target)) j (g j .source) (g j .target) (g j .cost) (g j .bytes)) n (j + 1) (e + 7)
+  take-link f clear h₁ h₂ =
       let ls : List Link = rest (j + 1) (m - (j + 1)) g in
-      scan-link link-here (g j .source) (g j .target) (link-verdict ∙ ap (verdict sheetFormat link) clear) refl refl (g j .cost) (g j .bytes)
-      (sym (cost-byte (g j) ls X h₁)) (sym (size-byte (g j) ls X h₂)) h₁ h₂
+      let go-on = link-verdict ∙ ap (verdict sheetFormat link) clear in (
+        link-filling link-here (g j .source) (g j .target) go-on refl refl f (g j .cost) (g j .bytes) h₁ h₂,
+        scan-link link-here (g j .source) (g j .target) go-on refl refl f (g j .cost) (g j .bytes)
+            (sym (cost-byte (g j) ls X h₁)) (sym (size-byte (g j) ls X h₂)) h₁ h₂,
+      )
 
   -- what adding it requires
-  pub link-fits : linkFault (sheetIn w) (g j .source) (g j .target) ≡ none → (j < 1024) × (g j .source < 256) × (g j .target < 256) × (pairIn w (g j .source) (g j .target) ≡ false)
-  link-fits clear =
+  pub link-fits : Filling w → linkFault (sheetIn w) (g j .source) (g j .target) ≡ none → (j < 1024) × (g j .source < 256) × (g j .target < 256) × (pairIn w (g j .source) (g j .target) ≡ false)
+  link-fits f clear =
       let go-on = link-verdict ∙ ap (verdict sheetFormat link) clear in
-      let few = s .filling .loaded .tasks in (
+      let few = s .loaded .tasks in (
         link-few link-here go-on,
         omega (arith, source-small link-here (g j .source) (g j .target) go-on refl refl),
         omega (arith, target-small link-here (g j .source) (g j .target) go-on refl refl),
-        link-single link-here (g j .source) (g j .target) go-on refl refl,
+        link-single link-here (g j .source) (g j .target) go-on refl refl f,
       )
 
   pub refuse-link : (r : ℕ) → linkFault (sheetIn w) (g j .source) (g j .target) ≡ some r → ReadIs a w₀ w (Refused r e)
@@ -160,7 +164,7 @@ unfolding readOn linkValueBytes
 links-start v w n e f p q =
     record {
       long = refl;
-      filling = f;
+      loaded = f .loaded;
       tasks = sym p;
       links = q;
       going =
@@ -196,13 +200,13 @@ module _ (v : List ℕ) {a : Answer Sheet} {w₀ w : List ℕ} {n j e : ℕ} (s 
 abbrev pub taskTail : List ℕ → List ℕ → List ℕ
 taskTail v u = pick (eqb (length v % 2) 0) (linkValueBytes u) (0x54 ∷ [])
 
-pub tasks-start : (v u w : List ℕ) → Filling w → getD w 0 0 ≡ 0 → getD w 1 0 ≡ 0
+pub tasks-start : (v u w : List ℕ) → Loaded w → getD w 0 0 ≡ 0 → getD w 1 0 ≡ 0
     → Scanning (readOn w (taskValueBytes v u) 6) (taskBytes (rest 0 (length v / 2 - 0) (taskValue v)) ++ taskTail v u) w w 0 0 6
 unfolding readOn taskValueBytes
 tasks-start v u w f p q =
     record {
       long = refl;
-      filling = f;
+      loaded = f;
       tasks = p;
       links = q;
       going =
@@ -241,7 +245,7 @@ board-refused p l v u w h =
     outside (inl q) = rw (lt-leb 1 p q)
     outside (inr q) = rw (lt-leb p 16 q) (both-false (leb 1 p))
 
-pub board-read : (p l : ℕ) (v u w w′ : List ℕ) → 1 ≤ p → p ≤ 16 → l < 4294967296 → FillingOf (record { processors = p; limit = l; tasks = []; links = [] }) w w′
+pub board-read : (p l : ℕ) (v u w w′ : List ℕ) → 1 ≤ p → p ≤ 16 → l < 4294967296 → LoadedOf (record { processors = p; limit = l; tasks = []; links = [] }) w w′
     → readForm (valueBytes p l v u) ≡ readOn w′ (taskValueBytes v u) 6
 unfolding readForm valueBytes readOn
 board-read p l v u w w′ h k small f =

@@ -1,38 +1,39 @@
 -- The state of a scan of bytes, and the ways on and out.
-use Prim.Native.Nat.{ℕ, _+_, _-_, _<_, _≤_}
+use Prim.Native.Nat.{ℕ, _+_, _*_, _-_, _<_, _≤_}
 use mathlib.Core.Path.{_≡_, refl, sym, ap, ap₂, subst, _∙_}
-use mathlib.Core.Bool.{Bool, true, false, true≢false}
-use mathlib.Core.Logic.{_≢_, _⊎_, inl, inr}
+use mathlib.Core.Bool.{true, false, true≢false}
+use mathlib.Core.Logic.{_≢_}
+use mathlib.Core.Option.{none}
 use mathlib.Core.List.{List, [], _∷_, _++_}
 use native.Mathlib.Omega.{arith}
 use native.Mathlib.Nat.{add-zero}
 use native.Mathlib.Decide.{decLt, ℕ-discrete}
-use borrow.Author.Tests.{leb-false, leb-true, not-false, eq-eqb, ne-eqb, lt-ltb, le-ltb}
-use lib.ListN.{length, getD, drop, length-drop, length-set}
-use lib.Seq.{getD-drop, drop-drop, getD-set-same, getD-set-other}
+use borrow.Author.Tests.{leb-false, leb-true, not-false, eqb-true, eq-eqb, ne-eqb, lt-ltb, le-ltb}
+use lib.ListN.{length, getD, drop, length-drop}
+use lib.Seq.{getD-drop, drop-drop}
 use lib.Dec.{eqb, ltb, leb}
-use Rattle.folds.specs.Folds.{pick, both, either, listed}
+use Rattle.folds.specs.Folds.{pick}
 use Rattle.folds.specs.Answers.{Answer, value, refused}
-use Rattle.folds.proofs.Tests.{equal-or, not-value, either-none, both-parts, value-same}
-use Rattle.folds.proofs.Loops.{listed-zero}
+use Rattle.folds.proofs.Tests.{not-value, either-none, both-parts, value-same}
 use Rattle.numbers.specs.Number.{numberAt}
 use Rattle.numbers.proofs.Laws.{numberAt-drop, number-lt}
-use Rattle.commands.specs.Commands.{Outcome, refuse, go, judge, judgeKind, readAll}
+use Rattle.commands.specs.Commands.{Outcome, refuse, go, judge, readAll}
 use Rattle.commands.specs.Reading.{Going}
 use Rattle.commands.proofs.Going.{starts, goes, refuses, ends, comes}
 use Rattle.workspace.specs.Area.{fixed}
 use Rattle.sheet.specs.Sheet.{Sheet, Task, Link, taskCount, linkCount}
 use Rattle.sheet.specs.Format.{Kind, board, task, link, end, width, Progress, fresh, closes, withCommand, taskFrom, linkFrom, ended, joins, sheetFormat, readForm}
-use Rattle.sheet.specs.Tables.{sheetIn, pairIn, Loaded, Filling, FillingOf, taskWords, linkWords, pairWords}
+use Rattle.sheet.specs.Tables.{sheetIn, pairIn, Loaded, Filling, LoadedOf, Blanked, taskWords, linkWords, pairWords}
 use Rattle.sheet.specs.Faults.{begun}
 use Rattle.sheet_reader.specs.Answers.{isTask, isLink, readingOf, openingOf, closedOf, ReadIs}
-use Rattle.sheet_reader.specs.Scanning.{Scanning, Walking, addedWords}
+use Rattle.sheet_reader.specs.Scanning.{Scanning, Walking, Linking, addedWords}
 use Rattle.sheet_reader.specs.declared.Reading.{Reading}
 use Rattle.sheet_reader.specs.declared.Reading.the-variants.{Read, Refused}
 use Rattle.sheet.proofs.Rows.{tasks-in, links-in}
 use Rattle.sheet.proofs.Fills.{task-long, task-count, task-away, sheet-task, link-long, link-count, link-away, pair-long, pair-away}
-use Rattle.sheet.proofs.Joins.{filling-task, filling-link, link-sheet}
+use Rattle.sheet.proofs.Joins.{task-loaded, filling-link, link-sheet, blank-sheet, blank-filling}
 use Rattle.sheet.proofs.Judging.{sound-of}
+use Rattle.sheet.proofs.Rounds.{byteOf, first-byte}
 
 -- how an answer ends up as a reading
 pub read-refused : (a : Answer Sheet) (w last : List ℕ) (r e : ℕ) → length last ≡ length w → a ≡ refused r e → ReadIs a w last (Refused r e)
@@ -63,13 +64,30 @@ link-comes (go task) e = absurd (true≢false (sym e))
 link-comes (go link) e = refl
 link-comes (go end) e = absurd (true≢false (sym e))
 
--- a loop that stops at a command that does not come, and began at one that does, went on
-pub went-on : (P : Type 0) (r : Bool) (n m : ℕ) → n ≤ m → (m ≡ n → P) → (P → r ≡ true) → r ≡ false → n < m
-went-on P r n m h p q e = split (equal-or m n)
+-- another first byte is no command of kind k
+other-byte : (k : Kind) (p : Progress) (b : List ℕ) (at c : ℕ) → c ≡ getD b at 0 → c ≢ byteOf k → judge sheetFormat p (drop at b) ≢ go k
+other-byte k p b at c e h q =
+    h (e ∙ sym (getD-drop at b 0 0 ∙ ap (λ (i : ℕ). getD b i 0) (add-zero at)) ∙ ap (λ (d : List ℕ). getD d 0 0) (first-byte p (drop at b) k q))
+
+pub no-task-byte : (p : Progress) (b : List ℕ) (at c : ℕ) → c ≡ getD b at 0 → c ≢ 0x54 → isTask (judge sheetFormat p (drop at b)) ≡ false
+no-task-byte p b at c e h = by (judge sheetFormat p (drop at b)) (other-byte task p b at c e h)
   where
-    split : (m ≡ n) ⊎ (m ≢ n) → n < m
-    split (inl z) = absurd (true≢false (sym (q (p z)) ∙ e))
-    split (inr z) = omega arith
+    by : (o : Outcome Kind) → o ≢ go task → isTask o ≡ false
+    by (refuse r) q = refl
+    by (go board) q = refl
+    by (go task) q = absurd (q refl)
+    by (go link) q = refl
+    by (go end) q = refl
+
+pub no-link-byte : (p : Progress) (b : List ℕ) (at c : ℕ) → c ≡ getD b at 0 → c ≢ 0x45 → isLink (judge sheetFormat p (drop at b)) ≡ false
+no-link-byte p b at c e h = by (judge sheetFormat p (drop at b)) (other-byte link p b at c e h)
+  where
+    by : (o : Outcome Kind) → o ≢ go link → isLink o ≡ false
+    by (refuse r) q = refl
+    by (go board) q = refl
+    by (go task) q = refl
+    by (go link) q = absurd (q refl)
+    by (go end) q = refl
 
 no-tasks : (p l : ℕ) → taskCount (record { processors = p; limit = l; tasks = []; links = [] }) ≡ 0
 unfolding taskCount
@@ -95,12 +113,12 @@ ended-whole s d e h z = rw (le-ltb 0 (length d) (omega arith), ne-eqb (taskCount
 module _ {a : Answer Sheet} {d w₀ w : List ℕ} {n m e : ℕ} (s : Scanning a d w₀ w n m e) where
   -- the scan goes on behind a command of kind k
   goes-on : (k : Kind) (w′ : List ℕ) (n′ m′ : ℕ) → closes k ≡ false → judge sheetFormat (begun (sheetIn w)) d ≡ go k
-      → Filling w′ → length w′ ≡ length w → getD w′ 0 0 ≡ n′ → getD w′ 1 0 ≡ m′ → sheetIn w′ ≡ withCommand (sheetIn w) k (drop 1 d)
+      → Loaded w′ → length w′ ≡ length w → getD w′ 0 0 ≡ n′ → getD w′ 1 0 ≡ m′ → sheetIn w′ ≡ withCommand (sheetIn w) k (drop 1 d)
       → Scanning a (drop (1 + width k) d) w₀ w′ n′ m′ (e + (1 + width k))
   goes-on k w′ n′ m′ c j f l e₁ e₂ h =
       record {
         long = l ∙ s .long;
-        filling = f;
+        loaded = f;
         tasks = e₁;
         links = e₂;
         going = subst (λ (p : Progress). Going sheetFormat a p (e + (1 + width k)) (drop (1 + width k) d)) (sym (ap begun h)) (goes sheetFormat (s .going) k c j);
@@ -116,18 +134,18 @@ module _ {a : Answer Sheet} {d w₀ w : List ℕ} {n m e : ℕ} (s : Scanning a 
   pub scan-task : (work store : ℕ) → judge sheetFormat (begun (sheetIn w)) d ≡ go task → work ≡ numberAt 2 d 1 → store ≡ numberAt 2 d 3 → work < 65536 → store < 65536
       → Scanning a (drop 5 d) w₀ (taskWords w n work store) (n + 1) m (e + 5)
   scan-task work store j e₁ e₂ h₁ h₂ =
-      let long : fixed ≤ length w = s .filling .loaded .long in
+      let long : fixed ≤ length w = s .loaded .long in
       let few = task-few j in
       let from : taskFrom (drop 1 d) ≡ record { work = work; store = store } =
       let p : numberAt 2 (drop 1 d) 0 ≡ work = numberAt-drop 2 1 d 0 ∙ sym e₁ in
       let q : numberAt 2 (drop 1 d) 2 ≡ store = numberAt-drop 2 1 d 2 ∙ sym e₂ in
       λ x. record { work = p x; store = q x } in
       goes-on task (taskWords w n work store) (n + 1) m refl j
-      (filling-task w n work store (s .filling) (s .tasks) few h₁ h₂)
+      (task-loaded w n work store (s .loaded) (s .tasks) few h₁ h₂)
       (task-long w n work store long few)
       (task-count w n work store long few)
-      (task-away w n work store long few 1 (λ q. omega arith) (λ q. omega arith) (λ q. omega arith) ∙ s .links)
-      (sheet-task w n work store long few (s .tasks) (s .filling .loaded .links)
+      (task-away w n work store long few 1 (λ q. omega arith) (λ q. omega arith) ∙ s .links)
+      (sheet-task w n work store long few (s .tasks) h₁
       ∙ ap (λ (t : Task). record { processors = sheetIn w .processors; limit = sheetIn w .limit; tasks = sheetIn w .tasks ++ t ∷ []; links = sheetIn w .links }) (sym from))
 
   -- the ends of a link
@@ -150,16 +168,19 @@ module _ {a : Answer Sheet} {d w₀ w : List ℕ} {n m e : ℕ} (s : Scanning a 
     single : joins (sheetIn w) x y ≡ false
     single = ap₂ (joins (sheetIn w)) (sym first-end) (sym second-end) ∙ sound-of _ d link j .single
 
-    pub link-single : pairIn w x y ≡ false
-    link-single = s .filling .pairs x y (omega (arith, source-small, s .filling .loaded .tasks)) (omega (arith, target-small, s .filling .loaded .tasks)) ∙ single
+    pub link-single : Filling w → pairIn w x y ≡ false
+    link-single f = f .pairs x y source-small target-small ∙ single
+
+    pub link-filling : Filling w → (c b : ℕ) → c < 65536 → b < 65536 → Filling (linkWords (pairWords w x y) m x y c b)
+    link-filling f c b h₁ h₂ = filling-link w m x y c b f (s .links) (link-few j) source-small target-small h₁ h₂ single
 
     -- a link
-    pub scan-link : (c b : ℕ) → c ≡ numberAt 2 d 3 → b ≡ numberAt 2 d 5 → c < 65536 → b < 65536
+    pub scan-link : Filling w → (c b : ℕ) → c ≡ numberAt 2 d 3 → b ≡ numberAt 2 d 5 → c < 65536 → b < 65536
         → Scanning a (drop 7 d) w₀ (linkWords (pairWords w x y) m x y c b) n (m + 1) (e + 7)
-    scan-link c b e₃ e₄ h₁ h₂ =
+    scan-link f c b e₃ e₄ h₁ h₂ =
         let few = link-few j in
-        let long : fixed ≤ length w = s .filling .loaded .long in
-        let small : (x < 256) × (y < 256) = (omega (arith, source-small, s .filling .loaded .tasks), omega (arith, target-small, s .filling .loaded .tasks)) in
+        let long : fixed ≤ length w = s .loaded .long in
+        let small : (x < 256) × (y < 256) = (omega (arith, source-small, s .loaded .tasks), omega (arith, target-small, s .loaded .tasks)) in
         let v-long = pair-long w x y long (small .0) (small .1) in
         let v-fixed : fixed ≤ length (pairWords w x y) = omega arith in
         let from : linkFrom (drop 1 d) ≡ record { source = x; target = y; cost = c; bytes = b } =
@@ -167,12 +188,12 @@ module _ {a : Answer Sheet} {d w₀ w : List ℕ} {n m e : ℕ} (s : Scanning a 
         let q₄ : numberAt 2 (drop 1 d) 4 ≡ b = numberAt-drop 2 1 d 4 ∙ sym e₄ in
         λ i. record { source = first-end i; target = second-end i; cost = q₃ i; bytes = q₄ i } in
         goes-on link (linkWords (pairWords w x y) m x y c b) n (m + 1) refl j
-        (filling-link w m x y c b (s .filling) (s .links) few source-small target-small h₁ h₂ single)
+        (link-filling f c b h₁ h₂ .loaded)
         (link-long (pairWords w x y) m x y c b v-fixed few ∙ v-long)
-        (link-away (pairWords w x y) m x y c b v-fixed few 0 (λ q. omega arith) (λ q. omega arith) (λ q. omega arith) (λ q. omega arith) (λ q. omega arith)
+        (link-away (pairWords w x y) m x y c b v-fixed few 0 (λ q. omega arith) (λ q. omega arith) (λ q. omega arith)
         ∙ pair-away w x y long (small .0) (small .1) 0 (omega arith) ∙ s .tasks)
         (link-count (pairWords w x y) m x y c b v-fixed few)
-        (link-sheet w m x y c b (s .filling) (s .links) few source-small target-small h₁ h₂
+        (link-sheet w m x y c b f (s .links) few source-small target-small h₁ h₂
         ∙ ap (λ (l : Link). record { processors = sheetIn w .processors; limit = sheetIn w .limit; tasks = sheetIn w .tasks; links = sheetIn w .links ++ l ∷ [] }) (sym from))
 
   pub scan-refuse : (r : ℕ) → judge sheetFormat (begun (sheetIn w)) d ≡ refuse r → ReadIs a w₀ w (Refused r e)
@@ -190,7 +211,13 @@ module _ {a : Answer Sheet} {d w₀ w : List ℕ} {n m e : ℕ} (s : Scanning a 
 
   pub scan-whole : judge sheetFormat (begun (sheetIn w)) d ≡ go end → length (drop 1 d) ≡ 0 → n ≢ 0 → ReadIs a w₀ w Read
   scan-whole j h z =
-      read-value a w₀ w (s .long) (s .filling .loaded) (scan-end j ∙ ended-whole (sheetIn w) (drop 1 d) e h (λ q. z (sym (s .tasks) ∙ sym (tasks-in w) ∙ q)))
+      read-value a w₀ w (s .long) (s .loaded) (scan-end j ∙ ended-whole (sheetIn w) (drop 1 d) e h (λ q. z (sym (s .tasks) ∙ sym (tasks-in w) ∙ q)))
+
+-- behind a link no task comes
+behind-link : (w d : List ℕ) (m : ℕ) → getD w 1 0 ≡ m + 1 → judge sheetFormat (begun (sheetIn w)) d ≢ go task
+behind-link w d m e j =
+    let none : linkCount (sheetIn w) ≡ 0 = eqb-true (linkCount (sheetIn w)) 0 (sound-of _ d task j .turn) in
+    omega (arith, links-in w)
 
 -- bytes of which the first `at` are read
 module _ {a : Answer Sheet} {b w₀ w : List ℕ} {n m at : ℕ} (s : Walking a b w₀ w n m at) where
@@ -217,42 +244,25 @@ module _ {a : Answer Sheet} {b w₀ w : List ℕ} {n m at : ℕ} (s : Walking a 
             (scan-task (s .scanning) work store j (sym (operand16 1 (at + 1) refl)) (sym (operand16 3 (at + 3) refl)) (number-lt 2 b (at + 1) small) (number-lt 2 b (at + 3) small));
       }
 
-  pub walk-single : judge sheetFormat (begun (sheetIn w)) (drop at b) ≡ go link → pairIn w (getD b (at + 1) 0) (getD b (at + 2) 0) ≡ false
-  walk-single j = link-single (s .scanning) _ _ j (sym (operand 1 (at + 1) refl)) (sym (operand 2 (at + 2) refl))
-
-  pub walk-link : judge sheetFormat (begun (sheetIn w)) (drop at b) ≡ go link → ((k : ℕ) → getD b k 0 < 256) → Walking a b w₀ (addedWords b at w m) n (m + 1) (at + 7)
-  unfolding addedWords
-  walk-link j small =
-      let x : ℕ = getD b (at + 1) 0 in
-      let y : ℕ = getD b (at + 2) 0 in
-      let c : ℕ = numberAt 2 b (at + 3) in
-      let z : ℕ = numberAt 2 b (at + 5) in
-      record {
-        room = walk-room link j;
-        scanning =
-            subst (λ (d : List ℕ). Scanning a d w₀ (linkWords (pairWords w x y) m x y c z) n (m + 1) (at + 7)) (drop-drop 7 at b)
-            (scan-link (s .scanning) x y j (sym (operand 1 (at + 1) refl)) (sym (operand 2 (at + 2) refl)) c z (sym (operand16 3 (at + 3) refl)) (sym (operand16 5 (at + 5) refl)) (number-lt 2 b (at + 3) small) (number-lt 2 b (at + 5) small));
-      }
-
   -- the same of the words that a callee left
   pub task-added : (w′ : List ℕ) → judge sheetFormat (begun (sheetIn w)) (drop at b) ≡ go task → ((k : ℕ) → getD b k 0 < 256)
       → w′ ≡ taskWords w n (numberAt 2 b (at + 1)) (numberAt 2 b (at + 3)) → Walking a b w₀ w′ (n + 1) m (at + 5)
   task-added w′ j small e = subst (λ (v : List ℕ). Walking a b w₀ v (n + 1) m (at + 5)) (sym e) (walk-task j small)
 
-  pub link-added : (w′ : List ℕ) → judge sheetFormat (begun (sheetIn w)) (drop at b) ≡ go link → ((k : ℕ) → getD b k 0 < 256)
-      → w′ ≡ addedWords b at w m → Walking a b w₀ w′ n (m + 1) (at + 7)
-  link-added w′ j small e = subst (λ (v : List ℕ). Walking a b w₀ v n (m + 1) (at + 7)) (sym e) (walk-link j small)
+  -- no task comes, at an offset that is equal
+  pub tasks-end : (e : ℕ) → at ≡ e → isTask (judge sheetFormat (begun (sheetIn w)) (drop at b)) ≡ false
+      → Walking a b w₀ w n m e × (judge sheetFormat (begun (sheetIn w)) (drop e b) ≢ go task)
+  tasks-end e h q =
+      subst (λ (x : ℕ). Walking a b w₀ w n m x × (judge sheetFormat (begun (sheetIn w)) (drop x b) ≢ go task)) h
+      (s, λ j. true≢false (sym (ap isTask j) ∙ q))
 
-  -- the same at an offset that is equal, and from words that are as long
-  pub walk-at : (e : ℕ) → at ≡ e → Walking a b w₀ w n m e
-  walk-at e h = subst (λ (x : ℕ). Walking a b w₀ w n m x) h s
-
+  -- from words that are as long
   pub walk-from : (v : List ℕ) → length w₀ ≡ length v → Walking a b v w n m at
   walk-from v e =
       let q = s .scanning in
       record {
         room = s .room;
-        scanning = record { long = q .long ∙ e; filling = q .filling; tasks = q .tasks; links = q .links; going = q .going };
+        scanning = record { long = q .long ∙ e; loaded = q .loaded; tasks = q .tasks; links = q .links; going = q .going };
       }
 
   behind : length (drop 1 (drop at b)) ≡ length b - (at + 1)
@@ -270,16 +280,77 @@ module _ {a : Answer Sheet} {b w₀ w : List ℕ} {n m at : ℕ} (s : Walking a 
       tail (yes h) = rw (lt-ltb (at + 1) (length b) h) (scan-tail (s .scanning) j (omega (arith, behind)))
       tail (no h) = rw (le-ltb (at + 1) (length b) (omega arith)) (none-behind (omega arith) (ℕ-discrete n 0))
 
+-- behind the tasks, whose rows are blank
+pub scan-blank : {a : Answer Sheet} {d w₀ w w′ : List ℕ} {n e : ℕ} → Scanning a d w₀ w n 0 e → (k : ℕ) → n ≡ k → Blanked (3856 + 8 * k) w w′
+    → Filling w′ × Scanning a d w₀ w′ n 0 e
+scan-blank {a} {d} {e = e} s k same b =
+    let f = blank-filling (s .loaded) (s .tasks ∙ same) (s .links) b in (
+      f,
+      record {
+        long = b .long ∙ s .long;
+        loaded = f .loaded;
+        tasks = b .low 0 (omega arith) ∙ s .tasks;
+        links = b .low 1 (omega arith) ∙ s .links;
+        going = subst (λ (t : Sheet). Going sheetFormat a (begun t) e d) (sym (blank-sheet (s .loaded) (s .tasks ∙ same) (s .links) b)) (s .going);
+      },
+    )
+
+pub links-begin : {a : Answer Sheet} {b w₀ w w′ : List ℕ} {n at : ℕ} → Walking a b w₀ w n 0 at → judge sheetFormat (begun (sheetIn w)) (drop at b) ≢ go task
+    → Blanked (3856 + 8 * n) w w′ → Linking a b w′ w′ n 0 at
+links-begin {a} {b} {n = n} {at = at} s h k =
+    let q = s .scanning in
+    let r = scan-blank q n refl k in
+    record {
+      walking = walk-from (record { room = s .room; scanning = r .1 }) _ (sym (k .long ∙ q .long));
+      filling = r .0;
+      no-task = λ j. h (ap (λ (t : Sheet). judge sheetFormat (begun t) (drop at b)) (sym (blank-sheet (q .loaded) (q .tasks) (q .links) k)) ∙ j);
+    }
+
+module _ {a : Answer Sheet} {b w₀ w : List ℕ} {n m at : ℕ} (s : Linking a b w₀ w n m at) where
+  pub walk-single : judge sheetFormat (begun (sheetIn w)) (drop at b) ≡ go link → pairIn w (getD b (at + 1) 0) (getD b (at + 2) 0) ≡ false
+  walk-single j = link-single (s .walking .scanning) _ _ j (sym (operand (s .walking) 1 (at + 1) refl)) (sym (operand (s .walking) 2 (at + 2) refl)) (s .filling)
+
+  -- a link more, in the words that a callee left
+  pub link-added : (w′ : List ℕ) → judge sheetFormat (begun (sheetIn w)) (drop at b) ≡ go link → ((k : ℕ) → getD b k 0 < 256)
+      → w′ ≡ addedWords b at w m → Linking a b w₀ w′ n (m + 1) (at + 7)
+  unfolding addedWords
+  link-added w′ j small e =
+      let x : ℕ = getD b (at + 1) 0 in
+      let y : ℕ = getD b (at + 2) 0 in
+      let c : ℕ = numberAt 2 b (at + 3) in
+      let z : ℕ = numberAt 2 b (at + 5) in
+      let p : x ≡ getD (drop at b) 1 0 = sym (operand (s .walking) 1 (at + 1) refl) in
+      let q : y ≡ getD (drop at b) 2 0 = sym (operand (s .walking) 2 (at + 2) refl) in
+      let c-small : c < 65536 = number-lt 2 b (at + 3) small in
+      let z-small : z < 65536 = number-lt 2 b (at + 5) small in
+      let t = scan-link (s .walking .scanning) x y j p q (s .filling) c z (sym (operand16 (s .walking) 3 (at + 3) refl)) (sym (operand16 (s .walking) 5 (at + 5) refl)) c-small z-small in
+      subst (λ (v : List ℕ). Linking a b w₀ v n (m + 1) (at + 7)) (sym e)
+      (record {
+        walking = record { room = walk-room (s .walking) link j; scanning = subst (λ (d : List ℕ). Scanning a d w₀ (linkWords (pairWords w x y) m x y c z) n (m + 1) (at + 7)) (drop-drop 7 at b) t };
+        filling = link-filling (s .walking .scanning) x y j p q (s .filling) c z c-small z-small;
+        no-task = behind-link (linkWords (pairWords w x y) m x y c z) (drop (at + 7) b) m (t .links);
+      })
+
+  -- no link comes, at an offset that is equal
+  pub links-end : (e : ℕ) → at ≡ e → isLink (judge sheetFormat (begun (sheetIn w)) (drop at b)) ≡ false
+      → Linking a b w₀ w n m e × (judge sheetFormat (begun (sheetIn w)) (drop e b) ≢ go link)
+  links-end e h q =
+      subst (λ (x : ℕ). Linking a b w₀ w n m x × (judge sheetFormat (begun (sheetIn w)) (drop x b) ≢ go link)) h
+      (s, λ j. true≢false (sym (ap isLink j) ∙ q))
+
+  pub link-from : (v : List ℕ) → length w₀ ≡ length v → Linking a b v w n m at
+  link-from v e = record { walking = walk-from (s .walking) v e; filling = s .filling; no-task = s .no-task }
+
 -- behind the board command
-pub bare-counts : {p l : ℕ} {u w : List ℕ} → FillingOf (record { processors = p; limit = l; tasks = []; links = [] }) u w → (getD w 0 0 ≡ 0) × (getD w 1 0 ≡ 0)
+pub bare-counts : {p l : ℕ} {u w : List ℕ} → LoadedOf (record { processors = p; limit = l; tasks = []; links = [] }) u w → (getD w 0 0 ≡ 0) × (getD w 1 0 ≡ 0)
 bare-counts {p} {l} {u} {w} f = (sym (tasks-in w) ∙ ap taskCount (f .sheet) ∙ no-tasks p l, sym (links-in w) ∙ ap linkCount (f .sheet) ∙ no-links p l)
 
-pub scan-board : {a : Answer Sheet} {d u : List ℕ} {e : ℕ} (v w : List ℕ) (p l : ℕ) → length w ≡ length v → FillingOf (record { processors = p; limit = l; tasks = []; links = [] }) u w
+pub scan-board : {a : Answer Sheet} {d u : List ℕ} {e : ℕ} (v w : List ℕ) (p l : ℕ) → length w ≡ length v → LoadedOf (record { processors = p; limit = l; tasks = []; links = [] }) u w
     → Going sheetFormat a (begun (sheetIn w)) e d → Scanning a d v w 0 0 e
 scan-board v w p l long f g =
     record {
       long = long;
-      filling = f .filling;
+      loaded = f .loaded;
       tasks = bare-counts f .0;
       links = bare-counts f .1;
       going = g;
@@ -300,7 +371,7 @@ open-room b j =
     (omega (arith, simp length-drop at (k .room), comes sheetFormat _ _ board j .more), omega (arith, leb-true (getD (drop 1 b) 0 0) 16 (inside .1), getD-drop 1 b 0 0))
 
 pub walk-starts : (b w : List ℕ) (p l : ℕ) → judge sheetFormat fresh b ≡ go board → p ≡ getD b 1 0 → l ≡ numberAt 4 b 2 → (v : List ℕ)
-    → FillingOf (record { processors = p; limit = l; tasks = []; links = [] }) v w → Walking (readForm b) b w w 0 0 6
+    → LoadedOf (record { processors = p; limit = l; tasks = []; links = [] }) v w → Walking (readForm b) b w w 0 0 6
 unfolding readForm
 walk-starts b w p l j e₁ e₂ v f =
     let room = open-room b j in

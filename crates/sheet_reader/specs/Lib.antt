@@ -1,2 +1,3 @@
+-- The definitions of `sheet_reader`.
 pub mod Answers
 pub mod Scanning

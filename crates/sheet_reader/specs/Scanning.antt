@@ -1,21 +1,22 @@
 -- A sheet that is being read from bytes: the tables so far, and that what is still to be read gives the whole answer.
 use Prim.Native.Nat.{ℕ, suc, _+_, _≤_}
 use mathlib.Core.Path.{_≡_}
+use mathlib.Core.Logic.{_≢_}
 use mathlib.Core.List.{List}
 use lib.ListN.{length, getD, drop}
 use Rattle.folds.specs.Answers.{Answer}
 use Rattle.numbers.specs.Number.{numberAt}
-use Rattle.commands.specs.Commands.{readFrom}
+use Rattle.commands.specs.Commands.{go, judge, readFrom}
 use Rattle.commands.specs.Reading.{Going}
 use Rattle.sheet.specs.Sheet.{Sheet}
-use Rattle.sheet.specs.Format.{sheetFormat}
-use Rattle.sheet.specs.Tables.{sheetIn, Filling, linkWords, pairWords}
+use Rattle.sheet.specs.Format.{task, sheetFormat}
+use Rattle.sheet.specs.Tables.{sheetIn, Loaded, Filling, linkWords, pairWords}
 use Rattle.sheet.specs.Faults.{begun}
 
 -- the sheet so far is in the words w, which have n tasks and m links; d is still to be read, from offset e on, and gives the answer a
 pub record Scanning (a : Answer Sheet) (d w₀ w : List ℕ) (n m e : ℕ) : Type 0 where
   pub long : length w ≡ length w₀
-  pub filling : Filling w
+  pub loaded : Loaded w
   pub tasks : getD w 0 0 ≡ n
   pub links : getD w 1 0 ≡ m
   pub going : Going sheetFormat a (begun (sheetIn w)) e d
@@ -24,6 +25,12 @@ pub record Scanning (a : Answer Sheet) (d w₀ w : List ℕ) (n m e : ℕ) : Typ
 pub record Walking (a : Answer Sheet) (b w₀ w : List ℕ) (n m at : ℕ) : Type 0 where
   pub room : at ≤ length b
   pub scanning : Scanning a (drop at b) w₀ w n m at
+
+-- the same behind the tasks: a bit is kept for each pair that a link joins, and no task comes that nothing refuses
+pub record Linking (a : Answer Sheet) (b w₀ w : List ℕ) (n m at : ℕ) : Type 0 where
+  pub walking : Walking a b w₀ w n m at
+  pub filling : Filling w
+  pub no-task : judge sheetFormat (begun (sheetIn w)) (drop at b) ≢ go task
 
 -- the words with the link of the command at offset `at` put behind m others
 unfoldable pub addedWords : List ℕ → ℕ → List ℕ → ℕ → List ℕ

@@ -2,18 +2,17 @@
 ghost use mathlib.Core.Path.{_≡_};
 ghost use mathlib.Core.Bool.{false};
 ghost use mathlib.Core.Option.{some};
-ghost use mathlib.Core.List.{[]};
-ghost use Prim.Native.Nat.{_+_, _-_, _*_, _≤_, _<_};
+ghost use mathlib.Core.Logic.{_≢_};
+ghost use Prim.Native.Nat.{_+_, _*_, _≤_, _<_};
 ghost use lib.ListN.{length, getD, drop};
 ghost use Rattle.numbers.specs.Number.{numberAt};
 ghost use Rattle.commands.specs.Commands.{judge, judgeKind, go};
 ghost use Rattle.workspace.specs.Area.{fixed};
-ghost use Rattle.sheet.specs.Sheet.{taskCount, linkCount};
-ghost use Rattle.sheet.specs.Format.{task, link, board, end, sheetFormat, fresh, readForm};
-ghost use Rattle.sheet.specs.Tables.{sheetIn, pairIn, Filling, FillingOf, taskWords};
+ghost use Rattle.sheet.specs.Format.{task, link, sheetFormat, fresh, readForm};
+ghost use Rattle.sheet.specs.Tables.{sheetIn, pairIn, Loaded, Filling, taskWords};
 ghost use Rattle.sheet.specs.Faults.{begun, taskFault, linkFault, numbered};
 ghost use Rattle.sheet_reader.specs.Answers.{outcomeOf, isTask, isLink, openingOf, closedOf, ReadIs};
-ghost use Rattle.sheet_reader.specs.Scanning.{Walking, addedWords};
+ghost use Rattle.sheet_reader.specs.Scanning.{Walking, Linking, addedWords};
 use crate::Reading;
 use sheet::pairs;
 use sheet::tables;
@@ -62,7 +61,7 @@ pub fn link_fault(w: &[u32], tasks: usize, links: usize, source: usize, target: 
 
 // The task command at `at`.
 fn task_at(bytes: &[u8], at: usize, w: &[u32], tasks: usize, links: usize) -> Next
-    requires { ⌜ Filling (now w) ⌝ }
+    requires { ⌜ Loaded (now w) ⌝ }
     requires { ⌜ (tasks ≡ getD (now w) 0 0) × (links ≡ getD (now w) 1 0) × (at < length (now bytes)) ⌝ }
     ensures { λ r. ⌜ outcomeOf r ≡ judgeKind sheetFormat (begun (sheetIn (now (w .entry)))) (some task) (drop (at + 1) (now (bytes .entry))) ⌝ }
 {
@@ -186,15 +185,6 @@ fn add_link(bytes: &[u8], at: usize, w: &mut [u32], links: usize)
     tables::put_link(w, links, source as u16, target as u16, cost, size);
 }
 
-// The tables of a board without tasks.
-pub fn begin(w: &mut [u32], processors: u8, limit: u32)
-    requires { ⌜ (fixed ≤ length (now w)) × (processors ≤ 16) ⌝ }
-    ensures { λ _. ⌜ FillingOf (record { processors = processors; limit = limit; tasks = []; links = [] }) (now (w .entry)) (now (w .exit)) ⌝ }
-{
-    pairs::blank(w);
-    tables::put_board(w, processors, limit);
-}
-
 // What the end command at `at` closes.
 fn closing(bytes: &[u8], at: usize, tasks: usize) -> Reading
     requires { ⌜ at < length (now bytes) ⌝ }
@@ -210,13 +200,19 @@ fn closing(bytes: &[u8], at: usize, tasks: usize) -> Reading
     Reading::Read
 }
 
-// Whether a task stands at `at` that nothing refuses.
-fn is_task(bytes: &[u8], at: usize, w: &[u32], tasks: usize, links: usize) -> bool
-    requires { ⌜ Filling (now w) ⌝ }
-    requires { ⌜ (tasks ≡ getD (now w) 0 0) × (links ≡ getD (now w) 1 0) × (at ≤ length (now bytes)) ⌝ }
+// Whether a task stands at `at` that nothing refuses, where there is no link yet.
+fn is_task(bytes: &[u8], at: usize, w: &[u32], tasks: usize) -> bool
+    requires { ⌜ Loaded (now w) ⌝ }
+    requires { ⌜ (tasks ≡ getD (now w) 0 0) × (getD (now w) 1 0 ≡ 0) × (at ≤ length (now bytes)) ⌝ }
     ensures { λ r. ⌜ r ≡ isTask (judge sheetFormat (begun (sheetIn (now (w .entry)))) (drop at (now (bytes .entry)))) ⌝ }
 {
-    match next_at(bytes, at, w, tasks, links) {
+    if bytes.len() <= at {
+        return false;
+    }
+    if reader::get8(bytes, at) != 0x54 {
+        return false;
+    }
+    match task_at(bytes, at, w, tasks, 0) {
         Next::Task => true,
         Next::Link => false,
         Next::End => false,
@@ -230,7 +226,13 @@ fn is_link(bytes: &[u8], at: usize, w: &[u32], tasks: usize, links: usize) -> bo
     requires { ⌜ (tasks ≡ getD (now w) 0 0) × (links ≡ getD (now w) 1 0) × (at ≤ length (now bytes)) ⌝ }
     ensures { λ r. ⌜ r ≡ isLink (judge sheetFormat (begun (sheetIn (now (w .entry)))) (drop at (now (bytes .entry)))) ⌝ }
 {
-    match next_at(bytes, at, w, tasks, links) {
+    if bytes.len() <= at {
+        return false;
+    }
+    if reader::get8(bytes, at) != 0x45 {
+        return false;
+    }
+    match link_at(bytes, at, w, tasks, links) {
         Next::Task => false,
         Next::Link => true,
         Next::End => false,
@@ -238,16 +240,15 @@ fn is_link(bytes: &[u8], at: usize, w: &[u32], tasks: usize, links: usize) -> bo
     }
 }
 
-// Adds the task at `start` and those that follow it; the answer is how many tasks there are. A loop for each kind of command tells
-// the usual commands from the rest by tests that go one way.
-fn add_tasks(bytes: &[u8], start: usize, w: &mut [u32], before: usize, links: usize) -> usize
-    requires { ⌜ Walking (readForm (now bytes)) (now bytes) (now w) (now w) before links start ⌝ }
-    requires { ⌜ judge sheetFormat (begun (sheetIn (now w))) (drop start (now bytes)) ≡ go task ⌝ }
-    ensures { λ r. ⌜ (before < r) × Walking (readForm (now (bytes .entry))) (now (bytes .entry)) (now (w .entry)) (now (w .exit)) r links (start + 5 * (r - before)) ⌝ }
+// Adds the tasks behind the board command; the answer is how many there are. A loop for each kind of command tells the usual
+// commands from the rest by tests that go one way.
+fn add_tasks(bytes: &[u8], w: &mut [u32]) -> usize
+    requires { ⌜ Walking (readForm (now bytes)) (now bytes) (now w) (now w) 0 0 6 ⌝ }
+    ensures { λ r. ⌜ Walking (readForm (now (bytes .entry))) (now (bytes .entry)) (now (w .entry)) (now (w .exit)) r 0 (6 + 5 * r) × (judge sheetFormat (begun (sheetIn (now (w .exit)))) (drop (6 + 5 * r) (now (bytes .entry))) ≢ go task) ⌝ }
 {
-    let mut at = start;
-    let mut tasks = before;
-    while is_task(bytes, at, w, tasks, links) {
+    let mut at = 6;
+    let mut tasks = 0;
+    while is_task(bytes, at, w, tasks) {
         add_task(bytes, at, w, tasks);
         tasks += 1;
         at += 5;
@@ -255,14 +256,13 @@ fn add_tasks(bytes: &[u8], start: usize, w: &mut [u32], before: usize, links: us
     tasks
 }
 
-// Adds the link at `start` and those that follow it; the answer is how many links there are.
-fn add_links(bytes: &[u8], start: usize, w: &mut [u32], tasks: usize, before: usize) -> usize
-    requires { ⌜ Walking (readForm (now bytes)) (now bytes) (now w) (now w) tasks before start ⌝ }
-    requires { ⌜ judge sheetFormat (begun (sheetIn (now w))) (drop start (now bytes)) ≡ go link ⌝ }
-    ensures { λ r. ⌜ (before < r) × Walking (readForm (now (bytes .entry))) (now (bytes .entry)) (now (w .entry)) (now (w .exit)) tasks r (start + 7 * (r - before)) ⌝ }
+// Adds the links from `start` on, behind so many tasks; the answer is how many there are.
+fn add_links(bytes: &[u8], start: usize, w: &mut [u32], tasks: usize) -> usize
+    requires { ⌜ Linking (readForm (now bytes)) (now bytes) (now w) (now w) tasks 0 start ⌝ }
+    ensures { λ r. ⌜ Linking (readForm (now (bytes .entry))) (now (bytes .entry)) (now (w .entry)) (now (w .exit)) tasks r (start + 7 * r) × (judge sheetFormat (begun (sheetIn (now (w .exit)))) (drop (start + 7 * r) (now (bytes .entry))) ≢ go link) ⌝ }
 {
     let mut at = start;
-    let mut links = before;
+    let mut links = 0;
     while is_link(bytes, at, w, tasks, links) {
         add_link(bytes, at, w, links);
         links += 1;
@@ -271,34 +271,32 @@ fn add_links(bytes: &[u8], start: usize, w: &mut [u32], tasks: usize, before: us
     links
 }
 
-// Reads command by command behind the board command.
+// What stands at `at`, behind the tasks and the links: the end, or what is refused. Neither a task nor a link that nothing refuses
+// is left.
+fn rest(bytes: &[u8], at: usize, w: &[u32], tasks: usize, links: usize) -> Reading
+    requires { ⌜ Linking (readForm (now bytes)) (now bytes) (now w) (now w) tasks links at ⌝ }
+    requires { ⌜ judge sheetFormat (begun (sheetIn (now w))) (drop at (now bytes)) ≢ go link ⌝ }
+    ensures { λ r. ⌜ ReadIs (readForm (now (bytes .entry))) (now (w .entry)) (now (w .entry)) r ⌝ }
+{
+    match next_at(bytes, at, w, tasks, links) {
+        Next::Task => Reading::Refused(3, at),
+        Next::Link => Reading::Refused(8, at),
+        Next::End => closing(bytes, at, tasks),
+        Next::No(r) => Reading::Refused(r, at),
+    }
+}
+
+// Reads command by command behind the board command: the tasks, whose rows are then cleared for the pairs that the links join, the
+// links, and what is left.
 fn walk(bytes: &[u8], w: &mut [u32]) -> Reading
     requires { ⌜ Walking (readForm (now bytes)) (now bytes) (now w) (now w) 0 0 6 ⌝ }
     ensures { λ r. ⌜ ReadIs (readForm (now (bytes .entry))) (now (w .entry)) (now (w .exit)) r ⌝ }
 {
-    let mut at = 6;
-    let mut tasks = 0;
-    let mut links = 0;
-    loop {
-        match next_at(bytes, at, w, tasks, links) {
-            Next::Task => {
-                let more = add_tasks(bytes, at, w, tasks, links);
-                at += 5 * (more - tasks);
-                tasks = more;
-            }
-            Next::Link => {
-                let more = add_links(bytes, at, w, tasks, links);
-                at += 7 * (more - links);
-                links = more;
-            }
-            Next::End => {
-                return closing(bytes, at, tasks);
-            }
-            Next::No(r) => {
-                return Reading::Refused(r, at);
-            }
-        }
-    }
+    let tasks = add_tasks(bytes, w);
+    pairs::blank(w, tasks);
+    let at = 6 + 5 * tasks;
+    let links = add_links(bytes, at, w, tasks);
+    rest(bytes, at + 7 * links, w, tasks, links)
 }
 
 // Reads any bytes as a sheet: the first of refusals 1 to 9, or the sheet in the tables.
@@ -310,6 +308,6 @@ pub fn read(bytes: &[u8], w: &mut [u32]) -> Reading
     if fault != 0 {
         return Reading::Refused(fault, 0);
     }
-    begin(w, reader::get8(bytes, 1) as u8, reader::get32(bytes, 2));
+    tables::put_board(w, reader::get8(bytes, 1) as u8, reader::get32(bytes, 2));
     walk(bytes, w)
 }

@@ -7,7 +7,7 @@ ghost use lib.ListN.{length, getD};
 ghost use Rattle.workspace.specs.Area.{fixed};
 ghost use Rattle.sheet.specs.Format.{readForm};
 ghost use Rattle.sheet.specs.Writing.{valueBytes, taskValueBytes, linkValueBytes};
-ghost use Rattle.sheet.specs.Tables.{sheetIn, pairIn, Filling, FillingOf, linkWords, pairWords};
+ghost use Rattle.sheet.specs.Tables.{pairIn, Loaded, Filling, linkWords, pairWords};
 ghost use Rattle.sheet_reader.specs.Answers.{ReadIs, valuesClosed};
 ghost use Rattle.sheet_reader.specs.Scanning.{readOn};
 use crate::Reading;
@@ -66,7 +66,7 @@ fn load_links(links: &[u16], tasks: usize, w: &mut [u32]) -> Reading
 
 // The tasks' values, and then the links'.
 fn load_tasks(tasks: &[u16], links: &[u16], w: &mut [u32]) -> Reading
-    requires { ⌜ Filling (now w) ⌝ }
+    requires { ⌜ Loaded (now w) ⌝ }
     requires { ⌜ (getD (now w) 0 0 ≡ 0) × (getD (now w) 1 0 ≡ 0) ⌝ }
     ensures { λ r. ⌜ ReadIs (readOn (now (w .entry)) (taskValueBytes (now (tasks .entry)) (now (links .entry))) 6) (now (w .entry)) (now (w .exit)) r ⌝ }
 {
@@ -84,6 +84,7 @@ fn load_tasks(tasks: &[u16], links: &[u16], w: &mut [u32]) -> Reading
     if tasks.len() % 2 != 0 {
         return Reading::Refused(1, 6 + 5 * n);
     }
+    pairs::blank(w, n);
     load_links(links, n, w)
 }
 
@@ -98,6 +99,6 @@ pub fn load(processors: u8, limit: u32, tasks: &[u16], links: &[u16], w: &mut [u
     if 16 < processors {
         return Reading::Refused(6, 0);
     }
-    bytes::begin(w, processors, limit);
+    tables::put_board(w, processors, limit);
     load_tasks(tasks, links, w)
 }

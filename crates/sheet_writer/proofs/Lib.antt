@@ -1,1 +1,2 @@
+-- The laws of `sheet_writer`.
 pub mod Stores

@@ -15,6 +15,7 @@ use Rattle.sheet.specs.Sheet.{taskCount, linkCount}
 use Rattle.bundle.specs.Bundle.{programmeCount, programmeOf}
 use Rattle.bundle.proofs.Lying.{lies-le}
 use Rattle.messages.specs.Counting.{whole, each}
+use Rattle.workspace.specs.Area.{ClearIs}
 use Rattle.messages.proofs.Walking.{laid-by}
 use Rattle.machine.specs.Machine.{Processor, freshProcessor, freshState, processorOf, stampOf}
 use Rattle.machine.specs.Runs.{left}
@@ -22,40 +23,13 @@ use Rattle.state.specs.Words.{stampIn}
 use Rattle.starting.specs.Starts.{WipeIs, FirstIs, StartIs, TakeIs}
 use Rattle.machine.proofs.Runs.{fresh-processor, fresh-left}
 
--- a word that is put is 0 there, also past the end
-put-zero : (w : List ℕ) (i : ℕ) → getD (set w i 0) i 0 ≡ 0
-put-zero w i =
-    elim (decLt i (length w)) [ yes l ↦ getD-set-same w i 0 0 l | no l ↦ List·getD-eq-default (set w i 0) 0 {n = i} (simp length-set (omega arith)) ]
-
--- wiping
-pub record Wiping (v w : List ℕ) (i : ℕ) : Type 0 where
-  pub long : length w ≡ length v
-  pub from : 32 ≤ i
-  pub zeros : (j : ℕ) → 32 ≤ j → j < i → getD w j 0 ≡ 0
-  pub low : (j : ℕ) → j < 32 → getD w j 0 ≡ getD v j 0
-
-pub wiping-starts : (v : List ℕ) → Wiping v v 32
-wiping-starts v = record { long = refl; from = omega arith; zeros = λ j l m. absurd (omega arith); low = λ j l. refl }
-
-pub wiping-more : {v w : List ℕ} {i : ℕ} (u : List ℕ) → Wiping v w i → u ≡ set w i 0 → Wiping v u (i + 1)
-wiping-more {v} {w} {i} u h e =
-    rw e
-    (record {
-      long = simp length-set (h .long);
-      from = omega (arith, h .from);
-      zeros = λ j l m. ⊎-elim (λ (q : j < i). kept j (λ x. omega arith) ∙ h .zeros j l q) (λ (q : j ≡ i). ap (λ (n : ℕ). getD (set w i 0) n 0) q ∙ put-zero w i) (below-suc (rw add-one at m));
-      low = λ j l. kept j (λ x. omega (arith, h .from)) ∙ h .low j l;
-    })
-  where
-    kept : (j : ℕ) → (j ≡ i → ⊥) → getD (set w i 0) j 0 ≡ getD w j 0
-    kept j d = getD-set-other w i j 0 0 d
-
-pub wiping-ends : {v w : List ℕ} {i : ℕ} → Wiping v w i → min (length v) 1120 ≤ i → WipeIs v w
-wiping-ends {v} {w} {i} h l =
+-- the words that are there are cleared, and past the end they are 0
+pub wiped-all : {w last : List ℕ} (l h e : ℕ) → h ≡ min l 1024 → e ≡ min (length w) (96 + h) → ClearIs w last 32 e → WipeIs w last l
+wiped-all {w} {last} l h e p q r =
     record {
-      long = h .long;
-      zeros = λ j m n. elim (decLt j i) [ yes q ↦ h .zeros j m q | no q ↦ List·getD-eq-default w 0 {n = j} (omega (arith, h .long)) ];
-      low = h .low;
+      long = r .long;
+      zeros = λ i m n. elim (decLt i e) [ yes b ↦ r .zeros i m b | no b ↦ List·getD-eq-default last 0 {n = i} (omega (arith, r .long)) ];
+      low = λ i m. r .other i (inl m);
     }
 
 -- the first commands
@@ -117,7 +91,7 @@ started from w v last m n l c h eh t g =
           g .keeps s b sheet bundle fields (omega (arith, t .long)) em few en tasks el links ec room (laid-by (λ i h. t .same i (omega arith) (omega arith)) laid);
     }
 
-module _ (w a p q r v last : List ℕ) (m n l c : ℕ) (fits : (i : ℕ) → getD w i 0 < 4294967296) (wiped : WipeIs w a) (ep : p ≡ set a 17 (m % 4294967296)) (eq : q ≡ set p 18 (n % 4294967296))
+module _ (w a p q r v last : List ℕ) (m n l c : ℕ) (fits : (i : ℕ) → getD w i 0 < 4294967296) (wiped : WipeIs w a l) (ep : p ≡ set a 17 (m % 4294967296)) (eq : q ≡ set p 18 (n % 4294967296))
     (er : r ≡ set q 19 (l % 4294967296)) (ev : v ≡ set r 20 (c % 4294967296)) (k : ℕ) (ek : k ≡ min m 16) (g : FirstIs v last k) where
   lengths : length v ≡ length w
   lengths = ap length ev ∙ length-set r 20 _ ∙ ap length er ∙ length-set q 19 _ ∙ ap length eq ∙ length-set p 18 _ ∙ ap length ep ∙ length-set a 17 _ ∙ wiped .long
@@ -157,7 +131,7 @@ module _ (w a p q r v last : List ℕ) (m n l c : ℕ) (fits : (i : ℕ) → get
     low : (i : ℕ) → i < 17 → getD v i 0 ≡ getD w i 0
     low i h = others i (λ z. omega arith) (λ z. omega arith) (λ z. omega arith) (λ z. omega arith) ∙ wiped .low i (omega arith)
 
-    zero-at : (i : ℕ) → 48 ≤ i → i < 1120 → getD last i 0 ≡ 0
+    zero-at : (i : ℕ) → 48 ≤ i → i < 96 + min l 1024 → getD last i 0 ≡ 0
     zero-at i h j = g .other i (inr h) ∙ others i (λ z. omega arith) (λ z. omega arith) (λ z. omega arith) (λ z. omega arith) ∙ wiped .zeros i (omega arith) j
 
   pub begun : StartIs w w last m n l c

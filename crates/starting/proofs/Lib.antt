@@ -1,3 +1,4 @@
+-- The laws of `starting`.
 pub mod Fresh
 pub mod Opens
 pub mod Begins

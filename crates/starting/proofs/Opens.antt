@@ -70,13 +70,13 @@ module _ (sheet bundle w u state : List ℕ) (p n l limit : ℕ) (f : Judged) (h
       second-of b d = cc
 
 pub opened-in : (w sheet bundle part after state last : List ℕ) (p n l limit : ℕ) (r : Judged) → Loaded w → p ≡ sheetIn w .processors → n ≡ taskCount (sheetIn w) → l ≡ linkCount (sheetIn w)
-    → limit ≡ sheetIn w .limit → limit < 4294967296 → AdmitIs sheet bundle (midOf 8192 (length w - 8192) w) part state last p n l limit r → length after ≡ length w
-    → after ≡ putMid 8192 (length w - 8192) w part → OpenIs sheet bundle w after state last r
+    → limit ≡ sheetIn w .limit → limit < 4294967296 → AdmitIs sheet bundle (midOf 3856 (length w - 3856) w) part state last p n l limit r → length after ≡ length w
+    → after ≡ putMid 3856 (length w - 3856) w part → OpenIs sheet bundle w after state last r
 opened-in w sheet bundle part after state last p n l limit r h ep en el ei small g e q =
-    let long : 4352 ≤ length (midOf 8192 (length w - 8192) w) = omega (arith, part-long w 8192, h .long) in
+    let long : 4352 ≤ length (midOf 3856 (length w - 3856) w) = omega (arith, part-long w 3856, h .long) in
     record {
       long = e;
-      low = λ i b. ap (λ (x : List ℕ). getD x i 0) q ∙ part-low w part 8192 i (omega (arith, h .long)) b;
+      low = λ i b. ap (λ (x : List ℕ). getD x i 0) q ∙ part-low w part 3856 i (omega (arith, h .long)) b;
       state-long = g .state-long;
       untouched = g .untouched;
       is = λ f. g .is (sheetIn w) (known-in w sheet p n l limit h ep en el ei small f) long;

@@ -1,1 +1,2 @@
+-- The definitions of `starting`.
 pub mod Starts

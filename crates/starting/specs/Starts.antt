@@ -1,5 +1,5 @@
 -- What starting the machine promises: words that keep the fresh state.
-use Prim.Native.Nat.{ℕ, _+_, _%_, _≤_, _<_}
+use Prim.Native.Nat.{ℕ, _+_, _%_, _≤_, _<_, min}
 use mathlib.Core.Path.{_≡_}
 use mathlib.Core.Logic.{_⊎_}
 use mathlib.Core.List.{List}
@@ -18,10 +18,10 @@ use Rattle.messages.specs.declared.Judged.the-variants.{Refused}
 use Rattle.machine.specs.Machine.{freshState}
 use Rattle.state.specs.Keeps.{Keeps}
 
--- the words from 32 to 1119 are 0
-pub record WipeIs (w last : List ℕ) : Type 0 where
+-- the numbers of all processors and the stamps of l links are 0
+pub record WipeIs (w last : List ℕ) (l : ℕ) : Type 0 where
   pub long : length last ≡ length w
-  pub zeros : (i : ℕ) → 32 ≤ i → i < 1120 → getD last i 0 ≡ 0
+  pub zeros : (i : ℕ) → 32 ≤ i → i < 96 + min l 1024 → getD last i 0 ≡ 0
   pub low : (i : ℕ) → i < 32 → getD last i 0 ≡ getD w i 0
 
 -- the first m processors are at the first commands of their programmes
@@ -54,7 +54,7 @@ pub record AdmitIs (sheet bundle w after state last : List ℕ) (p n l limit : �
 -- the same for the sheet in the tables of the work area, which also lies in its bytes; the tables stay
 pub record OpenIs (sheet bundle work after state last : List ℕ) (r : Judged) : Type 0 where
   pub long : length after ≡ length work
-  pub low : (i : ℕ) → i < 8192 → getD after i 0 ≡ getD work i 0
+  pub low : (i : ℕ) → i < 3856 → getD after i 0 ≡ getD work i 0
   pub state-long : length last ≡ length state
   pub untouched : (number place : ℕ) → r ≡ Refused number place → last ≡ state
   pub is : Fields (sheetIn work) sheet → r ≡ judgedOf (admittedBytes (sheetIn work) bundle)

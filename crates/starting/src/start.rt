@@ -5,16 +5,12 @@ ghost use Rattle.sheet.specs.Tables.{Loaded};
 ghost use Rattle.starting.specs.Starts.{WipeIs, FirstIs, TakeIs, StartIs, AdmitIs, OpenIs};
 use messages::Judged;
 
-// All numbers of processors and links become 0.
-fn wipe(w: &mut [u32])
-    ensures { λ _. ⌜ WipeIs (now (w .entry)) (now (w .exit)) ⌝ }
+// All numbers of processors and of l links become 0.
+fn wipe(w: &mut [u32], l: usize)
+    ensures { λ _. ⌜ WipeIs (now (w .entry)) (now (w .exit)) l ⌝ }
 {
-    let end = words::smaller(w.len(), 1120);
-    let mut i: usize = 32;
-    while i < end {
-        w[i] = 0;
-        i += 1;
-    }
+    let end = words::smaller(w.len(), 96 + words::smaller(l, 1024));
+    workspace::clear_words(w, 32, end);
 }
 
 // The first m processors stand before their first commands.
@@ -47,7 +43,7 @@ fn take_over(from: &[u32], w: &mut [u32], m: usize)
 pub fn begin(w: &mut [u32], m: usize, n: usize, l: usize, c: usize)
     ensures { λ _. ⌜ StartIs (now (w .entry)) (now (w .entry)) (now (w .exit)) m n l c ⌝ }
 {
-    wipe(w);
+    wipe(w, l);
     words::put(w, 17, m);
     words::put(w, 18, n);
     words::put(w, 19, l);
@@ -86,7 +82,7 @@ fn admit(
     }
 }
 
-// The same for the sheet in the tables of the work area, whose bytes are given too. The words from 8192 on are used.
+// The same for the sheet in the tables of the work area, whose bytes are given too. The words from 3856 on are used.
 pub fn open(sheet: &[u8], bundle: &[u8], work: &mut [u32], state: &mut [u32]) -> Judged
     requires { ⌜ Loaded (now work) ⌝ }
     ensures { λ r. ⌜ OpenIs (now (sheet .entry)) (now (bundle .entry)) (now (work .entry)) (now (work .exit)) (now (state .entry)) (now (state .exit)) r ⌝ }
@@ -95,5 +91,5 @@ pub fn open(sheet: &[u8], bundle: &[u8], work: &mut [u32], state: &mut [u32]) ->
     let n = sheet::tables::tasks(work);
     let l = sheet::tables::links(work);
     let limit = sheet::tables::limit(work);
-    admit(sheet, bundle, &mut work[8192..], state, p, n, l, limit)
+    admit(sheet, bundle, &mut work[3856..], state, p, n, l, limit)
 }

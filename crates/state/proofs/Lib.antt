@@ -1,1 +1,2 @@
+-- The laws of `state`.
 pub mod Asks

@@ -1,1 +1,2 @@
+-- The definitions of `stepping`.
 pub mod Advance

@@ -1,1 +1,2 @@
+-- The laws of `trials`.
 pub mod Records

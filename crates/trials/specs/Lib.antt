@@ -1,1 +1,2 @@
+-- The definitions of `trials`.
 pub mod Records

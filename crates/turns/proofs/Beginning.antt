@@ -22,11 +22,10 @@ use Rattle.chains.specs.Frames.{Only}
 use Rattle.chains.specs.declared.End.the-variants.{Source, Target}
 use Rattle.chains.proofs.Frames.{same-sheet, same-loaded}
 use Rattle.chains.proofs.Walks.{chained-frame}
-use Rattle.arrivals.specs.Kept.{Caches}
+use Rattle.arrivals.specs.Kept.{Single, Caches}
 use Rattle.arrivals.specs.Steps.{Zero, GatheredTo}
 use Rattle.arrivals.proofs.Gathering.{gather-none, gathered-all}
 use Rattle.arrivals.proofs.Beginning.{counted-zero, ends-zero, closed-zero}
-use Rattle.placing.specs.Choosing.{Single}
 use Rattle.turns.specs.Turns.{Timely, Going, Emptied, Afterwards}
 use Rattle.turns.proofs.Bounds.{empty-timely}
 
@@ -34,14 +33,14 @@ module _ {w w₁ : List ℕ} (loaded : Loaded w) (levelled : Levelled (sheetIn w
   abbrev s : Sheet
   s = sheetIn w
 
-  low₁ : (i : ℕ) → i < 8192 → getD w₁ i 0 ≡ getD w i 0
+  low₁ : (i : ℕ) → i < 3856 → getD w₁ i 0 ≡ getD w i 0
   low₁ i h = e₁ .only .low i h
 
   pub loaded₁ : Loaded w₁
   loaded₁ = same-loaded w w₁ loaded low₁ (e₁ .only .long)
 
-  module _ {w₂ : List ℕ} (o₂ : Only 11792 22528 w₁ w₂) (zero : Zero 22528 w₂) where
-    low₂ : (i : ℕ) → i < 8192 → getD w₂ i 0 ≡ getD w i 0
+  module _ {w₂ : List ℕ} (o₂ : Only 6176 8816 w₁ w₂) (zero : Zero 6176 8816 w₂) where
+    low₂ : (i : ℕ) → i < 3856 → getD w₂ i 0 ≡ getD w i 0
     low₂ i h = o₂ .low i (omega arith) ∙ low₁ i h
 
     long₂ : length w₂ ≡ length w
@@ -53,8 +52,8 @@ module _ {w w₁ : List ℕ} (loaded : Loaded w) (levelled : Levelled (sheetIn w
     sheet₂ : sheetIn w₂ ≡ s
     sheet₂ = same-sheet w w₂ loaded low₂
 
-    module _ {w₃ : List ℕ} (o₃ : Only 9232 10512 w₂ w₃) (outward : Chained Source (sheetIn w₂) w₃) where
-      low₃ : (i : ℕ) → i < 8192 → getD w₃ i 0 ≡ getD w i 0
+    module _ {w₃ : List ℕ} (o₃ : Only 4896 6176 w₂ w₃) (outward : Chained Source (sheetIn w₂) w₃) where
+      low₃ : (i : ℕ) → i < 3856 → getD w₃ i 0 ≡ getD w i 0
       low₃ i h = o₃ .low i (omega arith) ∙ low₂ i h
 
       long₃ : length w₃ ≡ length w
@@ -66,14 +65,14 @@ module _ {w w₁ : List ℕ} (loaded : Loaded w) (levelled : Levelled (sheetIn w
       sheet₃ : sheetIn w₃ ≡ s
       sheet₃ = same-sheet w w₃ loaded low₃
 
-      nought₃ : (i : ℕ) → 11792 ≤ i → i < 22528 → getD w₃ i 0 ≡ 0
+      nought₃ : (i : ℕ) → 6176 ≤ i → i < 8816 → getD w₃ i 0 ≡ 0
       nought₃ i h l = o₃ .high i (omega arith) ∙ zero .at i h l
 
       pub gather₃ : GatheredTo (sheetIn w₃) 0 w₃
       gather₃ = gather-none (ranged w₃ loaded₃ .few-tasks) (λ i h l. nought₃ i h (omega arith))
 
-      module _ {w₄ : List ℕ} (o₄ : Only 11792 12304 w₃ w₄) (gathered : GatheredTo (sheetIn w₃) (linkCount (sheetIn w₃)) w₄) where
-        low₄ : (i : ℕ) → i < 8192 → getD w₄ i 0 ≡ getD w i 0
+      module _ {w₄ : List ℕ} (o₄ : Only 6176 6688 w₃ w₄) (gathered : GatheredTo (sheetIn w₃) (linkCount (sheetIn w₃)) w₄) where
+        low₄ : (i : ℕ) → i < 3856 → getD w₄ i 0 ≡ getD w i 0
         low₄ i h = o₄ .low i (omega arith) ∙ low₃ i h
 
         long₄ : length w₄ ≡ length w
@@ -86,7 +85,7 @@ module _ {w w₁ : List ℕ} (loaded : Loaded w) (levelled : Levelled (sheetIn w
         sheet₄ = same-sheet w w₄ loaded low₄
 
         -- the words of the schedule are those of w₁
-        kept₄ : (i : ℕ) → i < 9232 → getD w₄ i 0 ≡ getD w₁ i 0
+        kept₄ : (i : ℕ) → i < 4896 → getD w₄ i 0 ≡ getD w₁ i 0
         kept₄ i h = o₄ .low i (omega arith) ∙ o₃ .low i h ∙ o₂ .low i (omega arith)
 
         schedule₄ : scheduleIn w₄ ≡ empty s
@@ -100,7 +99,7 @@ module _ {w w₁ : List ℕ} (loaded : Loaded w) (levelled : Levelled (sheetIn w
         unfolding placed
         standing₄ u e = absurd (omega (arith, empty₄ u, ltb-true (placeOf (scheduleIn w₄) u) 16 e))
 
-        nought₄ : (i : ℕ) → 12304 ≤ i → i < 22528 → getD w₄ i 0 ≡ 0
+        nought₄ : (i : ℕ) → 6688 ≤ i → i < 8816 → getD w₄ i 0 ≡ 0
         nought₄ i h l = o₄ .high i h ∙ nought₃ i (omega arith) l
 
         caches₄ : Caches s (scheduleIn w₄) w₄
@@ -125,20 +124,20 @@ module _ {w w₁ : List ℕ} (loaded : Loaded w) (levelled : Levelled (sheetIn w
                   record {
                     loaded = loaded₄;
                     ranged = ranged w₄ loaded₄;
+                    single = subst Single (sym sheet₄) single;
                     few-opened = rw schedule₄ (omega arith);
                     standing = standing₄;
                     caches = subst (λ (x : Sheet). Caches x (scheduleIn w₄) w₄) (sym sheet₄) caches₄;
                   };
               levelled = subst (λ (x : Sheet). Levelled x w₄) (sym sheet₄) (levelled-frame (ranged w loaded .few-tasks) (ranged w loaded .few-links) low₄ levelled);
-              single = subst Single (sym sheet₄) single;
               timely = subst (Timely 0) (sym schedule₄) (empty-timely s);
-              placed = omega (arith, kept₄ 9217 (omega arith), e₁ .placed);
+              placed = omega (arith, kept₄ 4881 (omega arith), e₁ .placed);
             }
 
         pub going-first : Going w₄ 0 w₄
         going-first =
             let g = going₄ in
-            record { long = refl; low = λ i h. refl; sheet = refl; kept = g .kept; levelled = g .levelled; single = g .single; timely = g .timely; placed = g .placed }
+            record { long = refl; low = λ i h. refl; sheet = refl; kept = g .kept; levelled = g .levelled; timely = g .timely; placed = g .placed }
 
         planned-by : {a : Answer Schedule} → a ≡ turns (sheetIn w₄) (barred (sheetIn w₄)) (taskCount (sheetIn w₄)) (scheduleIn w₄) → a ≡ planned s
         unfolding planned plannedBy

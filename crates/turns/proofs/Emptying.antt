@@ -20,43 +20,43 @@ use Rattle.chains.proofs.Frames.{only-none, only-set}
 use Rattle.turns.specs.Turns.{Cleared, Emptied}
 
 pub cleared-none : (w : List ℕ) → Cleared w 0 w
-cleared-none w = record { only = only-none 8192 9232 w; on = λ u h. absurd (omega arith); start = λ u h. absurd (omega arith); finish = λ u h. absurd (omega arith) }
+cleared-none w = record { only = only-none 3856 4896 w; on = λ u h. absurd (omega arith); start = λ u h. absurd (omega arith); finish = λ u h. absurd (omega arith) }
 
 abbrev clearWords : List ℕ → ℕ → List ℕ
-clearWords w t = set (set (set w (8192 + t) 16) (8448 + t) 0) (8704 + t) 0
+clearWords w t = set (set (set w (3856 + t) 16) (4112 + t) 0) (4368 + t) 0
 
 pub cleared-more : {w₀ w : List ℕ} {t : ℕ} → fixed ≤ length w₀ → t < 256 → Cleared w₀ t w → Cleared w₀ (t + 1) (clearWords w t)
 cleared-more {w₀} {w} {t} long few d =
     record {
-      only = only-set (8704 + t) 0 (omega arith) (omega arith) (only-set (8448 + t) 0 (omega arith) (omega arith) (only-set (8192 + t) 16 (omega arith) (omega arith) (d .only)));
+      only = only-set (4368 + t) 0 (omega arith) (omega arith) (only-set (4112 + t) 0 (omega arith) (omega arith) (only-set (3856 + t) 16 (omega arith) (omega arith) (d .only)));
       on = λ u k. on′ u k (ℕ-discrete u t);
       start = λ u k. start′ u k (ℕ-discrete u t);
       finish = λ u k. finish′ u k (ℕ-discrete u t);
     }
   where
-    away : (i : ℕ) → i ≢ 8192 + t → i ≢ 8448 + t → i ≢ 8704 + t → getD (clearWords w t) i 0 ≡ getD w i 0
+    away : (i : ℕ) → i ≢ 3856 + t → i ≢ 4112 + t → i ≢ 4368 + t → getD (clearWords w t) i 0 ≡ getD w i 0
     away i a b e = simp getD-set-other
 
-    on′ : (u : ℕ) → u < t + 1 → Dec (u ≡ t) → getD (clearWords w t) (8192 + u) 0 ≡ 16
+    on′ : (u : ℕ) → u < t + 1 → Dec (u ≡ t) → getD (clearWords w t) (3856 + u) 0 ≡ 16
     on′ u k (yes q) =
-        let a : 8192 + t ≢ 8448 + t = omega arith in
-        let b : 8192 + t ≢ 8704 + t = omega arith in
-        let l : 8192 + t < length w = omega (arith, d .only .long) in
+        let a : 3856 + t ≢ 4112 + t = omega arith in
+        let b : 3856 + t ≢ 4368 + t = omega arith in
+        let l : 3856 + t < length w = omega (arith, d .only .long) in
         rw q (simp (getD-set-other, getD-set-same))
-    on′ u k (no q) = away (8192 + u) (λ x. q (omega arith)) (omega arith) (omega arith) ∙ d .on u (omega arith)
+    on′ u k (no q) = away (3856 + u) (λ x. q (omega arith)) (omega arith) (omega arith) ∙ d .on u (omega arith)
 
-    start′ : (u : ℕ) → u < t + 1 → Dec (u ≡ t) → getD (clearWords w t) (8448 + u) 0 ≡ 0
+    start′ : (u : ℕ) → u < t + 1 → Dec (u ≡ t) → getD (clearWords w t) (4112 + u) 0 ≡ 0
     start′ u k (yes q) =
-        let b : 8448 + t ≢ 8704 + t = omega arith in
-        let l : 8448 + t < length (set w (8192 + t) 16) = simp length-set (omega (arith, d .only .long)) in
+        let b : 4112 + t ≢ 4368 + t = omega arith in
+        let l : 4112 + t < length (set w (3856 + t) 16) = simp length-set (omega (arith, d .only .long)) in
         rw q (simp (getD-set-other, getD-set-same))
-    start′ u k (no q) = away (8448 + u) (omega arith) (λ x. q (omega arith)) (omega arith) ∙ d .start u (omega arith)
+    start′ u k (no q) = away (4112 + u) (omega arith) (λ x. q (omega arith)) (omega arith) ∙ d .start u (omega arith)
 
-    finish′ : (u : ℕ) → u < t + 1 → Dec (u ≡ t) → getD (clearWords w t) (8704 + u) 0 ≡ 0
+    finish′ : (u : ℕ) → u < t + 1 → Dec (u ≡ t) → getD (clearWords w t) (4368 + u) 0 ≡ 0
     finish′ u k (yes q) =
-        let l : 8704 + t < length (set (set w (8192 + t) 16) (8448 + t) 0) = simp length-set (omega (arith, d .only .long)) in
+        let l : 4368 + t < length (set (set w (3856 + t) 16) (4112 + t) 0) = simp length-set (omega (arith, d .only .long)) in
         rw q (simp getD-set-same)
-    finish′ u k (no q) = away (8704 + u) (omega arith) (omega arith) (λ x. q (omega arith)) ∙ d .finish u (omega arith)
+    finish′ u k (no q) = away (4368 + u) (omega arith) (omega arith) (λ x. q (omega arith)) ∙ d .finish u (omega arith)
 
 listed-same : (n v : ℕ) (f : ℕ → ℕ) → ((i : ℕ) → i < n → f i ≡ v) → listed n f ≡ replicate n v
 listed-same n v f h =
@@ -65,42 +65,42 @@ listed-same n v f h =
 
 module _ {w₀ w : List ℕ} {t : ℕ} (loaded : Loaded w₀) (d : Cleared w₀ t w) (e : taskCount (sheetIn w₀) ≤ t) where
   abbrev new : List ℕ
-  new = set (set w 9216 0) 9217 0
+  new = set (set w 4880 0) 4881 0
 
-  away : (i : ℕ) → i ≢ 9216 → i ≢ 9217 → getD new i 0 ≡ getD w i 0
+  away : (i : ℕ) → i ≢ 4880 → i ≢ 4881 → getD new i 0 ≡ getD w i 0
   away i a b = simp getD-set-other
 
   count : getD new 0 0 ≡ taskCount (sheetIn w₀)
   count = away 0 (omega arith) (omega arith) ∙ d .only .low 0 (omega arith) ∙ sym (tasks-in w₀)
 
-  table : (at v : ℕ) → at ≤ 8960 → ((u : ℕ) → u < t → getD w (at + u) 0 ≡ v) → listed (getD new 0 0) (λ i. getD new (at + i) 0) ≡ replicate (taskCount (sheetIn w₀)) v
+  table : (at v : ℕ) → at ≤ 4624 → ((u : ℕ) → u < t → getD w (at + u) 0 ≡ v) → listed (getD new 0 0) (λ i. getD new (at + i) 0) ≡ replicate (taskCount (sheetIn w₀)) v
   table at v bound k =
       ap (λ (m : ℕ). listed m (λ i. getD new (at + i) 0)) count
       ∙ listed-same (taskCount (sheetIn w₀)) v (λ i. getD new (at + i) 0)
       (λ i l. let few = ranged w₀ loaded .few-tasks in away (at + i) (omega arith) (omega arith) ∙ k i (omega arith))
 
-  placed-zero : getD new 9217 0 ≡ 0
-  placed-zero = getD-set-same (set w 9216 0) 9217 0 0 (simp length-set (omega (arith, d .only .long, loaded .long)))
+  placed-zero : getD new 4881 0 ≡ 0
+  placed-zero = getD-set-same (set w 4880 0) 4881 0 0 (simp length-set (omega (arith, d .only .long, loaded .long)))
 
-  opened-zero : getD new 9216 0 ≡ 0
+  opened-zero : getD new 4880 0 ≡ 0
   opened-zero =
-      let a : (_≡_ {A = ℕ} 9216 9217 → ⊥) = omega arith in
-      let l : 9216 < length w = omega (arith, d .only .long, loaded .long) in
+      let a : (_≡_ {A = ℕ} 4880 4881 → ⊥) = omega arith in
+      let l : 4880 < length w = omega (arith, d .only .long, loaded .long) in
       simp (getD-set-other, getD-set-same)
 
   schedule-zero : scheduleIn new ≡ empty (sheetIn w₀)
   unfolding scheduleIn
   schedule-zero =
-      let on = table 8192 16 (omega arith) (d .on) in
-      let start = table 8448 0 (omega arith) (d .start) in
-      let finish = table 8704 0 (omega arith) (d .finish) in
-      let order : listed (getD new 9217 0) (λ i. getD new (8960 + i) 0) ≡ [] = ap (λ (m : ℕ). listed m (λ i. getD new (8960 + i) 0)) placed-zero ∙ listed-zero _ in
+      let on = table 3856 16 (omega arith) (d .on) in
+      let start = table 4112 0 (omega arith) (d .start) in
+      let finish = table 4368 0 (omega arith) (d .finish) in
+      let order : listed (getD new 4881 0) (λ i. getD new (4624 + i) 0) ≡ [] = ap (λ (m : ℕ). listed m (λ i. getD new (4624 + i) 0)) placed-zero ∙ listed-zero _ in
       λ x. record { on = on x; start = start x; finish = finish x; order = order x; opened = opened-zero x }
 
   pub emptied : Emptied w₀ new
   emptied =
       record {
-        only = only-set 9217 0 (omega arith) (omega arith) (only-set 9216 0 (omega arith) (omega arith) (d .only));
+        only = only-set 4881 0 (omega arith) (omega arith) (only-set 4880 0 (omega arith) (omega arith) (d .only));
         schedule = schedule-zero;
         placed = placed-zero;
       }

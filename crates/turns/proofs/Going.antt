@@ -18,15 +18,16 @@ use Rattle.schedule.proofs.Rows.{schedule-frame, levelled-frame}
 use Rattle.schedule.proofs.Puts.{put-low, put-high, put-long, put-placed, schedule-put}
 use Rattle.chains.specs.Chains.{Chained}
 use Rattle.chains.specs.Frames.{Only}
-use Rattle.chains.specs.declared.End.the-variants.{Source, Target}
+use Rattle.chains.specs.declared.End.the-variants.{Source}
 use Rattle.chains.proofs.Frames.{same-sheet, same-loaded}
 use Rattle.chains.proofs.Walks.{chained-frame}
-use Rattle.arrivals.specs.Kept.{known, Counted, Ends, Caches}
+use Rattle.arrivals.specs.Kept.{known, Single, Counted, Surveyed, Ends, Caches}
 use Rattle.arrivals.specs.Steps.{upTo, Beside, Placeable, Landed, Released, Enough}
 use Rattle.arrivals.proofs.Walks.{counted-frame, gathered-frame, ends-frame, beside-sheet, beside-loaded, beside-schedule}
 use Rattle.arrivals.proofs.Placing as placing
 use Rattle.arrivals.proofs.Settling.{enough}
-use Rattle.placing.specs.Choosing.{Single, Choosing}
+use Rattle.arrivals.proofs.Surveys.{surveyed-frame}
+use Rattle.placing.specs.Choosing.{Choosing}
 use Rattle.placing.proofs.Starts.{placeable}
 use Rattle.placing.proofs.Guards.{end-le-start}
 use Rattle.turns.specs.Turns.{Timely, Going}
@@ -36,13 +37,14 @@ use Rattle.turns.proofs.Bounds.{put-timely, finish-early}
 pub record Putting (w : List ℕ) (j t k a f p o : ℕ) : Type 0 where
   pub going : Going w j w
   pub can : Placeable (sheetIn w) (scheduleIn w) t k
+  pub surveyed : Surveyed (sheetIn w) (scheduleIn w) t w
   pub turn : j < 256
   pub late : endOf (sheetIn w) (scheduleIn w) k ≤ f
   pub early : f ≤ 131070 * (j + 1)
-  pub placed-is : p ≡ getD w 9217 0
+  pub placed-is : p ≡ getD w 4881 0
   pub opened-is : o ≡ max (scheduleIn w .opened) (k + 1)
 
-module _ {w w₁ : List ℕ} {j t k a f p o : ℕ} (u : Putting w j t k a f p o) (o₁ : Only 13328 13360 w w₁) (ends : Ends (sheetIn w) (put (scheduleIn w) t k a f) w₁) where
+module _ {w w₁ : List ℕ} {j t k a f p o : ℕ} (u : Putting w j t k a f p o) (o₁ : Only 7712 7744 w w₁) (ends : Ends (sheetIn w) (put (scheduleIn w) t k a f) w₁) where
   abbrev s : Sheet
   s = sheetIn w
 
@@ -64,39 +66,39 @@ module _ {w w₁ : List ℕ} {j t k a f p o : ℕ} (u : Putting w j t k a f p o)
   pub long₁ : fixed ≤ length w₁
   long₁ = omega (arith, o₁ .long, u .going .kept .loaded .long)
 
-  pub enough₁ : Enough t w₁
+  pub enough₁ : Enough w₁
   enough₁ =
       let kept = u .going .kept in
-      let before = enough s σ w t k a f (kept .loaded .long) (u .can) (u .late) (kept .caches .gathered) (kept .caches .counted) (kept .caches .ends) in
-      record { most = λ i h. omega (arith, before .most i h, o₁ .high (13360 + i) (omega arith), o₁ .high (14336 + (16 * t + i)) (omega arith)) }
+      let before = enough s σ w t k a f (kept .loaded .long) (u .can) (u .late) (kept .caches .gathered) (kept .caches .counted) (u .surveyed) (kept .caches .ends) in
+      record { most = λ i h. omega (arith, before .most i h, o₁ .high (7744 + i) (omega arith), o₁ .high (7776 + i) (omega arith)) }
 
-  module _ {w₂ : List ℕ} (r₂ : Released t 16 w₁ w₂) where
+  module _ {w₂ : List ℕ} (r₂ : Released 16 w₁ w₂) where
     pub long₂ : fixed ≤ length w₂
     long₂ = omega (arith, r₂ .long, long₁)
 
-    low₂ : (i : ℕ) → i < 13328 → getD w₂ i 0 ≡ getD w i 0
+    low₂ : (i : ℕ) → i < 7712 → getD w₂ i 0 ≡ getD w i 0
     low₂ i h = r₂ .low i (omega arith) ∙ o₁ .low i h
 
-    few₂ : (getD w₂ 0 0 ≤ 256) × (getD w 9217 0 ≤ 256)
+    few₂ : (getD w₂ 0 0 ≤ 256) × (getD w 4881 0 ≤ 256)
     few₂ = (omega (arith, low₂ 0 (omega arith), u .going .kept .loaded .tasks), omega (arith, u .going .placed, u .turn))
 
     schedule₂ : scheduleIn w₂ ≡ σ
     schedule₂ = schedule-frame w w₂ (u .going .kept .loaded .tasks) (few₂ .1) (low₂ 0 (omega arith)) (λ i h l. low₂ i (omega arith))
 
-    opened₂ : getD w₂ 9216 0 ≡ σ .opened
+    opened₂ : getD w₂ 4880 0 ≡ σ .opened
     unfolding scheduleIn
-    opened₂ = low₂ 9216 (omega arith)
+    opened₂ = low₂ 4880 (omega arith)
 
     counted₂ : Counted s σ′ (upTo s σ′ t 0) w₂
     counted₂ =
-        placing.counted-begins s σ t k a f (u .can) w₁ w₂ r₂
-        (counted-frame (range .few-tasks) (λ i h l. o₁ .low i l) (λ i h. o₁ .high i h) (u .going .kept .caches .counted))
+        placing.counted-begins s σ t k a f (u .can) w₁ w₂ r₂ (surveyed-frame (λ i h l. o₁ .high i (omega arith)) (u .surveyed))
+        (counted-frame (range .few-tasks) (λ i h l. o₁ .low i l) (λ i h l. o₁ .high i h) (λ i h. o₁ .high i (omega arith)) (u .going .kept .caches .counted))
 
     module _ {w₃ : List ℕ} (e₃ : w₃ ≡ putWords w₂ t k a f p o) where
-      low₃ : (i : ℕ) → i < 8192 → getD w₃ i 0 ≡ getD w i 0
+      low₃ : (i : ℕ) → i < 3856 → getD w₃ i 0 ≡ getD w i 0
       low₃ i h = rw e₃ (put-low w₂ t k a f p o long₂ t-small p-small i h) ∙ low₂ i (omega arith)
 
-      high₃ : (i : ℕ) → 9218 ≤ i → getD w₃ i 0 ≡ getD w₂ i 0
+      high₃ : (i : ℕ) → 4882 ≤ i → getD w₃ i 0 ≡ getD w₂ i 0
       high₃ i h = rw e₃ (put-high w₂ t k a f p o long₂ t-small p-small i h)
 
       long₃ : length w₃ ≡ length w
@@ -111,13 +113,13 @@ module _ {w w₁ : List ℕ} {j t k a f p o : ℕ} (u : Putting w j t k a f p o)
       schedule₃ : scheduleIn w₃ ≡ σ′
       schedule₃ =
           ap scheduleIn e₃
-          ∙ schedule-put w₂ t k a f p o long₂ t-small p-small (few₂ .0) (u .placed-is ∙ sym (low₂ 9217 (omega arith))) (u .opened-is ∙ ap (λ (x : ℕ). max x (k + 1)) (sym opened₂))
+          ∙ schedule-put w₂ t k a f p o long₂ t-small p-small (few₂ .0) (u .placed-is ∙ sym (low₂ 4881 (omega arith))) (u .opened-is ∙ ap (λ (x : ℕ). max x (k + 1)) (sym opened₂))
           ∙ ap (λ (τ : Schedule). put τ t k a f) schedule₂
 
-      placed₃ : getD w₃ 9217 0 ≡ p + 1
+      placed₃ : getD w₃ 4881 0 ≡ p + 1
       placed₃ = rw e₃ (put-placed w₂ t k a f p o long₂ t-small p-small)
 
-      pub few₃ : getD w₃ 9217 0 ≤ 256
+      pub few₃ : getD w₃ 4881 0 ≤ 256
       few₃ = omega (arith, placed₃, p-small)
 
       pub task₃ : t < taskCount (sheetIn w₃)
@@ -129,6 +131,9 @@ module _ {w w₁ : List ℕ} {j t k a f p o : ℕ} (u : Putting w j t k a f p o)
       pub outward₃ : Chained Source (sheetIn w₃) w₃
       outward₃ = subst (λ (x : Sheet). Chained Source x w₃) (sym sheet₃) chain₃
 
+      pub single₃ : Single (sheetIn w₃)
+      single₃ = subst Single (sym sheet₃) (u .going .kept .single)
+
       pub landed₃ : Landed (sheetIn w₃) (scheduleIn w₃) t k f
       landed₃ =
           subst (λ (x : Sheet). Landed x (scheduleIn w₃) t k f) (sym sheet₃)
@@ -138,7 +143,7 @@ module _ {w w₁ : List ℕ} {j t k a f p o : ℕ} (u : Putting w j t k a f p o)
       counted₃ =
           subst (λ (x : Sheet). Counted x (scheduleIn w₃) (upTo x (scheduleIn w₃) t 0) w₃) (sym sheet₃)
           (subst (λ (τ : Schedule). Counted s τ (upTo s τ t 0) w₃) (sym schedule₃)
-          (counted-frame (range .few-tasks) (λ i h l. high₃ i (omega arith)) (λ i h. high₃ i (omega arith)) counted₂))
+          (counted-frame (range .few-tasks) (λ i h l. high₃ i (omega arith)) (λ i h l. high₃ i (omega arith)) (λ i h. high₃ i (omega arith)) counted₂))
 
       module _ {w₄ : List ℕ} (b₄ : Beside w₃ w₄) (counted : Counted (sheetIn w₃) (scheduleIn w₃) (known (sheetIn w₃) (scheduleIn w₃)) w₄) where
         sheet₄ : sheetIn w₄ ≡ s
@@ -147,7 +152,7 @@ module _ {w w₁ : List ℕ} {j t k a f p o : ℕ} (u : Putting w j t k a f p o)
         pub schedule₄ : scheduleIn w₄ ≡ σ′
         schedule₄ = beside-schedule loaded₃ b₄ few₃ ∙ schedule₃
 
-        low₄ : (i : ℕ) → i < 8192 → getD w₄ i 0 ≡ getD w i 0
+        low₄ : (i : ℕ) → i < 3856 → getD w₄ i 0 ≡ getD w i 0
         low₄ i h = b₄ .low i (omega arith) ∙ low₃ i h
 
         caches₄ : Caches s σ′ w₄
@@ -178,27 +183,28 @@ module _ {w w₁ : List ℕ} {j t k a f p o : ℕ} (u : Putting w j t k a f p o)
                   record {
                     loaded = beside-loaded loaded₃ b₄;
                     ranged = ranged w₄ (beside-loaded loaded₃ b₄);
+                    single = subst Single (sym sheet₄) (u .going .kept .single);
                     few-opened = rw schedule₄ (omega (arith, u .going .kept .few-opened, u .can .on));
                     standing = rw schedule₄ standing₄;
                     caches = subst (λ (x : Sheet). Caches x (scheduleIn w₄) w₄) (sym sheet₄) (subst (λ (τ : Schedule). Caches s τ w₄) (sym schedule₄) caches₄);
                   };
               levelled = subst (λ (x : Sheet). Levelled x w₄) (sym sheet₄) (levelled-frame (range .few-tasks) (range .few-links) low₄ (u .going .levelled));
-              single = subst Single (sym sheet₄) (u .going .single);
               timely = subst (Timely (j + 1)) (sym schedule₄) (put-timely σ j t k a f (u .going .timely) (u .early));
-              placed = omega (arith, b₄ .low 9217 (omega arith), placed₃, u .placed-is, u .going .placed);
+              placed = omega (arith, b₄ .low 4881 (omega arith), placed₃, u .placed-is, u .going .placed);
             }
 
 -- the task is chosen for
-pub choosing : {w : List ℕ} {j t : ℕ} → Going w j w → t < taskCount (sheetIn w) → ready (sheetIn w) (scheduleIn w) t ≡ true → Choosing w t
-choosing g h r = record { kept = g .kept; levelled = g .levelled; single = g .single; task = h; isReady = r }
+pub choosing : {w : List ℕ} {j t : ℕ} → Going w j w → t < taskCount (sheetIn w) → ready (sheetIn w) (scheduleIn w) t ≡ true → Surveyed (sheetIn w) (scheduleIn w) t w → Choosing w t
+choosing g h r v = record { kept = g .kept; levelled = g .levelled; task = h; isReady = r; surveyed = v }
 
 -- the numbers as the code finds them
-pub putting : {w : List ℕ} {j t k a y p x o : ℕ} → Going w j w → j < 256 → t < taskCount (sheetIn w) → k < 16 → ready (sheetIn w) (scheduleIn w) t ≡ true
-    → a ≡ startOn (sheetIn w) (scheduleIn w) t k → y ≡ workOf (sheetIn w) t → p ≡ getD w 9217 0 → x ≡ scheduleIn w .opened → o ≡ max x (k + 1) → Putting w j t k a (a + y) p o
-putting {w} {j} {t} {k} g turn h on r ea ey ep ex eo =
+pub putting : {w : List ℕ} {j t k a y p x o : ℕ} → Going w j w → j < 256 → t < taskCount (sheetIn w) → k < 16 → ready (sheetIn w) (scheduleIn w) t ≡ true → Surveyed (sheetIn w) (scheduleIn w) t w
+    → a ≡ startOn (sheetIn w) (scheduleIn w) t k → y ≡ workOf (sheetIn w) t → p ≡ getD w 4881 0 → x ≡ scheduleIn w .opened → o ≡ max x (k + 1) → Putting w j t k a (a + y) p o
+putting {w} {j} {t} {k} g turn h on r v ea ey ep ex eo =
     record {
       going = g;
-      can = placeable w t k (choosing g h r) on;
+      can = placeable w t k (choosing g h r v) on;
+      surveyed = v;
       turn = turn;
       late = omega (arith, end-le-start (sheetIn w) (scheduleIn w) t k);
       early = finish-early (sheetIn w) (scheduleIn w) j (g .kept .ranged) (g .timely) t k ea ey h;
@@ -215,13 +221,12 @@ later-turns h g =
       sheet = g .sheet;
       kept = g .kept;
       levelled = g .levelled;
-      single = g .single;
       timely = record { early = λ u. omega (arith, g .timely .early u) };
       placed = omega (arith, g .placed);
     }
 
 pub own : {w₀ w : List ℕ} {j : ℕ} → Going w₀ j w → Going w j w
-own g = record { long = refl; low = λ i h. refl; sheet = refl; kept = g .kept; levelled = g .levelled; single = g .single; timely = g .timely; placed = g .placed }
+own g = record { long = refl; low = λ i h. refl; sheet = refl; kept = g .kept; levelled = g .levelled; timely = g .timely; placed = g .placed }
 
 pub after : {w₀ w w′ : List ℕ} {j i : ℕ} → Going w₀ j w → Going w i w′ → Going w₀ i w′
 after g h =
@@ -231,7 +236,6 @@ after g h =
       sheet = h .sheet ∙ g .sheet;
       kept = h .kept;
       levelled = h .levelled;
-      single = h .single;
       timely = h .timely;
       placed = h .placed;
     }

@@ -1,6 +1,8 @@
+-- The laws of `turns`.
 pub mod Bounds
 pub mod Going
 pub mod Turns
 pub mod Keys
 pub mod Emptying
 pub mod Beginning
+pub mod Surveying

@@ -1,1 +1,2 @@
+-- The definitions of `turns`.
 pub mod Turns

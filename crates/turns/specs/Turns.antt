@@ -12,7 +12,6 @@ use Rattle.chains.specs.Chains.{Chained}
 use Rattle.chains.specs.Frames.{Only}
 use Rattle.chains.specs.declared.End.the-variants.{Source, Target}
 use Rattle.arrivals.specs.Kept.{Kept}
-use Rattle.placing.specs.Choosing.{Single}
 use Rattle.turns.specs.declared.Planned.{Planned}
 use Rattle.turns.specs.declared.Planned.the-variants.{Done, Refused}
 
@@ -28,31 +27,30 @@ pub record Timely (j : ℕ) (σ : Schedule) : Type 0 where
 -- after j turns from the area w₀
 pub record Going (w₀ : List ℕ) (j : ℕ) (w : List ℕ) : Type 0 where
   pub long : length w ≡ length w₀
-  pub low : (i : ℕ) → i < 8192 → getD w i 0 ≡ getD w₀ i 0
+  pub low : (i : ℕ) → i < 3856 → getD w i 0 ≡ getD w₀ i 0
   pub sheet : sheetIn w ≡ sheetIn w₀
   pub kept : Kept w
   pub levelled : Levelled (sheetIn w) w
-  pub single : Single (sheetIn w)
   pub timely : Timely j (scheduleIn w)
-  pub placed : getD w 9217 0 ≤ j
+  pub placed : getD w 4881 0 ≤ j
 
 -- the tables of the schedule below t are those of the empty one
 pub record Cleared (w₀ : List ℕ) (t : ℕ) (w : List ℕ) : Type 0 where
-  pub only : Only 8192 9232 w₀ w
-  pub on : (u : ℕ) → u < t → getD w (8192 + u) 0 ≡ 16
-  pub start : (u : ℕ) → u < t → getD w (8448 + u) 0 ≡ 0
-  pub finish : (u : ℕ) → u < t → getD w (8704 + u) 0 ≡ 0
+  pub only : Only 3856 4896 w₀ w
+  pub on : (u : ℕ) → u < t → getD w (3856 + u) 0 ≡ 16
+  pub start : (u : ℕ) → u < t → getD w (4112 + u) 0 ≡ 0
+  pub finish : (u : ℕ) → u < t → getD w (4368 + u) 0 ≡ 0
 
 -- the empty schedule
 pub record Emptied (w₀ w : List ℕ) : Type 0 where
-  pub only : Only 8192 9232 w₀ w
+  pub only : Only 3856 4896 w₀ w
   pub schedule : scheduleIn w ≡ empty (sheetIn w₀)
-  pub placed : getD w 9217 0 ≡ 0
+  pub placed : getD w 4881 0 ≡ 0
 
 -- what a planned area has besides its schedule: sheet and levels as they were, the chains of links, and small numbers
 pub record Afterwards (w₀ w : List ℕ) : Type 0 where
   pub long : length w ≡ length w₀
-  pub low : (i : ℕ) → i < 8192 → getD w i 0 ≡ getD w₀ i 0
+  pub low : (i : ℕ) → i < 3856 → getD w i 0 ≡ getD w₀ i 0
   pub loaded : Loaded w
   pub sheet : sheetIn w ≡ sheetIn w₀
   pub outward : Chained Source (sheetIn w₀) w

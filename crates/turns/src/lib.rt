@@ -8,8 +8,8 @@ ghost use Rattle.planner.specs.Placing.{ready, startOn, barred};
 ghost use Rattle.planner.specs.Planner.{choice, placedFrom, placeOn, turn, turns, planned};
 ghost use Rattle.levelling.specs.Found.{Levelled};
 ghost use Rattle.schedule.specs.Layout.{scheduleIn};
+ghost use Rattle.arrivals.specs.Kept.{Single, Surveyed};
 ghost use Rattle.readiness.specs.Keyed.{Keyed};
-ghost use Rattle.placing.specs.Choosing.{Single};
 ghost use Rattle.turns.specs.Turns.{answerOf, Going, Cleared, Emptied, Afterwards};
 use chains::End;
 use readiness::Found;
@@ -25,7 +25,7 @@ pub enum Planned {
 fn put_on(w: &mut [u32], j: usize, t: usize, k: usize)
     requires { ⌜ Going (now w) j (now w) ⌝ }
     requires { ⌜ (j < 256) × (t < taskCount (sheetIn (now w))) × (k < 16) ⌝ }
-    requires { ⌜ ready (sheetIn (now w)) (scheduleIn (now w)) t ≡ true ⌝ }
+    requires { ⌜ (ready (sheetIn (now w)) (scheduleIn (now w)) t ≡ true) × Surveyed (sheetIn (now w)) (scheduleIn (now w)) t (now w) ⌝ }
     ensures { λ _. ⌜ (scheduleIn (now (w .exit)) ≡ placedFrom (sheetIn (now (w .entry))) (barred (sheetIn (now (w .entry)))) (scheduleIn (now (w .entry))) t k (startOn (sheetIn (now (w .entry))) (scheduleIn (now (w .entry))) t k)) × Going (now (w .entry)) (j + 1) (now (w .exit)) ⌝ }
 {
     let start = placing::start_on(w, t, k);
@@ -33,7 +33,7 @@ fn put_on(w: &mut [u32], j: usize, t: usize, k: usize)
     let open = words::later(schedule::opened(w), k + 1);
     let n = schedule::placed(w);
     arrivals::settle(w, t, k, start, finish);
-    arrivals::release(w, t);
+    arrivals::release(w);
     schedule::put(w, t, k, start, finish, n, open);
     arrivals::count_links(w, t, k, finish);
 }
@@ -42,7 +42,7 @@ fn put_on(w: &mut [u32], j: usize, t: usize, k: usize)
 fn place_on(w: &mut [u32], q: &mut [u64], j: usize, t: usize, k: usize)
     requires { ⌜ Going (now w) j (now w) ⌝ }
     requires { ⌜ (j < 256) × (t < taskCount (sheetIn (now w))) × (k < 16) ⌝ }
-    requires { ⌜ ready (sheetIn (now w)) (scheduleIn (now w)) t ≡ true ⌝ }
+    requires { ⌜ (ready (sheetIn (now w)) (scheduleIn (now w)) t ≡ true) × Surveyed (sheetIn (now w)) (scheduleIn (now w)) t (now w) ⌝ }
     requires { ⌜ Keyed (sheetIn (now w)) (scheduleIn (now w)) (now q) ⌝ }
     ensures { λ _. ⌜ (scheduleIn (now (w .exit)) ≡ placedFrom (sheetIn (now (w .entry))) (barred (sheetIn (now (w .entry)))) (scheduleIn (now (w .entry))) t k (startOn (sheetIn (now (w .entry))) (scheduleIn (now (w .entry))) t k)) × Going (now (w .entry)) (j + 1) (now (w .exit)) × Keyed (sheetIn (now (w .exit))) (scheduleIn (now (w .exit))) (now (q .exit)) ⌝ }
 {
@@ -50,11 +50,11 @@ fn place_on(w: &mut [u32], q: &mut [u64], j: usize, t: usize, k: usize)
     readiness::renew(w, q, t);
 }
 
-// The first ready task goes where the steps say, or is refused.
-fn place_task(w: &mut [u32], q: &mut [u64], j: usize, t: usize) -> Planned
+// The first ready task, which is surveyed, goes where the steps say, or is refused.
+fn place_surveyed(w: &mut [u32], q: &mut [u64], j: usize, t: usize) -> Planned
     requires { ⌜ Going (now w) j (now w) ⌝ }
     requires { ⌜ (j < 256) × (t < taskCount (sheetIn (now w))) ⌝ }
-    requires { ⌜ ready (sheetIn (now w)) (scheduleIn (now w)) t ≡ true ⌝ }
+    requires { ⌜ (ready (sheetIn (now w)) (scheduleIn (now w)) t ≡ true) × Surveyed (sheetIn (now w)) (scheduleIn (now w)) t (now w) ⌝ }
     requires { ⌜ Keyed (sheetIn (now w)) (scheduleIn (now w)) (now q) ⌝ }
     ensures { λ r. ⌜ (answerOf r (scheduleIn (now (w .exit))) ≡ placeOn (sheetIn (now (w .entry))) (barred (sheetIn (now (w .entry)))) (scheduleIn (now (w .entry))) t (choice (sheetIn (now (w .entry))) (barred (sheetIn (now (w .entry)))) (scheduleIn (now (w .entry))) t)) × Going (now (w .entry)) (j + 1) (now (w .exit)) × Keyed (sheetIn (now (w .exit))) (scheduleIn (now (w .exit))) (now (q .exit)) ⌝ }
 {
@@ -65,6 +65,18 @@ fn place_task(w: &mut [u32], q: &mut [u64], j: usize, t: usize) -> Planned
             Planned::Done
         }
     }
+}
+
+// The first ready task is surveyed, and goes where the steps say.
+fn place_task(w: &mut [u32], q: &mut [u64], j: usize, t: usize) -> Planned
+    requires { ⌜ Going (now w) j (now w) ⌝ }
+    requires { ⌜ (j < 256) × (t < taskCount (sheetIn (now w))) ⌝ }
+    requires { ⌜ ready (sheetIn (now w)) (scheduleIn (now w)) t ≡ true ⌝ }
+    requires { ⌜ Keyed (sheetIn (now w)) (scheduleIn (now w)) (now q) ⌝ }
+    ensures { λ r. ⌜ (answerOf r (scheduleIn (now (w .exit))) ≡ placeOn (sheetIn (now (w .entry))) (barred (sheetIn (now (w .entry)))) (scheduleIn (now (w .entry))) t (choice (sheetIn (now (w .entry))) (barred (sheetIn (now (w .entry)))) (scheduleIn (now (w .entry))) t)) × Going (now (w .entry)) (j + 1) (now (w .exit)) × Keyed (sheetIn (now (w .exit))) (scheduleIn (now (w .exit))) (now (q .exit)) ⌝ }
+{
+    arrivals::survey(w, t);
+    place_surveyed(w, q, j, t)
 }
 
 // One turn.
@@ -119,9 +131,9 @@ fn clear_tables(w: &mut [u32])
     let n = tables::tasks(w);
     let mut t: usize = 0;
     while t < n {
-        w[8192 + t] = 16;
-        w[8448 + t] = 0;
-        w[8704 + t] = 0;
+        w[3856 + t] = 16;
+        w[4112 + t] = 0;
+        w[4368 + t] = 0;
         t += 1;
     }
 }
@@ -132,11 +144,11 @@ fn clear(w: &mut [u32])
     ensures { λ _. ⌜ Emptied (now (w .entry)) (now (w .exit)) ⌝ }
 {
     clear_tables(w);
-    w[9216] = 0;
-    w[9217] = 0;
+    w[4880] = 0;
+    w[4881] = 0;
 }
 
-// The schedule of the sheet in the tables, in the words from 8192 on, or the task that is refused.
+// The schedule of the sheet in the tables, in the words from 3856 on, or the task that is refused.
 pub fn schedule(w: &mut [u32]) -> Planned
     requires { ⌜ Loaded (now w) ⌝ }
     requires { ⌜ Levelled (sheetIn (now w)) (now w) ⌝ }

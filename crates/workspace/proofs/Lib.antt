@@ -1,1 +1,3 @@
+-- The laws of `workspace`.
 pub mod Zeros
+pub mod Clearing

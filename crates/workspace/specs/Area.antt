@@ -1,14 +1,24 @@
 -- The lent work area: its fixed length, and which words of it hold what.
 --
 --   0 tasks, 1 links, 2 processors, 3 limit
---   16 + t work and 272 + t store of task t (256 each)
---   528 + l source, 1552 + l target, 2576 + l cost and 3600 + l bytes of link l (1,024 each)
---   4624 + t level of task t
---   4880 to 8191 the search for circles and levels
---   8192 to 22527 what the planner and the checker keep
---   18432 to 20479 while a sheet is read: a bit for each pair of tasks, whether a link joins them
-use Prim.Native.Nat.{ℕ}
+--   16 + t work + 65536 * store of task t (256)
+--   272 + l source + 256 * target + 65536 * cost, and 1296 + l bytes of link l (1,024 each)
+--   2320 + t level of task t (256)
+--   2576 + t first link into task t (256), 2832 + l next link into the target of link l (1,024)
+--   3856 to 8815 for one after the other: a bit for each pair of tasks while a sheet is read, the search for circles and
+--   levels, and what the planner or the checker keeps
+use Prim.Native.Nat.{ℕ, _≤_, _<_}
+use mathlib.Core.Path.{_≡_}
+use mathlib.Core.Logic.{_⊎_}
+use mathlib.Core.List.{List}
+use lib.ListN.{length, getD}
 
 -- the length below which an area is refused (13), in words
 abbrev pub fixed : ℕ
-fixed = 22528
+fixed = 8816
+
+-- the words from a up to e are 0, and the others as they were
+pub record ClearIs (w last : List ℕ) (a e : ℕ) : Type 0 where
+  pub long : length last ≡ length w
+  pub zeros : (i : ℕ) → a ≤ i → i < e → getD last i 0 ≡ 0
+  pub other : (i : ℕ) → (i < a) ⊎ (e ≤ i) → getD last i 0 ≡ getD w i 0

@@ -1,1 +1,2 @@
+-- The definitions of `workspace`.
 pub mod Area

@@ -1,14 +1,14 @@
 // The work area that a caller lends: words of 32 bits.
 ghost use mathlib.Core.Path.{_≡_};
-ghost use Prim.Native.Nat.{_<_};
+ghost use Prim.Native.Nat.{_≤_, _<_};
 ghost use lib.ListN.{length, getD, replicate};
-ghost use Rattle.workspace.specs.Area.{fixed};
+ghost use Rattle.workspace.specs.Area.{fixed, ClearIs};
 
 // The least length of a work area or a machine's state, in words.
 pub fn fixed_length() -> usize
     ensures { λ r. ⌜ r ≡ fixed ⌝ }
 {
-    22528
+    8816
 }
 
 // A word as an index or a sum.
@@ -41,6 +41,18 @@ pub fn clear(work: &mut [u32])
     let mut i = 0;
     while i < work.len() {
         work[i] = 0;
+        i += 1;
+    }
+}
+
+// The words from a up to e become 0.
+pub fn clear_words(w: &mut [u32], a: usize, e: usize)
+    requires { ⌜ e ≤ length (now w) ⌝ }
+    ensures { λ _. ⌜ ClearIs (now (w .entry)) (now (w .exit)) a e ⌝ }
+{
+    let mut i = a;
+    while i < e {
+        w[i] = 0;
         i += 1;
     }
 }

@@ -1,2 +1,3 @@
+-- The laws of `zeldrupa`.
 pub mod Gives
 pub mod States

@@ -1,2 +1,3 @@
+-- The definitions of `zeldrupa`.
 pub mod Promises
 pub mod Stepping

@@ -1,4 +1,5 @@
-use Rattle.arrivals.proofs.Walks.{Walking, after-chained, after-link, after-loaded, walk-begins, walk-counted, walk-done, walk-landed, walk-link, walk-loaded, walk-more}
+-- `count_links` (src/lib.rt) keeps its contract.
+use Rattle.arrivals.proofs.Walks.{Walking, after-chained, after-link, after-loaded, walk-begins, walk-counted, walk-done, walk-landed, walk-link, walk-loaded, walk-more, walk-single}
 use Prim.Native.Nat.{_-_, _<_}
 use native.Mathlib.Omega.{arith}
 use Rattle.sheet.specs.Sheet.{linkCount}
@@ -28,7 +29,10 @@ count-link-requires c κs =
       (
         (s .pre .1 .1 .0 .0, s .pre .1 .1 .0 .1, o .0, o .1),
         (
-          walk-landed w (s .pre .0) (s .pre .1 .0) (s .pre .1 .1 .0 .3) (s .args .t) (s .pre .1 .1 .0 .2) g (s .pre .1 .1 .1 .0),
+          (
+            walk-single w (s .pre .0) (s .pre .1 .0) (s .pre .1 .1 .0 .3) (s .args .t) (s .pre .1 .1 .0 .2) g (s .pre .1 .1 .1 .0 .0),
+            walk-landed w (s .pre .0) (s .pre .1 .0) (s .pre .1 .1 .0 .3) (s .args .t) (s .pre .1 .1 .0 .2) g (s .pre .1 .1 .1 .0 .1),
+          ),
           walk-counted w (s .pre .0) (s .pre .1 .0) (s .pre .1 .1 .0 .3) (s .args .t) (s .pre .1 .1 .0 .2) g,
         ),
       ),

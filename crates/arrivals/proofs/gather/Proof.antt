@@ -1,3 +1,4 @@
+-- `gather` (src/lib.rt) keeps its contract.
 use Rattle.arrivals.specs.Steps.{GatheredTo}
 use Rattle.chains.specs.Frames.{Only}
 use Prim.Native.Nat.{_-_, _≤_}
@@ -10,7 +11,7 @@ use Rattle.arrivals.proofs.gather.Statement.{statement}
 use Rattle.arrivals.proofs.gather.Tie as tie
 
 abbrev Inv-loop : tie.InvT-loop
-Inv-loop w₀ m l₀ w l = (l ≤ m) × Only 11792 12304 w₀ w × GatheredTo (sheetIn w₀) l w
+Inv-loop w₀ m l₀ w l = (l ≤ m) × Only 6176 6688 w₀ w × GatheredTo (sheetIn w₀) l w
 
 abbrev μ-loop : tie.MeasureT-loop
 μ-loop w₀ m l₀ w l = m - l

@@ -1,3 +1,4 @@
+-- `gather_one` (src/lib.rt) keeps its contract.
 use native.Mathlib.Omega.{arith}
 use Rattle.arrivals.proofs.Gathering.{gather-small, gathered-by}
 use lib.ListN.{length-set}

@@ -1,3 +1,4 @@
+-- `reached` (src/lib.rt) keeps its contract.
 use mathlib.Core.Path.{_∙_}
 use Rattle.arrivals.proofs.Choices.{further-is, other-is, three}
 use borrow.Author.Needs.{needs}

@@ -1,3 +1,4 @@
+-- `release` (src/lib.rt) keeps its contract.
 use Rattle.arrivals.specs.Steps.{Released}
 use Prim.Native.Nat.{_-_, _≤_}
 use native.Mathlib.Omega.{arith}
@@ -7,16 +8,16 @@ use Rattle.arrivals.proofs.release.Statement.{statement}
 use Rattle.arrivals.proofs.release.Tie as tie
 
 abbrev Inv-loop : tie.InvT-loop
-Inv-loop w₀ t j₀ w j = (j ≤ 16) × Released t j w₀ w
+Inv-loop w₀ j₀ w j = (j ≤ 16) × Released j w₀ w
 
 abbrev μ-loop : tie.MeasureT-loop
-μ-loop w₀ t j₀ w j = 16 - j
+μ-loop w₀ j₀ w j = 16 - j
 
 loop-holds : tie.Need-loop-holds Inv-loop μ-loop
-loop-holds c = (omega arith, released-none _ _)
+loop-holds c = (omega arith, released-none _)
 
 word-requires : tie.Need-word-requires Inv-loop μ-loop
-word-requires c κs = omega (arith, c .before .before .loop .inv .1 .long, c .before .before .before .before .pre .0 .0)
+word-requires c κs = omega (arith, c .before .before .loop .inv .1 .long, c .before .before .before .before .pre .0)
 
 word-requires-2 : tie.Need-word-requires-2 Inv-loop μ-loop
 word-requires-2 c κs = omega (arith, c .before .before .before .before .loop .inv .1 .long, c .before .before .before .before .before .before .pre .0)
@@ -28,10 +29,10 @@ narrow-requires : tie.Need-narrow-requires Inv-loop μ-loop
 narrow-requires c κs = omega (arith, c .before .before .word .ensures .1)
 
 slice-write-w : tie.Need-slice-write-w Inv-loop μ-loop
-slice-write-w c = omega (arith, c .before .before .before .before .before .before .loop .inv .1 .long, c .before .before .before .before .before .before .before .before .pre .0 .0)
+slice-write-w c = omega (arith, c .before .before .before .before .before .before .loop .inv .1 .long, c .before .before .before .before .before .before .before .before .pre .0)
 
 loop-again : tie.Need-loop-again Inv-loop μ-loop
-loop-again c = (omega arith, released-more (c .before .before .before .before .before .before .before .before .pre .0 .0) (omega (arith, c .before .before .before .before .before .loop-test .taken)) (c .before .before .before .word .ensures .0) (c .before .word2 .ensures .0) (c .narrow .ensures) (c .before .before .before .before .before .before .before .before .pre .1) (c .before .before .before .before .before .before .loop .inv .1))
+loop-again c = (omega arith, released-more (c .before .before .before .before .before .before .before .before .pre .0) (omega (arith, c .before .before .before .before .before .loop-test .taken)) (c .before .before .before .word .ensures .0) (c .before .word2 .ensures .0) (c .narrow .ensures) (c .before .before .before .before .before .before .before .before .pre .1) (c .before .before .before .before .before .before .loop .inv .1))
 
 same-length : tie.Need-same-length Inv-loop μ-loop
 same-length c = c .before .loop .inv .1 .long
@@ -48,8 +49,6 @@ release-spec =
     loop-holds
     (λ c. search needs)
     word-requires
-    (λ c. search needs)
-    (λ c. search needs)
     (λ c. search needs)
     word-requires-2
     sub-narrow

@@ -1,3 +1,4 @@
+-- `write_link` (src/lib.rt) keeps its contract.
 use native.Mathlib.Omega.{arith}
 use Rattle.arrivals.specs.Steps.{countWords}
 use lib.ListN.{length-set}
@@ -20,15 +21,12 @@ slice-write-w-5 c = simp length-set (omega arith)
 slice-write-w-6 : tie.Need-slice-write-w-6
 slice-write-w-6 c = simp length-set (omega arith)
 
-slice-write-w-7 : tie.Need-slice-write-w-7
-slice-write-w-7 c = simp length-set (omega arith)
-
 same-length : tie.Need-same-length
 same-length c = simp length-set
 
 returns : tie.Need-returns
 unfolding countWords
-returns c = simp (c .narrow7 .ensures, c .before .narrow6 .ensures, c .before .before .narrow5 .ensures, c .before .before .before .narrow4 .ensures, c .before .before .before .before .narrow3 .ensures, c .before .before .before .before .before .narrow2 .ensures, c .before .before .before .before .before .before .narrow .ensures)
+returns c = simp (c .narrow6 .ensures, c .before .narrow5 .ensures, c .before .before .narrow4 .ensures, c .before .before .before .narrow3 .ensures, c .before .before .before .before .narrow2 .ensures, c .before .before .before .before .before .narrow .ensures)
 
 pub write-link-spec : {M : Type 1} → statement M
 write-link-spec =
@@ -60,11 +58,5 @@ write-link-spec =
     (λ c. search needs)
     (λ c. search needs)
     slice-write-w-6
-    (λ c κs. search needs)
-    (λ c. search needs)
-    (λ c. search needs)
-    (λ c. search needs)
-    (λ c. search needs)
-    slice-write-w-7
     same-length
     returns)

@@ -1,3 +1,4 @@
+-- `chain` (src/lib.rt) keeps its contract.
 use mathlib.Core.Path.{ap, sym}
 use native.Mathlib.Omega.{arith}
 use Rattle.chains.proofs.Building.{chains-done, chains-still, head-place}

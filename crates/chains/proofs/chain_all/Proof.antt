@@ -1,3 +1,4 @@
+-- `chain_all` (src/lib.rt) keeps its contract.
 use Rattle.chains.specs.Chains.{ChainedFrom, headAt}
 use Rattle.chains.specs.Frames.{Only}
 use Prim.Native.Nat.{_+_, _≤_, ℕ}

@@ -1,3 +1,4 @@
+-- `chain_one` (src/lib.rt) keeps its contract.
 use native.Mathlib.Omega.{arith}
 use Rattle.chains.proofs.Building.{chained-by}
 use lib.ListN.{length-set}

@@ -1,3 +1,4 @@
+-- `end_of` (src/lib.rt) keeps its contract.
 use Rattle.chains.specs.declared.End.{End}
 use mathlib.Core.Path.{_∙_, ap, sym}
 use Rattle.chains.specs.Chains.{endBy}

@@ -1,3 +1,4 @@
+-- `first` (src/lib.rt) keeps its contract.
 use Prim.Native.Nat.{_+_, ℕ}
 use mathlib.Core.Path.{_∙_, ap}
 use native.Mathlib.Omega.{arith}

@@ -1,3 +1,4 @@
+-- `unchain` (src/lib.rt) keeps its contract.
 use Rattle.chains.proofs.Building.{Headed, chain-none, headed-more, headed-none}
 use Rattle.chains.specs.Frames.{Only}
 use Prim.Native.Nat.{_+_, _-_, _≤_, ℕ}

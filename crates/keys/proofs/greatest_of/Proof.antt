@@ -1,3 +1,4 @@
+-- `greatest_of` (src/lib.rt) keeps its contract.
 use Prim.Native.Nat.{_+_, _-_, _≤_, max}
 use mathlib.Core.Path.{_≡_, _∙_, ap₂, refl, sym}
 use native.Mathlib.Omega.{arith}

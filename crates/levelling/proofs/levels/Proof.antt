@@ -1,3 +1,4 @@
+-- `levels` (src/lib.rt) keeps its contract.
 use Rattle.levelling.proofs.Ends.{find-goes, levels-found, levels-free, peel-asks}
 use Rattle.peeling.proofs.Frames.{held}
 use borrow.Author.Needs.{needs}

@@ -1,9 +1,12 @@
 -- `lines::list_planned` meets its contract.
 use denote.Ref.{now}
-use Rattle.lines.proofs.Opened.{planned-refused, planned-done}
+use Rattle.lines.proofs.Opened.{planned-refused, done-standing, planned-done}
 use borrow.Author.Needs.{needs}
 use Rattle.lines.proofs.list_planned.Statement.{statement}
 use Rattle.lines.proofs.list_planned.Tie as tie
+
+list-schedule-requires : tie.Need-list-schedule-requires
+list-schedule-requires c κs = (c .before .before .before .before .before .before .schedule .ensures .1 .loaded, done-standing (now (c .before .before .before .before .before .before .before .before .before .before .args .w)) (c .before .before .before .before .before .before .schedule .last .0) _ (c .before .before .before .before .before .before .schedule .ensures .0) (c .before .before .enum-told .given .1) (c .before .before .before .before .before .before .schedule .ensures .1) (c .before .before .before .before .before .before .before .before .before .before .pre .1 .1 .1))
 
 returns : tie.Need-returns
 returns c = planned-refused (now (c .before .before .before .before .before .before .before .before .before .before .before .before .before .args .w)) (c .before .before .before .before .before .before .before .before .before .schedule .last .0) _ (c .before .before .before .before .before .before .before .before .before .schedule .ensures .0) _ (c .before .before .before .before .before .t .given .1) (c .before .before .list-refusal .ensures)
@@ -19,7 +22,7 @@ list-planned-spec =
     (λ c. search needs)
     (λ c κs. search needs)
     (λ c. search needs)
-    (λ c κs. search needs)
+    list-schedule-requires
     (λ c. search needs)
     (λ c. search needs)
     returns

@@ -1,15 +1,21 @@
 -- `lines::list_schedule` meets its contract.
-use Rattle.lines.proofs.Fits.{fit-short, fit-long}
+use native.Mathlib.Omega.{arith}
+use Rattle.lines.proofs.Fits.{fit-enough}
 use borrow.Author.Needs.{needs}
 use Rattle.lines.proofs.list_schedule.Statement.{statement}
 use Rattle.lines.proofs.list_schedule.Tie as tie
 
-returns : tie.Need-returns
-returns c = fit-short _ _ _ (c .before .needed .ensures .0) (c .before .needed .ensures .1) (c .if1 .taken)
-
 returns-2 : tie.Need-returns-2
-returns-2 c = fit-long _ _ _ (c .before .before .before .before .before .needed .ensures .0) (c .before .before .before .before .before .needed .ensures .1) (c .before .before .before .before .if1 .left) _ (c .before .before .put-schedule .ensures)
+returns-2 c = fit-enough (c .before .before .before .before .before .most .ensures .0) (omega (arith, c .before .before .before .before .before .most .ensures .1)) (c .before .before .before .before .if1 .left) (c .before .before .put-schedule .ensures)
 
 pub list-schedule-spec : {M : Type 1} → statement M
 list-schedule-spec =
-    tie.close (tie.spec (λ c κs. search needs) returns (λ c κs. search needs) (λ c. search needs) returns-2)
+    tie.close
+    (tie.spec
+    (λ c κs. search needs)
+    (λ c κs. search needs)
+    (λ c. search needs)
+    (λ c. search needs)
+    (λ c κs. search needs)
+    (λ c. search needs)
+    returns-2)

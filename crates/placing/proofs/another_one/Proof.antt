@@ -1,3 +1,4 @@
+-- `another_one` (src/lib.rt) keeps its contract.
 use Rattle.planner.specs.Planner.{another}
 use native.Mathlib.Omega.{arith}
 use borrow.Author.Tests.{le-ltb, lt-ltb}

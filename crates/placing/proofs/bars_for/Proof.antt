@@ -1,3 +1,4 @@
+-- `bars_for` (src/lib.rt) keeps its contract.
 use mathlib.Core.Path.{ap₂}
 use Prim.Native.Nat.{_+_}
 use denote.Ref.{now}

@@ -1,3 +1,4 @@
+-- `choice_of` (src/lib.rt) keeps its contract.
 use mathlib.Core.Path.{_∙_, ap, sym}
 use Rattle.readiness.proofs.Searches.{below-at}
 use Rattle.readiness.specs.Found.{foundOf}

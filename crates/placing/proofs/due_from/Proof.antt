@@ -1,8 +1,9 @@
+-- `due_from` (src/lib.rt) keeps its contract.
 use Prim.Native.Nat.{_*_, _-_, _<_, _≤_}
 use mathlib.Core.Path.{_≡_}
 use native.Mathlib.Omega.{arith}
 use denote.Ref.{now}
-use Rattle.placing.proofs.Spent.{due-else, due-own}
+use Rattle.placing.proofs.Spent.{due-else, due-own, target-free}
 use Rattle.placing.specs.Choosing.{dueBy}
 use Rattle.sheet.specs.Sheet.{linkCount, sourceOf}
 use Rattle.chains.proofs.Walks.{own-first, own-next, sum-first, sum-next}
@@ -41,7 +42,7 @@ target-requires : tie.Need-target-requires Inv-loop μ-loop
 target-requires c κs = (c .before .before .before .before .before .pre .0 .kept .loaded, omega (arith, c .loop-test .taken, c .before .before .before .links .ensures .0))
 
 known-into-requires : tie.Need-known-into-requires Inv-loop μ-loop
-known-into-requires c κs = (c .before .before .before .before .before .before .pre .0 .kept, (c .target .ensures .1, c .before .before .before .before .before .before .pre .1))
+known-into-requires c κs = (c .before .before .before .before .before .before .pre .0 .kept, (c .target .ensures .1, target-free (c .before .before .before .before .before .before .pre .0) (c .before .before .loop .l) (omega (arith, c .before .loop-test .taken, c .before .before .before .before .links .ensures .0)) (c .before .before .loop .inv .1 (omega (arith, c .before .loop-test .taken, c .before .before .before .before .links .ensures .0))) (c .target .ensures .0), c .before .before .before .before .before .before .pre .1))
 
 add-due : tie.Need-add-due Inv-loop μ-loop
 add-due c = omega (arith, c .before .before .before .loop .inv .0, c .before .before .before .loop .inv .3, c .before .before .before .before .before .links .ensures .1, c .known-into .ensures .1)

@@ -1,3 +1,4 @@
+-- `end_of` (src/lib.rt) keeps its contract.
 use mathlib.Core.Path.{_∙_}
 use borrow.Author.Needs.{needs}
 use Rattle.placing.proofs.end_of.Statement.{statement}

@@ -1,3 +1,4 @@
+-- `fits_on` (src/lib.rt) keeps its contract.
 use Rattle.placing.proofs.Starts.{fits-kept}
 use borrow.Author.Needs.{needs}
 use denote.Ref.{now}
@@ -16,8 +17,6 @@ fits-on-spec =
     (λ c κs. search needs)
     (λ c. search needs)
     (λ c κs. search needs)
-    (λ c. search needs)
-    (λ c. search needs)
     (λ c. search needs)
     (λ c κs. search needs)
     (λ c. search needs)

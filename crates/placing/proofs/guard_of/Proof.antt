@@ -1,3 +1,4 @@
+-- `guard_of` (src/lib.rt) keeps its contract.
 use Rattle.readiness.proofs.Searches.{below-at}
 use Rattle.placing.proofs.Guards.{guard-ahead, guard-behind, guard-none}
 use borrow.Author.Needs.{needs}

@@ -1,3 +1,4 @@
+-- `high_key` (src/lib.rt) keeps its contract.
 use mathlib.Core.Path.{refl}
 use Rattle.placing.specs.Ranks.{highKey}
 use borrow.Author.Needs.{needs}

@@ -1,3 +1,4 @@
+-- `is_spent` (src/lib.rt) keeps its contract.
 use denote.Ref.{now}
 use Rattle.placing.proofs.Spent.{spent-kept, spent-none}
 use borrow.Author.Needs.{needs}

@@ -1,20 +1,15 @@
+-- `known_into` (src/lib.rt) keeps its contract.
 use native.Mathlib.Omega.{arith}
 use Rattle.placing.proofs.Spent.{known-one, known-all, on-board}
 use borrow.Author.Needs.{needs}
 use Rattle.placing.proofs.known_into.Statement.{statement}
 use Rattle.placing.proofs.known_into.Tie as tie
 
-add-word : tie.Need-add-word
-add-word c = omega (arith, on-board (c .before .from .given .1) (c .before .before .before .before .pre .1 .1), c .before .before .before .before .pre .1 .0, c .before .before .before .before .pre .0 .ranged .few-tasks)
-
-add-word-2 : tie.Need-add-word-2
-add-word-2 c = omega (arith, on-board (c .before .from .given .1) (c .before .before .before .before .pre .1 .1), c .before .before .before .before .pre .1 .0, c .before .before .before .before .pre .0 .ranged .few-tasks)
-
 word-requires : tie.Need-word-requires
-word-requires c κs = omega (arith, on-board (c .before .from .given .1) (c .before .before .before .before .pre .1 .1), c .before .before .before .before .pre .1 .0, c .before .before .before .before .pre .0 .ranged .few-tasks, c .before .before .before .before .pre .0 .loaded .long)
+word-requires c κs = omega (arith, on-board (c .before .from .given .1) (c .before .before .before .before .pre .1 .2), c .before .before .before .before .pre .1 .0, c .before .before .before .before .pre .0 .ranged .few-tasks, c .before .before .before .before .pre .0 .loaded .long)
 
 returns : tie.Need-returns
-returns c = let a = c .before .before .before .before .before in known-one (a .pre .0 .ranged) (a .pre .0 .caches .counted) (a .args .v) (a .pre .1 .0) (c .before .before .from .given .1) (a .pre .1 .1) (c .word .ensures .0)
+returns c = let a = c .before .before .before .before .before in known-one (a .pre .0 .ranged) (a .pre .0 .caches .counted) (a .args .v) (a .pre .1 .0) (a .pre .0 .single) (a .pre .1 .1) (c .before .before .from .given .1) (a .pre .1 .2) (c .word .ensures .0)
 
 returns-2 : tie.Need-returns-2
 returns-2 c = let a = c .before .before .before .before in known-all (a .pre .0 .ranged) (a .pre .0 .caches .counted) (a .args .v) (a .pre .1 .0) (c .before .enum-told .given .1) (c .word2 .ensures .0)
@@ -25,9 +20,11 @@ known-into-spec =
     (tie.spec
     (λ c. search needs)
     (λ c. search needs)
-    add-word
-    add-word-2
+    (λ c. search needs)
+    (λ c. search needs)
     word-requires
+    (λ c. search needs)
+    (λ c. search needs)
     (λ c. search needs)
     (λ c. search needs)
     (λ c κs. search needs)

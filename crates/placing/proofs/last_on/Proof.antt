@@ -1,3 +1,4 @@
+-- `last_on` (src/lib.rt) keeps its contract.
 use Prim.Native.Nat.{_-_, _≤_}
 use mathlib.Core.Path.{_≡_, _∙_, sym}
 use native.Mathlib.Omega.{arith}

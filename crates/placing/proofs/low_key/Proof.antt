@@ -1,3 +1,4 @@
+-- `low_key` (src/lib.rt) keeps its contract.
 use Rattle.placing.specs.Ranks.{lowKey}
 use borrow.Author.Needs.{needs}
 use Rattle.placing.proofs.low_key.Statement.{statement}

@@ -1,6 +1,6 @@
+-- `may_be_idle` (src/lib.rt) keeps its contract.
 use denote.Ref.{now}
 use Prim.Native.Nat.{ℕ, _-_, _≤_}
-use mathlib.Core.Bool.{Bool}
 use mathlib.Core.Path.{_≡_, _∙_, ap, ap₂, sym}
 use native.Mathlib.Omega.{arith}
 use lib.Dec.{leb}

@@ -1,3 +1,4 @@
+-- `processor_of` (src/lib.rt) keeps its contract.
 use native.Mathlib.Omega.{arith}
 use Rattle.placing.proofs.Ranks.{processor-some}
 use borrow.Author.Needs.{needs}

@@ -1,3 +1,4 @@
+-- `reach_of` (src/lib.rt) keeps its contract.
 use borrow.Author.Tests.{eq-eqb, ne-eqb}
 use borrow.Author.Needs.{needs}
 use Rattle.placing.proofs.reach_of.Statement.{statement}

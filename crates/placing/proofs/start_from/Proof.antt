@@ -1,3 +1,4 @@
+-- `start_from` (src/lib.rt) keeps its contract.
 use mathlib.Core.Path.{_∙_, ap}
 use native.Mathlib.Omega.{arith}
 use Prim.Native.Nat.{max}

@@ -1,3 +1,4 @@
+-- `start_on` (src/lib.rt) keeps its contract.
 use mathlib.Core.Path.{_∙_, ap}
 use native.Mathlib.Omega.{arith}
 use borrow.Author.Needs.{needs}

@@ -1,3 +1,4 @@
+-- `list` (src/lib.rt) keeps its contract.
 use Rattle.plans.proofs.Planning.{list-no, list-yes}
 use borrow.Author.Needs.{needs}
 use Rattle.plans.proofs.list.Statement.{statement}

@@ -1,3 +1,4 @@
+-- `write` (src/lib.rt) keeps its contract.
 use Rattle.plans.proofs.Planning.{plan-no, plan-yes}
 use borrow.Author.Needs.{needs}
 use Rattle.plans.proofs.write.Statement.{statement}

@@ -1,3 +1,4 @@
+-- `far_end` (src/lib.rt) keeps its contract.
 use Rattle.chains.specs.declared.End.{End}
 use mathlib.Core.Path.{_∙_, ap, sym}
 use Rattle.programmes.specs.Bytes.{farBy}

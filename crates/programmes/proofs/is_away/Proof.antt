@@ -1,3 +1,4 @@
+-- `is_away` (src/lib.rt) keeps its contract.
 use mathlib.Core.Path.{_∙_, ap}
 use lib.Dec.{eqb}
 use borrow.Author.Needs.{needs}

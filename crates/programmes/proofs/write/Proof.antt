@@ -1,3 +1,4 @@
+-- `write` (src/lib.rt) keeps its contract.
 use native.Mathlib.Omega.{arith}
 use Rattle.bundle.specs.Writing.{bundleBytes}
 use Rattle.planner.specs.Planner.{bundleOf}

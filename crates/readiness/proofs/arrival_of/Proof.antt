@@ -1,3 +1,4 @@
+-- `arrival_of` (src/lib.rt) keeps its contract.
 use mathlib.Core.Path.{_∙_}
 use Rattle.readiness.proofs.Counts.{arrival-kept}
 use borrow.Author.Needs.{needs}

@@ -1,3 +1,4 @@
+-- `begin` (src/lib.rt) keeps its contract.
 use Prim.Native.Nat.{_-_, _≤_}
 use native.Mathlib.Omega.{arith}
 use Rattle.readiness.proofs.Renewing.{keyed-more, keyed-none, keyed-at}

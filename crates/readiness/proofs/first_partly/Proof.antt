@@ -1,3 +1,4 @@
+-- `first_partly` (src/lib.rt) keeps its contract.
 use Rattle.readiness.proofs.Keys.{first-partly-is}
 use borrow.Author.Needs.{needs}
 use Rattle.readiness.proofs.first_partly.Statement.{statement}

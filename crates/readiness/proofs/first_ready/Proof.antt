@@ -1,3 +1,4 @@
+-- `first_ready` (src/lib.rt) keeps its contract.
 use Rattle.readiness.proofs.Keys.{first-ready-is}
 use borrow.Author.Needs.{needs}
 use Rattle.readiness.proofs.first_ready.Statement.{statement}

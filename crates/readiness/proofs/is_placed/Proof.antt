@@ -1,3 +1,4 @@
+-- `is_placed` (src/lib.rt) keeps its contract.
 use borrow.Author.Needs.{needs}
 use Rattle.planner.specs.Schedule.{placed}
 use Rattle.readiness.proofs.is_placed.Statement.{statement}

@@ -1,3 +1,4 @@
+-- `is_ready` (src/lib.rt) keeps its contract.
 use mathlib.Core.Path.{_∙_, sym}
 use borrow.Author.Needs.{needs}
 use Rattle.readiness.proofs.Counts.{placed-ready, ready-kept}

@@ -1,3 +1,4 @@
+-- `key_of` (src/lib.rt) keeps its contract.
 use native.Mathlib.Omega.{arith}
 use Rattle.readiness.proofs.Keys.{level-le, priority-le}
 use Rattle.readiness.specs.Keyed.{keyOf}

@@ -1,3 +1,4 @@
+-- `priority_of` (src/lib.rt) keeps its contract.
 use borrow.Author.Needs.{needs}
 use Rattle.planner.specs.Placing.{priority}
 use Rattle.readiness.proofs.priority_of.Statement.{statement}

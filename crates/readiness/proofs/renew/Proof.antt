@@ -1,3 +1,4 @@
+-- `renew` (src/lib.rt) keeps its contract.
 use Rattle.readiness.proofs.Renewing.{past-begins}
 use borrow.Author.Needs.{needs}
 use Rattle.readiness.proofs.renew.Statement.{statement}

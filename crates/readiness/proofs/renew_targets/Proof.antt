@@ -1,3 +1,4 @@
+-- `renew_targets` (src/lib.rt) keeps its contract.
 use Rattle.readiness.proofs.Renewing.{Walking, walk-begins, walk-more, walk-done}
 use Prim.Native.Nat.{_-_}
 use native.Mathlib.Omega.{arith}

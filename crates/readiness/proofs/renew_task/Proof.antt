@@ -1,3 +1,4 @@
+-- `renew_task` (src/lib.rt) keeps its contract.
 use native.Mathlib.Omega.{arith}
 use Rattle.readiness.proofs.Renewing.{ready-key, partly-key, renewed-by}
 use borrow.Author.Needs.{needs}

@@ -1,3 +1,4 @@
+-- `task_of` (src/lib.rt) keeps its contract.
 use mathlib.Core.Path.{sym}
 use native.Mathlib.Omega.{arith}
 use Rattle.readiness.proofs.Keys.{task-of-more}

@@ -1,3 +1,4 @@
+-- `finish` (src/lib.rt) keeps its contract.
 use mathlib.Core.Path.{_∙_, sym}
 use native.Mathlib.Omega.{arith}
 use Rattle.schedule.proofs.Rows.{finish-in}

@@ -1,3 +1,4 @@
+-- `level_of` (src/lib.rt) keeps its contract.
 use mathlib.Core.Path.{_∙_}
 use native.Mathlib.Omega.{arith}
 use denote.Ref.{now}

@@ -1,3 +1,4 @@
+-- `opened` (src/lib.rt) keeps its contract.
 use Rattle.sheet.proofs.Rows.{field-most}
 use borrow.Author.Needs.{needs}
 use mathlib.Core.Path.{refl}

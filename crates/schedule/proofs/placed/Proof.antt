@@ -1,3 +1,4 @@
+-- `placed` (src/lib.rt) keeps its contract.
 use mathlib.Core.Path.{_∙_, sym}
 use borrow.Author.Needs.{needs}
 use denote.Ref.{now}

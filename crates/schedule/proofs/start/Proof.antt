@@ -1,3 +1,4 @@
+-- `start` (src/lib.rt) keeps its contract.
 use mathlib.Core.Path.{_∙_, sym}
 use native.Mathlib.Omega.{arith}
 use denote.Ref.{now}

@@ -1,3 +1,4 @@
+-- `turn` (src/lib.rt) keeps its contract.
 use mathlib.Core.Path.{_∙_, sym}
 use borrow.Author.Needs.{needs}
 use denote.Ref.{now}

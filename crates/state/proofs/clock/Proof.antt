@@ -1,3 +1,4 @@
+-- `clock` (src/lib.rt) keeps its contract.
 use Rattle.state.proofs.Asks.{no-clock, some-clock}
 use borrow.Author.Needs.{needs}
 use native.Mathlib.Omega.{arith}

@@ -1,3 +1,4 @@
+-- `position` (src/lib.rt) keeps its contract.
 use Rattle.state.proofs.Asks.{no-position, some-position}
 use borrow.Author.Needs.{needs}
 use native.Mathlib.Omega.{arith}

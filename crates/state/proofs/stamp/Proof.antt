@@ -1,3 +1,4 @@
+-- `stamp` (src/lib.rt) keeps its contract.
 use Rattle.state.proofs.Asks.{no-stamp, some-stamp}
 use borrow.Author.Needs.{needs}
 use native.Mathlib.Omega.{arith}

@@ -1,3 +1,4 @@
+-- `store` (src/lib.rt) keeps its contract.
 use Rattle.state.proofs.Asks.{no-store, some-store}
 use borrow.Author.Needs.{needs}
 use native.Mathlib.Omega.{arith}

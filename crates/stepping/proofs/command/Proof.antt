@@ -1,3 +1,4 @@
+-- `command` (src/lib.rt) keeps its contract.
 use Rattle.words.proofs.Ends.{two-small}
 use mathlib.Core.Path.{_∙_}
 use native.Mathlib.Omega.{arith}

@@ -1,3 +1,4 @@
+-- `move_on` (src/lib.rt) keeps its contract.
 use Rattle.stepping.proofs.Lows.{length-placed}
 use Rattle.state.specs.Words.{movedWords}
 use borrow.Author.Needs.{needs}

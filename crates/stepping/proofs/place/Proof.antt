@@ -1,3 +1,4 @@
+-- `place` (src/lib.rt) keeps its contract.
 use Rattle.state.specs.Words.{placedWords}
 use borrow.Author.Needs.{needs}
 use Rattle.stepping.proofs.place.Statement.{statement}

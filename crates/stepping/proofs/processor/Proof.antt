@@ -1,3 +1,4 @@
+-- `processor` (src/lib.rt) keeps its contract.
 use borrow.Author.Needs.{needs}
 use Rattle.stepping.proofs.processor.Statement.{statement}
 use Rattle.stepping.proofs.processor.Tie as tie

@@ -1,3 +1,4 @@
+-- `put` (src/lib.rt) keeps its contract.
 use borrow.Author.Needs.{needs}
 use Rattle.stepping.proofs.put.Statement.{statement}
 use Rattle.stepping.proofs.put.Tie as tie

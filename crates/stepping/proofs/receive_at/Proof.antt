@@ -1,3 +1,4 @@
+-- `receive_at` (src/lib.rt) keeps its contract.
 use Rattle.state.specs.Words.{gotWords}
 use denote.Ref.{now}
 use mathlib.Core.Path.{refl}

@@ -1,3 +1,4 @@
+-- `run` (src/lib.rt) keeps its contract.
 use Rattle.state.specs.Keeps.{RunIs}
 use Prim.Native.Nat.{_-_, _≤_}
 use native.Mathlib.Omega.{arith}

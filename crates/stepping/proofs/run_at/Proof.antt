@@ -1,3 +1,4 @@
+-- `run_at` (src/lib.rt) keeps its contract.
 use Rattle.state.specs.Words.{ranWords}
 use borrow.Author.Needs.{needs}
 use Rattle.stepping.proofs.run_at.Statement.{statement}

@@ -1,3 +1,4 @@
+-- `send_at` (src/lib.rt) keeps its contract.
 use Rattle.state.specs.Words.{sentWords}
 use borrow.Author.Needs.{needs}
 use Rattle.stepping.proofs.send_at.Statement.{statement}

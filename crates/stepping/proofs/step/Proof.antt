@@ -1,3 +1,4 @@
+-- `step` (src/lib.rt) keeps its contract.
 use Rattle.stepping.proofs.Chosen.{too-short, too-large}
 use borrow.Author.Needs.{needs}
 use Rattle.stepping.proofs.step.Statement.{statement}

@@ -1,3 +1,4 @@
+-- `clear` (src/lib.rt) keeps its contract.
 use borrow.Author.Needs.{needs}
 use native.Mathlib.Omega.{arith}
 use lib.ListN.{length-set}

@@ -1,3 +1,4 @@
+-- `clear_tables` (src/lib.rt) keeps its contract.
 use Rattle.turns.specs.Turns.{Cleared}
 use Prim.Native.Nat.{_-_, _≤_}
 use native.Mathlib.Omega.{arith}

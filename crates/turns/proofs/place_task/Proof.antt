@@ -1,36 +1,19 @@
-use mathlib.Core.Path.{_∙_, ap, sym}
+-- `place_task` (src/lib.rt) keeps its contract.
 use native.Mathlib.Omega.{arith}
-use Rattle.readiness.proofs.Searches.{below-at}
-use Rattle.turns.proofs.Going.{choosing, later-turns}
-use Rattle.readiness.specs.Found.{foundOf}
+use Rattle.turns.proofs.Surveying.{surveyed-can, surveyed-then}
 use borrow.Author.Needs.{needs}
-use Rattle.turns.proofs.Turns.{place-done, place-refused}
 use Rattle.turns.proofs.place_task.Statement.{statement}
 use Rattle.turns.proofs.place_task.Tie as tie
 
-choice-of-requires : tie.Need-choice-of-requires
-choice-of-requires c κs = (choosing (c .before .before .before .before .pre .0) (c .before .before .before .before .pre .1 .0 .1) (c .before .before .before .before .pre .1 .1 .0), c .before .before .before .before .pre .1 .1 .1)
+survey-requires : tie.Need-survey-requires
+survey-requires c κs = let a = c .before .before .before in (a .pre .0 .kept, (omega (arith, a .pre .0 .placed, a .pre .1 .0 .0), a .pre .1 .0 .1, a .pre .1 .1 .0))
 
-place-on-requires : tie.Need-place-on-requires
-place-on-requires c κs = let a = c .before .before .before .before .before .before .before .before .before .before in (a .pre .0, ((a .pre .1 .0 .0, a .pre .1 .0 .1, below-at 16 (c .before .before .before .k .given .1) (c .before .before .before .before .before .choice-of .ensures .1)), (a .pre .1 .1 .0, a .pre .1 .1 .1)))
+place-surveyed-requires : tie.Need-place-surveyed-requires
+place-surveyed-requires c κs = let a = c .before .before .before .before .before .before .before .before in surveyed-can (a .pre .0) (a .pre .1 .0 .0) (c .before .before .before .before .survey .ensures .0) (a .args .t) (a .pre .1 .0 .1) (a .pre .1 .1 .0) (c .before .before .before .before .survey .ensures .1) (a .pre .1 .1 .1)
 
 returns : tie.Need-returns
-returns c = (place-refused _ _ (c .before .before .before .before .before .before .before .args .t) (sym (ap foundOf (c .enum-told .given .1)) ∙ c .before .before .choice-of .ensures .0), later-turns (omega arith) (c .before .before .before .before .before .before .before .pre .0), c .before .before .before .before .before .before .before .pre .1 .1 .1)
-
-returns-2 : tie.Need-returns-2
-returns-2 c = (place-done _ _ (c .before .before .before .before .before .before .before .before .before .before .before .before .before .before .before .args .t) (sym (ap foundOf (c .before .before .before .before .before .before .before .before .k .given .1)) ∙ c .before .before .before .before .before .before .before .before .before .before .choice-of .ensures .0) (c .before .before .before .before .place-on .ensures .0), c .before .before .before .before .place-on .ensures .1, c .before .before .before .before .place-on .ensures .2)
+returns c = let a = c .before .before .before .before .before .before .before .before .before .before .before .before .before in surveyed-then (a .pre .0) (a .pre .1 .0 .0) (c .before .before .before .before .before .before .before .before .before .survey .ensures .0) (a .args .t) (c .before .before .before .before .place-surveyed .ensures)
 
 pub place-task-spec : {M : Type 1} → statement M
 place-task-spec =
-    tie.close
-    (tie.spec
-    choice-of-requires
-    (λ c. search needs)
-    (λ c. search needs)
-    place-on-requires
-    (λ c. search needs)
-    (λ c. search needs)
-    returns
-    (λ c. search needs)
-    (λ c. search needs)
-    returns-2)
+    tie.close (tie.spec survey-requires place-surveyed-requires (λ c. search needs) (λ c. search needs) returns)

@@ -1,7 +1,8 @@
+-- `put_on` (src/lib.rt) keeps its contract.
 use Prim.Native.Nat.{_+_, ℕ}
 use mathlib.Core.Path.{_∙_, ap₂}
 use native.Mathlib.Omega.{arith}
-use Rattle.turns.proofs.Going.{choosing, counted₃, enough₁, few₃, going₄, landed₃, loaded₃, long₁, long₂, outward₃, putting, schedule₄, t-small, task₃}
+use Rattle.turns.proofs.Going.{choosing, counted₃, enough₁, few₃, going₄, landed₃, loaded₃, long₁, long₂, outward₃, putting, schedule₄, single₃, t-small, task₃}
 use Rattle.placing.proofs.Guards.{end-le-start}
 use Rattle.turns.proofs.Bounds.{finish-early}
 use borrow.Author.Needs.{needs}
@@ -21,7 +22,7 @@ settle-requires c κs =
     let early = finish-early (sheetIn w) (scheduleIn w) (s .args .j) (g .kept .ranged) (g .timely) (s .args .t) (s .args .k) (c .before .before .before .before .before .before .before .before .start-on .ensures .0) (c .before .before .before .before .before .before .work .ensures .0) (s .pre .1 .0 .1) in (
       g .kept,
       (
-        placeable w (s .args .t) (s .args .k) (choosing g (s .pre .1 .0 .1) (s .pre .1 .1)) (s .pre .1 .0 .2),
+        (placeable w (s .args .t) (s .args .k) (choosing g (s .pre .1 .0 .1) (s .pre .1 .1 .0) (s .pre .1 .1 .1)) (s .pre .1 .0 .2), s .pre .1 .1 .1),
         (omega (arith, early, s .pre .1 .0 .0), omega (arith, end-le-start (sheetIn w) (scheduleIn w) (s .args .t) (s .args .k), c .before .before .before .before .before .before .before .before .start-on .ensures .0)),
       ),
     )
@@ -29,13 +30,13 @@ settle-requires c κs =
 release-requires : tie.Need-release-requires
 release-requires c κs =
     let s = c .before .before .before .before .before .before .before .before .before .before .before .before .before .before .before in
-    let u = putting (s .pre .0) (s .pre .1 .0 .0) (s .pre .1 .0 .1) (s .pre .1 .0 .2) (s .pre .1 .1) (c .before .before .before .before .before .before .before .before .before .before .before .before .start-on .ensures .0) (c .before .before .before .before .before .before .before .before .before .before .work .ensures .0) (c .before .before .before .before .before .placed .ensures .1) (c .before .before .before .before .before .before .before .before .opened .ensures .0) (c .before .before .before .before .before .before .before .later .ensures) in
-    ((long₁ u (c .before .before .before .settle .ensures .0) (c .before .before .before .settle .ensures .1), t-small u (c .before .before .before .settle .ensures .0) (c .before .before .before .settle .ensures .1)), enough₁ u (c .before .before .before .settle .ensures .0) (c .before .before .before .settle .ensures .1))
+    let u = putting (s .pre .0) (s .pre .1 .0 .0) (s .pre .1 .0 .1) (s .pre .1 .0 .2) (s .pre .1 .1 .0) (s .pre .1 .1 .1) (c .before .before .before .before .before .before .before .before .before .before .before .before .start-on .ensures .0) (c .before .before .before .before .before .before .before .before .before .before .work .ensures .0) (c .before .before .before .before .before .placed .ensures .1) (c .before .before .before .before .before .before .before .before .opened .ensures .0) (c .before .before .before .before .before .before .before .later .ensures) in
+    (long₁ u (c .before .before .before .settle .ensures .0) (c .before .before .before .settle .ensures .1), enough₁ u (c .before .before .before .settle .ensures .0) (c .before .before .before .settle .ensures .1))
 
 put-requires : tie.Need-put-requires
 put-requires c κs =
     let s = c .before .before .before .before .before .before .before .before .before .before .before .before .before .before .before .before .before .before .before in
-    let u = putting (s .pre .0) (s .pre .1 .0 .0) (s .pre .1 .0 .1) (s .pre .1 .0 .2) (s .pre .1 .1) (c .before .before .before .before .before .before .before .before .before .before .before .before .before .before .before .before .start-on .ensures .0) (c .before .before .before .before .before .before .before .before .before .before .before .before .before .before .work .ensures .0) (c .before .before .before .before .before .before .before .before .before .placed .ensures .1) (c .before .before .before .before .before .before .before .before .before .before .before .before .opened .ensures .0) (c .before .before .before .before .before .before .before .before .before .before .before .later .ensures) in (
+    let u = putting (s .pre .0) (s .pre .1 .0 .0) (s .pre .1 .0 .1) (s .pre .1 .0 .2) (s .pre .1 .1 .0) (s .pre .1 .1 .1) (c .before .before .before .before .before .before .before .before .before .before .before .before .before .before .before .before .start-on .ensures .0) (c .before .before .before .before .before .before .before .before .before .before .before .before .before .before .work .ensures .0) (c .before .before .before .before .before .before .before .before .before .placed .ensures .1) (c .before .before .before .before .before .before .before .before .before .before .before .before .opened .ensures .0) (c .before .before .before .before .before .before .before .before .before .before .before .later .ensures) in (
       long₂ u (c .before .before .before .before .before .before .before .settle .ensures .0) (c .before .before .before .before .before .before .before .settle .ensures .1) (c .before .before .before .release .ensures),
       (
         t-small u (c .before .before .before .before .before .before .before .settle .ensures .0) (c .before .before .before .before .before .before .before .settle .ensures .1),
@@ -50,7 +51,7 @@ put-requires c κs =
 count-links-requires : tie.Need-count-links-requires
 count-links-requires c κs =
     let s = c .before .before .before .before .before .before .before .before .before .before .before .before .before .before .before .before .before .before .before .before .before .before .before in
-    let u = putting (s .pre .0) (s .pre .1 .0 .0) (s .pre .1 .0 .1) (s .pre .1 .0 .2) (s .pre .1 .1) (c .before .before .before .before .before .before .before .before .before .before .before .before .before .before .before .before .before .before .before .before .start-on .ensures .0) (c .before .before .before .before .before .before .before .before .before .before .before .before .before .before .before .before .before .before .work .ensures .0) (c .before .before .before .before .before .before .before .before .before .before .before .before .before .placed .ensures .1) (c .before .before .before .before .before .before .before .before .before .before .before .before .before .before .before .before .opened .ensures .0) (c .before .before .before .before .before .before .before .before .before .before .before .before .before .before .before .later .ensures) in
+    let u = putting (s .pre .0) (s .pre .1 .0 .0) (s .pre .1 .0 .1) (s .pre .1 .0 .2) (s .pre .1 .1 .0) (s .pre .1 .1 .1) (c .before .before .before .before .before .before .before .before .before .before .before .before .before .before .before .before .before .before .before .before .start-on .ensures .0) (c .before .before .before .before .before .before .before .before .before .before .before .before .before .before .before .before .before .before .work .ensures .0) (c .before .before .before .before .before .before .before .before .before .before .before .before .before .placed .ensures .1) (c .before .before .before .before .before .before .before .before .before .before .before .before .before .before .before .before .opened .ensures .0) (c .before .before .before .before .before .before .before .before .before .before .before .before .before .before .before .later .ensures) in
     let o = c .before .before .before .before .before .before .before .before .before .before .before .settle .ensures .0 in
     let e = c .before .before .before .before .before .before .before .before .before .before .before .settle .ensures .1 in
     let r = c .before .before .before .before .before .before .before .release .ensures in (
@@ -59,7 +60,7 @@ count-links-requires c κs =
         outward₃ u o e r (c .before .before .before .put .ensures),
         (
           (s .pre .1 .0 .2, omega (arith, u .early, u .turn), task₃ u o e r (c .before .before .before .put .ensures), few₃ u o e r (c .before .before .before .put .ensures)),
-          (landed₃ u o e r (c .before .before .before .put .ensures), counted₃ u o e r (c .before .before .before .put .ensures)),
+          ((single₃ u o e r (c .before .before .before .put .ensures), landed₃ u o e r (c .before .before .before .put .ensures)), counted₃ u o e r (c .before .before .before .put .ensures)),
         ),
       ),
     )
@@ -68,7 +69,7 @@ returns : tie.Need-returns
 returns c =
     let s = c .before .before .before .before .before .before .before .before .before .before .before .before .before .before .before .before .before .before .before .before .before .before .before .before .before .before in
     let w = now (s .args .w) in
-    let u = putting (s .pre .0) (s .pre .1 .0 .0) (s .pre .1 .0 .1) (s .pre .1 .0 .2) (s .pre .1 .1) (c .before .before .before .before .before .before .before .before .before .before .before .before .before .before .before .before .before .before .before .before .before .before .before .start-on .ensures .0) (c .before .before .before .before .before .before .before .before .before .before .before .before .before .before .before .before .before .before .before .before .before .work .ensures .0) (c .before .before .before .before .before .before .before .before .before .before .before .before .before .before .before .before .placed .ensures .1) (c .before .before .before .before .before .before .before .before .before .before .before .before .before .before .before .before .before .before .before .opened .ensures .0) (c .before .before .before .before .before .before .before .before .before .before .before .before .before .before .before .before .before .before .later .ensures) in
+    let u = putting (s .pre .0) (s .pre .1 .0 .0) (s .pre .1 .0 .1) (s .pre .1 .0 .2) (s .pre .1 .1 .0) (s .pre .1 .1 .1) (c .before .before .before .before .before .before .before .before .before .before .before .before .before .before .before .before .before .before .before .before .before .before .before .start-on .ensures .0) (c .before .before .before .before .before .before .before .before .before .before .before .before .before .before .before .before .before .before .before .before .before .work .ensures .0) (c .before .before .before .before .before .before .before .before .before .before .before .before .before .before .before .before .placed .ensures .1) (c .before .before .before .before .before .before .before .before .before .before .before .before .before .before .before .before .before .before .before .opened .ensures .0) (c .before .before .before .before .before .before .before .before .before .before .before .before .before .before .before .before .before .before .later .ensures) in
     let o = c .before .before .before .before .before .before .before .before .before .before .before .before .before .before .settle .ensures .0 in
     let e = c .before .before .before .before .before .before .before .before .before .before .before .before .before .before .settle .ensures .1 in
     let r = c .before .before .before .before .before .before .before .before .before .before .release .ensures in (

@@ -1,3 +1,4 @@
+-- `schedule` (src/lib.rt) keeps its contract.
 use borrow.Author.Needs.{needs}
 use native.Mathlib.Omega.{arith}
 use Rattle.turns.proofs.Beginning.{loaded₁, loaded₂, loaded₃, gather₃, going-first, scheduled}

@@ -1,3 +1,4 @@
+-- `take_each` (src/lib.rt) keeps its contract.
 use Rattle.readiness.specs.Keyed.{Keyed}
 use Rattle.schedule.specs.Layout.{scheduleIn}
 use Rattle.sheet.specs.Tables.{sheetIn}

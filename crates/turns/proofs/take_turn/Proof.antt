@@ -1,3 +1,4 @@
+-- `take_turn` (src/lib.rt) keeps its contract.
 use mathlib.Core.Path.{_∙_, ap, sym}
 use native.Mathlib.Omega.{arith}
 use Rattle.readiness.proofs.Searches.{below-at}

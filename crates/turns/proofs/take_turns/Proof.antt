@@ -1,3 +1,4 @@
+-- `take_turns` (src/lib.rt) keeps its contract.
 use mathlib.Core.Path.{refl}
 use native.Mathlib.Omega.{arith}
 use Rattle.turns.proofs.Keys.{early}

@@ -1,3 +1,4 @@
+-- `clear` (src/lib.rt) keeps its contract.
 use Rattle.workspace.proofs.Zeros.{filled}
 use lib.ListN.{length, set, drop, replicate, length-set}
 use borrow.Author.Fill.{fill-none, fill-more}

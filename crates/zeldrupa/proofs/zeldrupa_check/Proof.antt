@@ -1,3 +1,4 @@
+-- `zeldrupa_check` (src/lib.rt) keeps its contract.
 use Rattle.zeldrupa.proofs.Gives.{ends-part, ends-short}
 use Rattle.checker.specs.Checker.{check}
 use Rattle.answers.specs.Values.{no-place}

@@ -1,3 +1,4 @@
+-- `zeldrupa_left` (src/lib.rt) keeps its contract.
 use Rattle.zeldrupa.proofs.States.{left-given, left-short}
 use borrow.Author.Needs.{needs}
 use Rattle.zeldrupa.proofs.zeldrupa_left.Statement.{statement}

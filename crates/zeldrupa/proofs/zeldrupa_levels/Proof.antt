@@ -1,3 +1,4 @@
+-- `zeldrupa_levels` (src/lib.rt) keeps its contract.
 use Rattle.folds.specs.Answers.{andThen, fitting}
 use Rattle.graph.specs.Graph.{readSheet}
 use Rattle.zeldrupa.proofs.Gives.{gives-part, gives-short}

@@ -1,3 +1,4 @@
+-- `zeldrupa_processor` (src/lib.rt) keeps its contract.
 use Rattle.zeldrupa.proofs.States.{processor-given, processor-short}
 use borrow.Author.Needs.{needs}
 use Rattle.zeldrupa.proofs.zeldrupa_processor.Statement.{statement}

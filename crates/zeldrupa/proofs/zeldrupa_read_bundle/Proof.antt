@@ -1,3 +1,4 @@
+-- `zeldrupa_read_bundle` (src/lib.rt) keeps its contract.
 use Rattle.bundle.specs.Format.{readBundle}
 use Rattle.folds.specs.Answers.{andThen}
 use Rattle.graph.specs.Graph.{readSheet}

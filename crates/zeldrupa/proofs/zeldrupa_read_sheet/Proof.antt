@@ -1,3 +1,4 @@
+-- `zeldrupa_read_sheet` (src/lib.rt) keeps its contract.
 use Rattle.folds.specs.Answers.{andThen}
 use Rattle.graph.specs.Graph.{readSheet}
 use Rattle.zeldrupa.proofs.Gives.{gives-sheet, gives-sheet-short}

@@ -1,3 +1,4 @@
+-- `zeldrupa_stamp` (src/lib.rt) keeps its contract.
 use Rattle.zeldrupa.proofs.States.{stamp-given, stamp-short}
 use borrow.Author.Needs.{needs}
 use Rattle.zeldrupa.proofs.zeldrupa_stamp.Statement.{statement}

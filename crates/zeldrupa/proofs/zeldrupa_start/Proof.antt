@@ -1,3 +1,4 @@
+-- `zeldrupa_start` (src/lib.rt) keeps its contract.
 use Rattle.zeldrupa.proofs.States.{given-short-state, given-short-work, given-state}
 use borrow.Author.Needs.{needs}
 use Rattle.zeldrupa.proofs.zeldrupa_start.Statement.{statement}

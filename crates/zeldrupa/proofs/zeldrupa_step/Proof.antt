@@ -1,3 +1,4 @@
+-- `zeldrupa_step` (src/lib.rt) keeps its contract.
 use Rattle.zeldrupa.proofs.States.{step-given, step-short}
 use borrow.Author.Needs.{needs}
 use Rattle.zeldrupa.proofs.zeldrupa_step.Statement.{statement}

@@ -1,3 +1,4 @@
+-- `zeldrupa_write_bundle` (src/lib.rt) keeps its contract.
 use Rattle.bundle.specs.Format.{readBundle}
 use Rattle.folds.specs.Answers.{andThen, fitting}
 use Rattle.graph.specs.Graph.{readSheet}

@@ -1,3 +1,4 @@
+-- `zeldrupa_write_sheet` (src/lib.rt) keeps its contract.
 use Rattle.folds.specs.Answers.{andThen, fitting}
 use Rattle.graph.specs.Graph.{readSheet}
 use Rattle.sheet.specs.Writing.{valueBytes}

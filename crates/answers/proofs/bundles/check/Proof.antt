@@ -1,3 +1,4 @@
+-- `check` (src/bundles.rt) keeps its contract.
 use Rattle.answers.proofs.Running.{check-good, check-refused}
 use borrow.Author.Needs.{needs}
 use Rattle.answers.proofs.bundles.check.Statement.{statement}

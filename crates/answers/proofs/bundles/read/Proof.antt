@@ -1,3 +1,4 @@
+-- `read` (src/bundles.rt) keeps its contract.
 use Rattle.answers.proofs.Bundling.{bundle-no, bundle-refused, bundle-yes}
 use Rattle.levelling.proofs.Opens.{open-loaded}
 use Rattle.answers.proofs.Opening.{open-counted, open-sized}

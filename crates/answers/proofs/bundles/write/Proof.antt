@@ -1,3 +1,4 @@
+-- `write` (src/bundles.rt) keeps its contract.
 use Rattle.bundle.specs.Format.{readBundle}
 use Rattle.folds.specs.Answers.{andThen, fitting}
 use Rattle.bundle.specs.Writing.{valueBytes}

@@ -1,3 +1,4 @@
+-- `numbers` (src/runs.rt) keeps its contract.
 use Rattle.answers.proofs.Running.{numbers-are}
 use borrow.Author.Needs.{needs}
 use Rattle.answers.proofs.runs.numbers.Statement.{statement}

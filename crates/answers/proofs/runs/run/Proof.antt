@@ -1,3 +1,4 @@
+-- `run` (src/runs.rt) keeps its contract.
 use Rattle.answers.proofs.Running.{state-ran, state-refused}
 use native.Mathlib.Omega.{arith}
 use borrow.Author.Needs.{needs}

@@ -1,3 +1,4 @@
+-- `start` (src/runs.rt) keeps its contract.
 use Rattle.answers.proofs.Running.{state-fresh, state-refused}
 use borrow.Author.Needs.{needs}
 use Rattle.answers.proofs.runs.start.Statement.{statement}

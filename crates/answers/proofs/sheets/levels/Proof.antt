@@ -1,3 +1,4 @@
+-- `levels` (src/sheets.rt) keeps its contract.
 use Rattle.folds.specs.Answers.{fitting}
 use Rattle.levelling.proofs.Opens.{open-levelled, open-loaded}
 use Rattle.answers.proofs.Opening.{levels-length, part-done, part-refused, part-short}

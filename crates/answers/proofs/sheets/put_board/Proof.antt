@@ -1,3 +1,4 @@
+-- `put_board` (src/sheets.rt) keeps its contract.
 use Rattle.answers.proofs.Opening.{board-is}
 use borrow.Author.Needs.{needs}
 use denote.Ref.{now}

@@ -1,3 +1,4 @@
+-- `read` (src/sheets.rt) keeps its contract.
 use Prim.Native.Nat.{_*_, ℕ}
 use Rattle.levelling.proofs.Opens.{open-loaded}
 use Rattle.answers.proofs.Opening.{links-short, sheet-done, sheet-refused, tasks-short}

@@ -1,3 +1,4 @@
+-- `write` (src/sheets.rt) keeps its contract.
 use Prim.Native.Nat.{_<_, ℕ}
 use Rattle.folds.specs.Answers.{fitting}
 use Rattle.sheet.specs.Writing.{valueBytes}

@@ -1,3 +1,4 @@
+-- `advance` (src/advancing.rt) keeps its contract.
 use borrow.Author.Needs.{needs}
 use native.Mathlib.Omega.{arith}
 use Rattle.checker.proofs.Holding.{stops-short, stops-large, stops-none}

@@ -1,3 +1,4 @@
+-- `advance_from` (src/advancing.rt) keeps its contract.
 use borrow.Author.Needs.{needs}
 use mathlib.Core.Path.{refl, ap, _∙_}
 use native.Mathlib.Omega.{arith}

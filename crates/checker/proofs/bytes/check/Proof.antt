@@ -1,3 +1,4 @@
+-- `check` (src/bytes.rt) keeps its contract.
 use Rattle.levelling.proofs.Opens.{open-loaded}
 use Rattle.checker.proofs.Opening.{sheet-opened, sheet-refused}
 use borrow.Author.Needs.{needs}

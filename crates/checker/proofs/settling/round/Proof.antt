@@ -1,3 +1,4 @@
+-- `round` (src/settling.rt) keeps its contract.
 use Prim.Native.Nat.{_-_, _≤_}
 use Rattle.checker.proofs.Going.{Rounding, round-ends, round-more, round-starts}
 use borrow.Author.Needs.{needs}

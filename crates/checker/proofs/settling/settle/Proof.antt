@@ -1,3 +1,4 @@
+-- `settle` (src/settling.rt) keeps its contract.
 use Rattle.checker.proofs.Going.{Rounds, settle-ends, settle-more, settle-starts, settle-stops}
 use borrow.Author.Needs.{needs}
 use mathlib.Core.Path.{_∙_}

@@ -1,3 +1,4 @@
+-- `check` (src/whole.rt) keeps its contract.
 use Rattle.checker.proofs.Areas.{checked-in}
 use borrow.Author.Needs.{needs}
 use mathlib.Core.Path.{refl}

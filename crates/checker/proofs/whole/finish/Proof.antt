@@ -1,3 +1,4 @@
+-- `finish` (src/whole.rt) keeps its contract.
 use Rattle.checker.proofs.Closing.{bad-clock, finish-clock, finish-stuck, good-clock}
 use borrow.Author.Needs.{needs}
 use Rattle.checker.proofs.whole.finish.Statement.{statement}

@@ -1,3 +1,4 @@
+-- `judgement` (src/whole.rt) keeps its contract.
 use Rattle.checker.proofs.Closing.{judged-ends, judged-refused}
 use borrow.Author.Needs.{needs}
 use native.Mathlib.Omega.{arith}

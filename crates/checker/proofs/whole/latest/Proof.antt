@@ -1,3 +1,4 @@
+-- `latest` (src/whole.rt) keeps its contract.
 use Prim.Native.Nat.{_-_, _≤_}
 use Rattle.checker.proofs.Closing.{clockIn, latest-is, latest-more, latest-none}
 use Rattle.folds.specs.Folds.{greatest}

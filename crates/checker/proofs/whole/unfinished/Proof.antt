@@ -1,3 +1,4 @@
+-- `unfinished` (src/whole.rt) keeps its contract.
 use Prim.Native.Nat.{_-_, _≤_}
 use Rattle.checker.proofs.Closing.{Finished, finished-all, finished-found, finished-more, finished-none}
 use borrow.Author.Needs.{needs}

@@ -1,3 +1,4 @@
+-- `level` (src/open.rt) keeps its contract.
 use Rattle.levelling.proofs.Opens.{open-circle, open-levels}
 use borrow.Author.Needs.{needs}
 use denote.Ref.{now}

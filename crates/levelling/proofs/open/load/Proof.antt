@@ -1,3 +1,4 @@
+-- `load` (src/open.rt) keeps its contract.
 use Rattle.levelling.proofs.Opens.{form-loaded, form-opened, form-refused}
 use Rattle.sheet.specs.Writing.{valueBytes}
 use borrow.Author.Needs.{needs}

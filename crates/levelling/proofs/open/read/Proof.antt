@@ -1,3 +1,4 @@
+-- `read` (src/open.rt) keeps its contract.
 use Rattle.levelling.proofs.Opens.{form-loaded, form-opened, form-refused}
 use borrow.Author.Needs.{needs}
 use denote.Ref.{now}

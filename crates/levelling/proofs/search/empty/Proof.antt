@@ -1,3 +1,4 @@
+-- `empty` (src/search.rt) keeps its contract.
 use Rattle.peeling.specs.Words.{Beside}
 use Rattle.peeling.specs.Peeling.{Emptied}
 use Prim.Native.Nat.{_-_, _≤_}

@@ -1,3 +1,4 @@
+-- `find` (src/search.rt) keeps its contract.
 use Rattle.peeling.specs.Words.{Beside}
 use Prim.Native.Nat.{_-_, _≤_}
 use mathlib.Core.Path.{_∙_, _≡_}

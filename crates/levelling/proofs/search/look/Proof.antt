@@ -1,3 +1,4 @@
+-- `look` (src/search.rt) keeps its contract.
 use native.Mathlib.Omega.{arith}
 use Rattle.levelling.proofs.Spreads.{look-index, look-is, search-next}
 use borrow.Author.Needs.{needs}

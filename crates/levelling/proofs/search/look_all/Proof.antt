@@ -1,3 +1,4 @@
+-- `look_all` (src/search.rt) keeps its contract.
 use Rattle.peeling.specs.Words.{Beside}
 use Rattle.peeling.specs.Peeling.{Searched}
 use Prim.Native.Nat.{_-_}

@@ -1,3 +1,4 @@
+-- `note` (src/search.rt) keeps its contract.
 use native.Mathlib.Omega.{arith}
 use borrow.Author.Needs.{needs}
 use Rattle.levelling.proofs.Spreads.{note-goes, note-room, note-stays}

@@ -1,3 +1,4 @@
+-- `on_circle` (src/search.rt) keeps its contract.
 use native.Mathlib.Omega.{arith}
 use Rattle.peeling.proofs.Frames.{beside-held}
 use Rattle.levelling.proofs.Spreads.{goal-asks, goal-ends, goal-first}

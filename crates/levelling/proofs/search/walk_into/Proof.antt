@@ -1,3 +1,4 @@
+-- `walk_into` (src/search.rt) keeps its contract.
 use Rattle.levelling.proofs.Spreads.{SpreadTo, spread-asks, spread-closes, spread-ends, spread-goes, spread-is-back, spread-is-on, spread-less, spread-source, spread-starts}
 use Prim.Native.Nat.{_-_}
 use native.Mathlib.Omega.{arith}

@@ -1,3 +1,4 @@
+-- `judge` (src/judge.rt) keeps its contract.
 use Rattle.messages.proofs.Admits.{judge-refused, judge-rules, read-few}
 use borrow.Author.Needs.{needs}
 use native.Mathlib.Omega.{arith}

@@ -1,3 +1,4 @@
+-- `messages` (src/judge.rt) keeps its contract.
 use Rattle.messages.proofs.Admits.{message-right, message-wrong}
 use borrow.Author.Needs.{needs}
 use Rattle.messages.proofs.judge.messages.Statement.{statement}

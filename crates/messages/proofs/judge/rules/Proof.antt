@@ -1,3 +1,4 @@
+-- `rules` (src/judge.rt) keeps its contract.
 use Rattle.messages.proofs.Admits.{rule-once, rule-rest}
 use borrow.Author.Needs.{needs}
 use Rattle.messages.proofs.judge.rules.Statement.{statement}

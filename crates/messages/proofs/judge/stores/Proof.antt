@@ -1,3 +1,4 @@
+-- `stores` (src/judge.rt) keeps its contract.
 use Rattle.messages.proofs.Admits.{store-fits, store-free, store-over}
 use borrow.Author.Needs.{needs}
 use native.Mathlib.Omega.{arith}

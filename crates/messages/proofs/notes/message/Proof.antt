@@ -1,3 +1,4 @@
+-- `message` (src/notes.rt) keeps its contract.
 use borrow.Author.Needs.{needs}
 use Rattle.messages.specs.Notes.{messageAt}
 use Rattle.messages.proofs.notes.message.Statement.{statement}

@@ -1,3 +1,4 @@
+-- `note` (src/notes.rt) keeps its contract.
 use Rattle.messages.proofs.Noted.{note-new, note-old}
 use borrow.Author.Needs.{needs}
 use Rattle.messages.proofs.notes.note.Statement.{statement}

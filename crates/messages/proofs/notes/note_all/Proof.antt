@@ -1,3 +1,4 @@
+-- `note_all` (src/notes.rt) keeps its contract.
 use Prim.Native.Nat.{_-_}
 use Rattle.messages.proofs.Noted.{Noting, run-slot, message-slot, notes-after, noting-command, noting-ends, noting-open, noting-starts}
 use borrow.Author.Needs.{needs}
@@ -8,13 +9,13 @@ use Rattle.messages.proofs.notes.note_all.Statement.{statement}
 use Rattle.messages.proofs.notes.note_all.Tie as tie
 
 abbrev Inv-loop : tie.InvT-loop
-Inv-loop bundle w₀ end at₀ k₀ r₀ w at k r = Noting bundle w₀ w at k r
+Inv-loop bundle w₀ n l end at₀ k₀ r₀ w at k r = Noting n l bundle w₀ w at k r
 
 abbrev μ-loop : tie.MeasureT-loop
-μ-loop bundle w₀ end at₀ k₀ r₀ w at k r = end - at
+μ-loop bundle w₀ n l end at₀ k₀ r₀ w at k r = end - at
 
 loop-holds : tie.Need-loop-holds Inv-loop μ-loop
-loop-holds c = noting-starts _ _ _ (c .before .before .before .blank .ensures)
+loop-holds c = noting-starts _ _ _ _ _ (c .before .before .before .blank .ensures)
 
 get8-requires : tie.Need-get8-requires Inv-loop μ-loop
 get8-requires c κs = omega (arith, c .before .before .minus .ensures)

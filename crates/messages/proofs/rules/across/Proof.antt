@@ -1,3 +1,4 @@
+-- `across` (src/rules.rt) keeps its contract.
 use Rattle.messages.specs.Notes.{acrossBy}
 use borrow.Author.Needs.{needs}
 use borrow.Author.Tests.{le-ltb, lt-ltb}

@@ -1,3 +1,4 @@
+-- `inside` (src/rules.rt) keeps its contract.
 use Rattle.messages.specs.Notes.{insideBy}
 use borrow.Author.Tests.{eq-eqb, ne-eqb}
 use Rattle.messages.proofs.rules.inside.Statement.{statement}

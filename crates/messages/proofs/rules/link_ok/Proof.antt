@@ -1,3 +1,4 @@
+-- `link_ok` (src/rules.rt) keeps its contract.
 use Rattle.messages.proofs.Ruled.{link-across, link-inside}
 use borrow.Author.Needs.{needs}
 use Rattle.messages.proofs.rules.link_ok.Statement.{statement}

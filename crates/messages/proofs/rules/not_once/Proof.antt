@@ -1,3 +1,4 @@
+-- `not_once` (src/rules.rt) keeps its contract.
 use Prim.Native.Nat.{_-_, _≤_}
 use Rattle.messages.proofs.Ruled.{Onces, once-found, once-more, once-none, once-starts}
 use borrow.Author.Needs.{needs}

@@ -1,3 +1,4 @@
+-- `precedes` (src/rules.rt) keeps its contract.
 use Rattle.messages.specs.Notes.{ahead}
 use borrow.Author.Tests.{eq-eqb, ne-eqb}
 use Rattle.messages.proofs.rules.precedes.Statement.{statement}

@@ -1,3 +1,4 @@
+-- `wrong_message` (src/rules.rt) keeps its contract.
 use Prim.Native.Nat.{_-_, _≤_}
 use Rattle.messages.proofs.Ruled.{Oks, oks-found, oks-more, oks-none, oks-start}
 use borrow.Author.Needs.{needs}

@@ -1,3 +1,4 @@
+-- `message_need` (src/stores.rt) keeps its contract.
 use borrow.Author.Needs.{needs}
 use Rattle.messages.specs.Stores.{receiveNeed}
 use Rattle.messages.proofs.stores.message_need.Statement.{statement}

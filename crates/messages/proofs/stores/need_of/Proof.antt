@@ -1,3 +1,4 @@
+-- `need_of` (src/stores.rt) keeps its contract.
 use Prim.Native.Nat.{_+_, _-_, _≤_, ℕ}
 use Rattle.messages.proofs.Needs.{Needing, needing-ends, needing-more, needing-starts, run-needs, message-needs}
 use borrow.Author.Needs.{needs}

@@ -1,3 +1,4 @@
+-- `over_store` (src/stores.rt) keeps its contract.
 use Prim.Native.Nat.{_-_, _≤_}
 use Rattle.messages.proofs.Needs.{Fitting, fitting-all, fitting-more, fitting-none, fitting-over}
 use borrow.Author.Needs.{needs}

@@ -1,3 +1,4 @@
+-- `received` (src/stores.rt) keeps its contract.
 use native.Mathlib.Omega.{arith}
 use borrow.Author.Tests.{eq-eqb, ne-eqb}
 use Rattle.messages.proofs.stores.received.Statement.{statement}

@@ -1,3 +1,4 @@
+-- `run_need` (src/stores.rt) keeps its contract.
 use borrow.Author.Needs.{needs}
 use Rattle.messages.specs.Stores.{runNeed}
 use Rattle.messages.proofs.stores.run_need.Statement.{statement}

@@ -1,3 +1,4 @@
+-- `count_one` (src/peel.rt) keeps its contract.
 use native.Mathlib.Omega.{arith}
 use Rattle.peeling.proofs.Starts.{count-small, counted}
 use Rattle.peeling.proofs.Frames.{loaded-declared}

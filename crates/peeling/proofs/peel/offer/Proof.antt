@@ -1,3 +1,4 @@
+-- `offer` (src/peel.rt) keeps its contract.
 use native.Mathlib.Omega.{arith}
 use Rattle.peeling.proofs.Frames.{loaded-declared}
 use borrow.Author.Needs.{needs}

@@ -1,3 +1,4 @@
+-- `peel` (src/peel.rt) keeps its contract.
 use Rattle.peeling.proofs.Frames.{beside-trans}
 use Rattle.peeling.proofs.Starts.{fill-turns}
 use borrow.Author.Needs.{needs}

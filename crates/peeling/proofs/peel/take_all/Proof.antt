@@ -1,3 +1,4 @@
+-- `take_all` (src/peel.rt) keeps its contract.
 use Rattle.peeling.specs.Words.{Beside}
 use Rattle.peeling.specs.Peeling.{Peeled}
 use Prim.Native.Nat.{_-_}

@@ -1,3 +1,4 @@
+-- `walk` (src/peel.rt) keeps its contract.
 use Rattle.peeling.proofs.Turns.{WalkTo, next-asks, walk-asks, walk-ends, walk-less, walk-starts, walk-turns}
 use Prim.Native.Nat.{_-_}
 use native.Mathlib.Omega.{arith}

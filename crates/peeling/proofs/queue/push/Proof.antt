@@ -1,3 +1,4 @@
+-- `push` (src/queue.rt) keeps its contract.
 use Prim.Native.Nat.{_+_, ℕ}
 use mathlib.Core.Path.{ap₂}
 use native.Mathlib.Omega.{arith}
@@ -13,7 +14,7 @@ slice-write-w-2 c = simp length-set (omega arith)
 
 returns : tie.Need-returns
 unfolding pushed
-returns c = let a = c .before .before .before in ap₂ (λ (x y : ℕ). set (set (now (a .args .w)) (6416 + a .args .k) x) (6672 + a .args .u) y) (c .before .narrow .ensures) (c .narrow2 .ensures)
+returns c = let a = c .before .before .before in ap₂ (λ (x y : ℕ). set (set (now (a .args .w)) (4112 + a .args .k) x) (4368 + a .args .u) y) (c .before .narrow .ensures) (c .narrow2 .ensures)
 
 pub push-spec : {M : Type 1} → statement M
 push-spec =

@@ -1,3 +1,4 @@
+-- `of_bundle` (src/measuring.rt) keeps its contract.
 use borrow.Author.Needs.{needs}
 use Rattle.programmes.proofs.Lengths.{bundle-long}
 use Rattle.programmes.proofs.measuring.of_bundle.Statement.{statement}

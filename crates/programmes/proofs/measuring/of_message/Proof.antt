@@ -1,3 +1,4 @@
+-- `of_message` (src/measuring.rt) keeps its contract.
 use borrow.Author.Needs.{needs}
 use native.Mathlib.Omega.{arith}
 use denote.Ref.{now}

@@ -1,3 +1,4 @@
+-- `of_messages` (src/measuring.rt) keeps its contract.
 use Prim.Native.Nat.{_*_, _-_, _≤_}
 use mathlib.Core.Path.{_≡_, sym}
 use native.Mathlib.Omega.{arith}

@@ -1,3 +1,4 @@
+-- `plan` (src/whole.rt) keeps its contract.
 use Rattle.turns.specs.declared.Planned.{Planned}
 use mathlib.Core.Path.{_∙_, ap, sym}
 use Rattle.turns.specs.Turns.{answerOf}

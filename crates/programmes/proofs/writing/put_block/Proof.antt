@@ -1,3 +1,4 @@
+-- `put_block` (src/writing.rt) keeps its contract.
 use native.Mathlib.Omega.{arith}
 use borrow.Author.Needs.{needs}
 use denote.Ref.{now}

@@ -1,3 +1,4 @@
+-- `put_bundle` (src/writing.rt) keeps its contract.
 use mathlib.Core.Path.{_∙_, ap}
 use native.Mathlib.Omega.{arith}
 use Rattle.programmes.proofs.Measures.{bundle-length}

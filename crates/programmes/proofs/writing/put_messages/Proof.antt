@@ -1,3 +1,4 @@
+-- `put_messages` (src/writing.rt) keeps its contract.
 use Rattle.programmes.proofs.Puts.{Putting, putting-done, putting-on, putting-room, putting-starts}
 use Prim.Native.Nat.{_-_, _<_}
 use native.Mathlib.Omega.{arith}

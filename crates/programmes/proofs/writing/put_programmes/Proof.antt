@@ -1,3 +1,4 @@
+-- `put_programmes` (src/writing.rt) keeps its contract.
 use borrow.Author.Needs.{needs}
 use Prim.Native.Nat.{ℕ}
 use mathlib.Core.Path.{_∙_, ap}

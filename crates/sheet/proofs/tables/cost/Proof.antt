@@ -1,5 +1,7 @@
-use borrow.Author.Needs.{needs}
+-- `cost` (src/tables.rt) keeps its contract.
 use denote.Ref.{now}
+use Prim.Native.Nat.{ℕ, _/_}
+use mathlib.Core.Path.{ap}
 use native.Mathlib.Omega.{arith}
 use Rattle.sheet.proofs.Rows.{cost-in, field-small, link-below, link-index}
 use Rattle.sheet.proofs.tables.cost.Statement.{statement}
@@ -16,7 +18,7 @@ word-requires c κs =
 returns : tie.Need-returns
 returns c =
     let s = c .before .before in
-    field-small (c .word .ensures .0) (cost-in (now (s .args .w)) (s .args .l) (s .pre .1)) (s .pre .0 .costs (s .args .l) (link-below (now (s .args .w)) (s .args .l) (s .pre .1)))
+    field-small (ap (λ (x : ℕ). x / 65536) (c .word .ensures .0)) (cost-in (now (s .args .w)) (s .args .l) (s .pre .1)) (s .pre .0 .costs (s .args .l) (link-below (now (s .args .w)) (s .args .l) (s .pre .1)))
 
 pub cost-spec : {M : Type 1} → statement M
 cost-spec = tie.close (tie.spec add-word word-requires returns)

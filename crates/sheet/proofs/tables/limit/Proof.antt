@@ -1,3 +1,4 @@
+-- `limit` (src/tables.rt) keeps its contract.
 use borrow.Author.Needs.{needs}
 use Rattle.sheet.specs.Tables.{sheetIn}
 use Rattle.sheet.proofs.tables.limit.Statement.{statement}

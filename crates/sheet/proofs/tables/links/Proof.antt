@@ -1,3 +1,4 @@
+-- `links` (src/tables.rt) keeps its contract.
 use borrow.Author.Needs.{needs}
 use denote.Ref.{now}
 use Rattle.sheet.proofs.Rows.{links-in, field-most}

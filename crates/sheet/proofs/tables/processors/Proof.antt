@@ -1,3 +1,4 @@
+-- `processors` (src/tables.rt) keeps its contract.
 use borrow.Author.Needs.{needs}
 use native.Mathlib.Omega.{arith}
 use Rattle.sheet.specs.Tables.{sheetIn}

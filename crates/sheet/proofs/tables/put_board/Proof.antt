@@ -1,39 +1,27 @@
+-- `put_board` (src/tables.rt) keeps its contract.
 use borrow.Author.Needs.{needs}
-use mathlib.Core.Path.{refl}
+use denote.Ref.{now}
 use native.Mathlib.Omega.{arith}
 use lib.ListN.{length-set}
 use Rattle.sheet.specs.Tables.{boardWords}
+use Rattle.sheet.proofs.Joins.{board-loaded-of}
 use Rattle.sheet.proofs.tables.put_board.Statement.{statement}
 use Rattle.sheet.proofs.tables.put_board.Tie as tie
-use Rattle.sheet.proofs.tables.put_board.Reads as reads
-use Rattle.sheet.proofs.tables.put_board.Lts as lts
 
--- src/tables.rt:90:5
-slice-write-w : tie.Need-slice-write-w
-slice-write-w c = search needs
-
--- src/tables.rt:91:5
 slice-write-w-2 : tie.Need-slice-write-w-2
 slice-write-w-2 c = simp length-set (omega arith)
 
--- src/tables.rt:92:5
 slice-write-w-3 : tie.Need-slice-write-w-3
 slice-write-w-3 c = simp length-set (omega arith)
 
--- src/tables.rt:93:5
 slice-write-w-4 : tie.Need-slice-write-w-4
 slice-write-w-4 c = simp length-set (omega arith)
 
--- src/tables.rt:86:1
-same-length : tie.Need-same-length
-same-length c = search needs
-
--- src/tables.rt:86:1
 returns : tie.Need-returns
 unfolding boardWords
-returns c = refl
+returns c = board-loaded-of (now (c .args .w)) (c .args .processors) (c .args .limit) (c .pre .0) (c .pre .1)
 
 pub put-board-spec : {M : Type 1} → statement M
 put-board-spec =
     tie.close
-    (tie.spec slice-write-w slice-write-w-2 slice-write-w-3 slice-write-w-4 same-length returns)
+    (tie.spec (λ c. search needs) slice-write-w-2 slice-write-w-3 slice-write-w-4 (λ c. search needs) returns)

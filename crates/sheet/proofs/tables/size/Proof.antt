@@ -1,4 +1,4 @@
-use borrow.Author.Needs.{needs}
+-- `size` (src/tables.rt) keeps its contract.
 use denote.Ref.{now}
 use native.Mathlib.Omega.{arith}
 use Rattle.sheet.proofs.Rows.{bytes-in, field-small, link-below, link-index}

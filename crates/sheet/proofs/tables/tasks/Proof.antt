@@ -1,3 +1,4 @@
+-- `tasks` (src/tables.rt) keeps its contract.
 use borrow.Author.Needs.{needs}
 use denote.Ref.{now}
 use Rattle.sheet.proofs.Rows.{tasks-in, field-most}

@@ -1,11 +1,9 @@
+-- `closing` (src/bytes.rt) keeps its contract.
 use Rattle.sheet_reader.specs.Answers.{closedOf}
 use borrow.Author.Needs.{needs}
 use borrow.Author.Tests.{eq-eqb, le-ltb, lt-ltb, ne-eqb}
 use Rattle.sheet_reader.proofs.bytes.closing.Statement.{statement}
 use Rattle.sheet_reader.proofs.bytes.closing.Tie as tie
-
-add-past : tie.Need-add-past
-add-past c = search needs
 
 returns : tie.Need-returns
 unfolding closedOf
@@ -20,4 +18,4 @@ unfolding closedOf
 returns-3 c = simp (le-ltb _ _ (c .before .if1 .left), ne-eqb _ _ (c .if2 .left))
 
 pub closing-spec : {M : Type 1} → statement M
-closing-spec = tie.close (tie.spec add-past returns returns-2 returns-3)
+closing-spec = tie.close (tie.spec (λ c. search needs) returns returns-2 returns-3)

@@ -1,3 +1,4 @@
+-- `link_fault` (src/bytes.rt) keeps its contract.
 use Rattle.sheet.proofs.Judging.{link-clear, link-over, link-source-loose, link-target-loose, link-twice}
 use denote.Ref.{now}
 use mathlib.Core.Path.{_∙_, sym}

@@ -1,3 +1,4 @@
+-- `next_at` (src/bytes.rt) keeps its contract.
 use Rattle.commands.proofs.Going.{judge-end}
 use Rattle.commands.specs.Commands.{verdict}
 use Rattle.sheet.proofs.Judging.{fault-board, fault-end, judge-known, judge-strange}
@@ -14,17 +15,8 @@ use Rattle.sheet_reader.proofs.bytes.next_at.Tie as tie
 returns : tie.Need-returns
 returns c = let s = c .before .before .before in sym (judge-end sheetFormat (begun (sheetIn (now (s .args .w)))) (now (s .args .bytes)) (s .args .at) (omega arith))
 
-get8-requires : tie.Need-get8-requires
-get8-requires c κs = search needs
-
-task-at-requires : tie.Need-task-at-requires
-task-at-requires c κs = search needs
-
 returns-2 : tie.Need-returns-2
 returns-2 c = let s = c .before .before .before .before .before .before in c .task-at .ensures ∙ sym (judge-known (begun (sheetIn (now (s .args .w)))) (now (s .args .bytes)) (s .args .at) 0x54 (c .before .before .before .if1 .left) (sym (c .before .before .get8 .ensures .0) ∙ c .before .if2 .taken))
-
-link-at-requires : tie.Need-link-at-requires
-link-at-requires c κs = search needs
 
 returns-3 : tie.Need-returns-3
 returns-3 c = let s = c .before .before .before .before .before .before .before in c .link-at .ensures ∙ sym (judge-known (begun (sheetIn (now (s .args .w)))) (now (s .args .bytes)) (s .args .at) 0x45 (c .before .before .before .before .if1 .left) (sym (c .before .before .before .get8 .ensures .0) ∙ c .before .if3 .taken))
@@ -46,10 +38,10 @@ next-at-spec =
     tie.close
     (tie.spec
     returns
-    get8-requires
-    task-at-requires
+    (λ c κs. search needs)
+    (λ c κs. search needs)
     returns-2
-    link-at-requires
+    (λ c κs. search needs)
     returns-3
     returns-4
     returns-5

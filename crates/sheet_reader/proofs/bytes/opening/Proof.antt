@@ -1,3 +1,4 @@
+-- `opening` (src/bytes.rt) keeps its contract.
 use Rattle.commands.proofs.Going.{judge-end}
 use Rattle.commands.specs.Commands.{verdict}
 use Rattle.sheet.proofs.Judging.{fault-opening, judge-known, judge-strange, out-of-turn}
@@ -15,9 +16,6 @@ use Rattle.sheet_reader.proofs.bytes.opening.Tie as tie
 returns : tie.Need-returns
 returns c = sym (judge-end sheetFormat fresh (now (c .before .before .args .bytes)) 0 (omega arith))
 
-get8-requires : tie.Need-get8-requires
-get8-requires c κs = search needs
-
 returns-2 : tie.Need-returns-2
 returns-2 c = sym (judge-known fresh (now (c .before .before .before .before .args .bytes)) 0 0x54 (omega (arith, c .before .before .if1 .left)) (sym (c .before .get8 .ensures .0) ∙ c .if2 .taken) ∙ ap (verdict sheetFormat task) (out-of-turn task _ refl))
 
@@ -32,16 +30,10 @@ returns-5 c =
     let e = c .before .before .before .before .get8 .ensures .0 in
     sym (judge-strange fresh (now (c .before .before .before .before .before .before .before .args .bytes)) 0 (omega (arith, c .before .before .before .before .before .if1 .left)) (λ q. c .if5 .taken (e ∙ q)) (λ q. c .before .before .before .if2 .left (e ∙ q)) (λ q. c .before .before .if3 .left (e ∙ q)) (λ q. c .before .if4 .left (e ∙ q)))
 
-sub-if6 : tie.Need-sub-if6
-sub-if6 c = search needs
-
 returns-6 : tie.Need-returns-6
 returns-6 c =
     let b = now (c .before .before .before .before .before .before .before .before .args .bytes) in
     sym (judge-known fresh b 0 0x4D (omega (arith, c .before .before .before .before .before .before .if1 .left)) (sym (c .before .before .before .before .before .get8 .ensures .0) ∙ c .before .if5 .left) ∙ simp (fault-opening, lt-ltb _ _ (c .if6 .taken)))
-
-get8-requires-2 : tie.Need-get8-requires-2
-get8-requires-2 c κs = search needs
 
 returns-7 : tie.Need-returns-7
 returns-7 c =
@@ -68,14 +60,14 @@ opening-spec =
     tie.close
     (tie.spec
     returns
-    get8-requires
+    (λ c κs. search needs)
     returns-2
     returns-3
     returns-4
     returns-5
-    sub-if6
+    (λ c. search needs)
     returns-6
-    get8-requires-2
+    (λ c κs. search needs)
     returns-7
     returns-8
     returns-9)

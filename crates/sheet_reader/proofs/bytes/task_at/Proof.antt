@@ -1,3 +1,4 @@
+-- `task_at` (src/bytes.rt) keeps its contract.
 use Rattle.commands.specs.Commands.{verdict}
 use Rattle.sheet.proofs.Judging.{numbered-none, numbered-some, task-cut, task-numbers, task-turn}
 use Rattle.sheet.specs.Format.{sheetFormat, task}
@@ -10,23 +11,8 @@ use Rattle.sheet_reader.proofs.bytes.task_at.Tie as tie
 returns : tie.Need-returns
 returns c = let s = c .before .before .before in sym (ap (verdict sheetFormat task) (task-turn (now (s .args .w)) _ _ (s .pre .1 .1) (c .if1 .taken)))
 
-add-if2 : tie.Need-add-if2
-add-if2 c = search needs
-
-sub-if2 : tie.Need-sub-if2
-sub-if2 c = search needs
-
 returns-2 : tie.Need-returns-2
 returns-2 c = let s = c .before .before .before .before in sym (ap (verdict sheetFormat task) (task-cut (now (s .args .w)) (now (s .args .bytes)) _ (s .args .at) (s .pre .1 .1) (c .before .if1 .left) (c .if2 .taken)))
-
-add-get16 : tie.Need-add-get16
-add-get16 c = search needs
-
-get16-requires : tie.Need-get16-requires
-get16-requires c κs = search needs
-
-task-fault-requires : tie.Need-task-fault-requires
-task-fault-requires c κs = search needs
 
 returns-3 : tie.Need-returns-3
 returns-3 c = let s = c .before .before .before .before .before .before .before in sym (ap (verdict sheetFormat task) (task-numbers (now (s .args .w)) (now (s .args .bytes)) _ _ (s .args .at) _ (s .pre .1 .0) (s .pre .1 .1) (c .before .before .before .before .if1 .left) (c .before .before .before .if2 .left) (c .before .before .get16 .ensures) ∙ numbered-some _ _ (c .before .task-fault .ensures) (c .if3 .taken)))
@@ -39,11 +25,11 @@ task-at-spec =
     tie.close
     (tie.spec
     returns
-    add-if2
-    sub-if2
+    (λ c. search needs)
+    (λ c. search needs)
     returns-2
-    add-get16
-    get16-requires
-    task-fault-requires
+    (λ c. search needs)
+    (λ c κs. search needs)
+    (λ c κs. search needs)
     returns-3
     returns-4)

@@ -1,3 +1,4 @@
+-- `task_fault` (src/bytes.rt) keeps its contract.
 use Rattle.sheet.specs.Faults.{taskFault}
 use borrow.Author.Tests.{eq-eqb, le-leb, lt-leb, ne-eqb}
 use Rattle.sheet_reader.proofs.bytes.task_fault.Statement.{statement}

@@ -1,20 +1,9 @@
+-- `closing` (src/values.rt) keeps its contract.
 use Rattle.sheet_reader.specs.Answers.{valuesClosed}
 use borrow.Author.Needs.{needs}
 use borrow.Author.Tests.{eq-eqb, ne-eqb}
 use Rattle.sheet_reader.proofs.values.closing.Statement.{statement}
 use Rattle.sheet_reader.proofs.values.closing.Tie as tie
-
-mul-end : tie.Need-mul-end
-mul-end c = search needs
-
-add-end : tie.Need-add-end
-add-end c = search needs
-
-mul-end-2 : tie.Need-mul-end-2
-mul-end-2 c = search needs
-
-add-end-2 : tie.Need-add-end-2
-add-end-2 c = search needs
 
 returns : tie.Need-returns
 unfolding valuesClosed
@@ -29,4 +18,4 @@ unfolding valuesClosed
 returns-3 c = simp (eq-eqb _ _ (c .before .if1 .left), ne-eqb _ _ (c .if2 .left))
 
 pub closing-spec : {M : Type 1} → statement M
-closing-spec = tie.close (tie.spec mul-end add-end mul-end-2 add-end-2 returns returns-2 returns-3)
+closing-spec = tie.close (tie.spec (λ c. search needs) (λ c. search needs) (λ c. search needs) (λ c. search needs) returns returns-2 returns-3)

@@ -1,3 +1,4 @@
+-- `load` (src/values.rt) keeps its contract.
 use Rattle.sheet_reader.proofs.Given.{board-read, board-refused, read-as}
 use Rattle.sheet_reader.proofs.Scans.{bare-counts, read-through}
 use borrow.Author.Needs.{needs}
@@ -13,22 +14,19 @@ returns c = let s = c .before .before .before .before in board-refused (s .args 
 returns-2 : tie.Need-returns-2
 returns-2 c = let s = c .before .before .before .before .before in board-refused (s .args .processors) (s .args .limit) (now (s .args .tasks)) (now (s .args .links)) (now (s .args .w)) (inr (c .if2 .taken))
 
-begin-requires : tie.Need-begin-requires
-begin-requires c κs = (c .before .before .before .before .before .before .pre, c .before .if2 .left)
+put-board-requires : tie.Need-put-board-requires
+put-board-requires c κs = (c .before .before .before .before .before .before .pre, c .before .if2 .left)
 
 load-tasks-requires : tie.Need-load-tasks-requires
-load-tasks-requires c κs = let f = c .before .before .before .begin .ensures in (f .filling, bare-counts f)
-
-same-length : tie.Need-same-length
-same-length c = search needs
+load-tasks-requires c κs = let f = c .before .before .before .put-board .ensures in (f .loaded, bare-counts f)
 
 returns-3 : tie.Need-returns-3
 returns-3 c =
     let s = c .before .before .before .before .before .before .before .before .before .before .before .before .before in
     read-through
-    (read-as (board-read (s .args .processors) (s .args .limit) (now (s .args .tasks)) (now (s .args .links)) (now (s .args .w)) _ (c .before .before .before .before .before .before .before .before .before .if1 .left) (c .before .before .before .before .before .before .before .before .if2 .left) (omega (arith, s .fits .limit)) (c .before .before .before .before .before .before .begin .ensures)) (c .before .before .load-tasks .ensures))
-    (c .before .before .before .before .before .before .begin .ensures .long)
+    (read-as (board-read (s .args .processors) (s .args .limit) (now (s .args .tasks)) (now (s .args .links)) (now (s .args .w)) _ (c .before .before .before .before .before .before .before .before .before .if1 .left) (c .before .before .before .before .before .before .before .before .if2 .left) (omega (arith, s .fits .limit)) (c .before .before .before .before .before .before .put-board .ensures)) (c .before .before .load-tasks .ensures))
+    (c .before .before .before .before .before .before .put-board .ensures .long)
 
 pub load-spec : {M : Type 1} → statement M
 load-spec =
-    tie.close (tie.spec returns returns-2 begin-requires load-tasks-requires same-length returns-3)
+    tie.close (tie.spec returns returns-2 put-board-requires load-tasks-requires (λ c. search needs) returns-3)

@@ -1,3 +1,4 @@
+-- `links` (src/unload.rt) keeps its contract.
 use Prim.Native.Nat.{_-_, _≤_}
 use Rattle.folds.specs.Folds.{listed}
 use Rattle.numbers.specs.Number.{stored}
@@ -21,20 +22,11 @@ Inv-loop w out₀ m l₀ out l = (l ≤ m) × (length out ≡ length out₀) × 
 abbrev μ-loop : tie.MeasureT-loop
 μ-loop w out₀ m l₀ out l = m - l
 
-links-requires : tie.Need-links-requires Inv-loop μ-loop
-links-requires c κs = search needs
-
 loop-holds : tie.Need-loop-holds Inv-loop μ-loop
 loop-holds c = (omega arith, refl, linkValues-none (linkIn (now (c .before .before .before .args .w))) _)
 
 put-link-requires : tie.Need-put-link-requires Inv-loop μ-loop
 put-link-requires c κs = (c .before .before .before .before .before .before .pre .0, (omega (arith, c .before .before .before .links .ensures .0, c .before .loop-test .taken), omega (arith, c .before .before .before .links .ensures .0, c .before .before .before .before .before .before .pre .1, c .before .before .loop .inv .1, c .before .loop-test .taken)))
-
-add-l : tie.Need-add-l Inv-loop μ-loop
-add-l c = search needs
-
-loop-less : tie.Need-loop-less Inv-loop μ-loop
-loop-less c = search needs
 
 loop-again : tie.Need-loop-again Inv-loop μ-loop
 loop-again c =
@@ -54,11 +46,11 @@ links-spec =
     (tie.spec
     Inv-loop
     μ-loop
-    links-requires
+    (λ c κs. search needs)
     loop-holds
     put-link-requires
-    add-l
-    loop-less
+    (λ c. search needs)
+    (λ c. search needs)
     loop-again
     same-length
     returns)

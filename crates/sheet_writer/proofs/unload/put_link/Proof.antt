@@ -1,3 +1,4 @@
+-- `put_link` (src/unload.rt) keeps its contract.
 use Rattle.sheet.proofs.Rows.{bytes-in, cost-in, source-in, target-in, tasks-in}
 use Rattle.sheet_writer.proofs.Stores.{pairs-link}
 use Rattle.sheet.specs.Tables.{linkIn}
@@ -8,35 +9,11 @@ use native.Mathlib.Omega.{arith}
 use Rattle.sheet_writer.proofs.unload.put_link.Statement.{statement}
 use Rattle.sheet_writer.proofs.unload.put_link.Tie as tie
 
-mul-put-pair : tie.Need-mul-put-pair
-mul-put-pair c = search needs
-
-source-requires : tie.Need-source-requires
-source-requires c κs = search needs
-
-target-requires : tie.Need-target-requires
-target-requires c κs = search needs
-
 put-pair-requires : tie.Need-put-pair-requires
 put-pair-requires c κs = (omega (arith, c .before .before .before .before .before .pre .1 .1), omega (arith, c .before .source .ensures .1, tasks-in (now (c .before .before .before .before .before .args .w)), c .before .before .before .before .before .pre .0 .tasks), omega (arith, c .target .ensures .1, tasks-in (now (c .before .before .before .before .before .args .w)), c .before .before .before .before .before .pre .0 .tasks))
 
-mul-put-pair-2 : tie.Need-mul-put-pair-2
-mul-put-pair-2 c = search needs
-
-add-put-pair : tie.Need-add-put-pair
-add-put-pair c = search needs
-
-cost-requires : tie.Need-cost-requires
-cost-requires c κs = search needs
-
-size-requires : tie.Need-size-requires
-size-requires c κs = search needs
-
 put-pair-requires-2 : tie.Need-put-pair-requires-2
 put-pair-requires-2 c κs = (omega (arith, c .before .before .before .before .before .before .before .before .before .before .before .pre .1 .1, c .before .before .before .before .before .put-pair .kept .0), omega (arith, c .before .cost .ensures .1), omega (arith, c .size .ensures .1))
-
-same-length : tie.Need-same-length
-same-length c = search needs
 
 returns : tie.Need-returns
 returns c =
@@ -50,14 +27,14 @@ pub put-link-spec : {M : Type 1} → statement M
 put-link-spec =
     tie.close
     (tie.spec
-    mul-put-pair
-    source-requires
-    target-requires
+    (λ c. search needs)
+    (λ c κs. search needs)
+    (λ c κs. search needs)
     put-pair-requires
-    mul-put-pair-2
-    add-put-pair
-    cost-requires
-    size-requires
+    (λ c. search needs)
+    (λ c. search needs)
+    (λ c κs. search needs)
+    (λ c κs. search needs)
     put-pair-requires-2
-    same-length
+    (λ c. search needs)
     returns)

@@ -1,3 +1,4 @@
+-- `put_pair` (src/unload.rt) keeps its contract.
 use Prim.Native.Nat.{_+_, ℕ}
 use Rattle.numbers.proofs.Laws.{stored-two}
 use borrow.Author.Needs.{needs}
@@ -8,29 +9,8 @@ use native.Mathlib.Omega.{arith}
 use Rattle.sheet_writer.proofs.unload.put_pair.Statement.{statement}
 use Rattle.sheet_writer.proofs.unload.put_pair.Tie as tie
 
-narrow-requires : tie.Need-narrow-requires
-narrow-requires c κs = search needs
-
-mul-out : tie.Need-mul-out
-mul-out c = search needs
-
-slice-write-out : tie.Need-slice-write-out
-slice-write-out c = search needs
-
-narrow-requires-2 : tie.Need-narrow-requires-2
-narrow-requires-2 c κs = search needs
-
-add-out : tie.Need-add-out
-add-out c = search needs
-
-mul-out-2 : tie.Need-mul-out-2
-mul-out-2 c = search needs
-
 slice-write-out-2 : tie.Need-slice-write-out-2
 slice-write-out-2 c = simp length-set (omega arith)
-
-same-length : tie.Need-same-length
-same-length c = search needs
 
 returns : tie.Need-returns
 returns c =
@@ -41,12 +21,12 @@ pub put-pair-spec : {M : Type 1} → statement M
 put-pair-spec =
     tie.close
     (tie.spec
-    narrow-requires
-    mul-out
-    slice-write-out
-    narrow-requires-2
-    add-out
-    mul-out-2
+    (λ c κs. search needs)
+    (λ c. search needs)
+    (λ c. search needs)
+    (λ c κs. search needs)
+    (λ c. search needs)
+    (λ c. search needs)
     slice-write-out-2
-    same-length
+    (λ c. search needs)
     returns)

@@ -1,3 +1,4 @@
+-- `tasks` (src/unload.rt) keeps its contract.
 use Prim.Native.Nat.{_-_, _<_, _≤_}
 use Rattle.folds.specs.Folds.{listed}
 use Rattle.numbers.specs.Number.{stored}
@@ -21,29 +22,11 @@ Inv-loop w out₀ n i₀ out i = (i ≤ n) × (length out ≡ length out₀) × 
 abbrev μ-loop : tie.MeasureT-loop
 μ-loop w out₀ n i₀ out i = n - i
 
-tasks-requires : tie.Need-tasks-requires Inv-loop μ-loop
-tasks-requires c κs = search needs
-
 loop-holds : tie.Need-loop-holds Inv-loop μ-loop
 loop-holds c = (omega arith, refl, taskValues-none (taskIn (now (c .before .before .before .args .w))) _)
 
-mul-put-pair : tie.Need-mul-put-pair Inv-loop μ-loop
-mul-put-pair c = search needs
-
-work-requires : tie.Need-work-requires Inv-loop μ-loop
-work-requires c κs = search needs
-
-store-requires : tie.Need-store-requires Inv-loop μ-loop
-store-requires c κs = search needs
-
 put-pair-requires : tie.Need-put-pair-requires Inv-loop μ-loop
 put-pair-requires c κs = (omega (arith, c .before .before .before .before .before .tasks .ensures .0, c .before .before .before .before .before .before .before .before .pre .1, c .before .before .before .before .loop .inv .1), omega (arith, c .before .work .ensures .1), omega (arith, c .store .ensures .1))
-
-add-i : tie.Need-add-i Inv-loop μ-loop
-add-i c = search needs
-
-loop-less : tie.Need-loop-less Inv-loop μ-loop
-loop-less c = search needs
 
 loop-again : tie.Need-loop-again Inv-loop μ-loop
 loop-again c =
@@ -69,14 +52,14 @@ tasks-spec =
     (tie.spec
     Inv-loop
     μ-loop
-    tasks-requires
+    (λ c κs. search needs)
     loop-holds
-    mul-put-pair
-    work-requires
-    store-requires
+    (λ c. search needs)
+    (λ c κs. search needs)
+    (λ c κs. search needs)
     put-pair-requires
-    add-i
-    loop-less
+    (λ c. search needs)
+    (λ c. search needs)
     loop-again
     same-length
     returns)

@@ -1,3 +1,4 @@
+-- `put_link` (src/writer.rt) keeps its contract.
 use Rattle.sheet_writer.proofs.Stores.{length-three}
 use Rattle.numbers.proofs.Laws.{stored-three, stored-then}
 use Rattle.numbers.specs.Number.{numberBytes}

@@ -1,3 +1,4 @@
+-- `put_links` (src/writer.rt) keeps its contract.
 use Rattle.sheet_writer.proofs.Stores.{links-next, links-none}
 use Rattle.sheet.specs.Writing.{linkValue}
 use Rattle.sheet.specs.Writing.{linkBytes}

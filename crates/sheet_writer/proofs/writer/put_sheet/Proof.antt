@@ -1,3 +1,4 @@
+-- `put_sheet` (src/writer.rt) keeps its contract.
 use lib.ListN.{length-set}
 use Rattle.sheet_writer.proofs.Stores.{sheet-stored}
 use Rattle.numbers.proofs.Laws.{stored-lent}

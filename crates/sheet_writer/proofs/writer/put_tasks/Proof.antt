@@ -1,3 +1,4 @@
+-- `put_tasks` (src/writer.rt) keeps its contract.
 use Rattle.sheet_writer.proofs.Stores.{tasks-next, tasks-none}
 use Rattle.sheet.specs.Writing.{taskValue}
 use Rattle.sheet.specs.Writing.{taskBytes}

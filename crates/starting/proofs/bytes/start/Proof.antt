@@ -1,3 +1,4 @@
+-- `start` (src/bytes.rt) keeps its contract.
 use Rattle.levelling.proofs.Opens.{open-loaded}
 use Rattle.starting.proofs.Begins.{begin-opened, begin-refused}
 use borrow.Author.Needs.{needs}

@@ -1,3 +1,4 @@
+-- `admit` (src/start.rt) keeps its contract.
 use Rattle.starting.proofs.Opens.{admit-refused, admit-starts}
 use borrow.Author.Needs.{needs}
 use native.Mathlib.Omega.{arith}

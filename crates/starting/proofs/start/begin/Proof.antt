@@ -1,3 +1,4 @@
+-- `begin` (src/start.rt) keeps its contract.
 use Rattle.starting.proofs.Fresh.{begun}
 use borrow.Author.Needs.{needs}
 use native.Mathlib.Omega.{arith}

@@ -1,3 +1,4 @@
+-- `first` (src/start.rt) keeps its contract.
 use Prim.Native.Nat.{_-_, _≤_}
 use Rattle.starting.proofs.Fresh.{first-all, first-more, first-none}
 use Rattle.starting.specs.Starts.{FirstIs}

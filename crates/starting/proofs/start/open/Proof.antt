@@ -1,3 +1,4 @@
+-- `open` (src/start.rt) keeps its contract.
 use Rattle.starting.proofs.Opens.{opened-in}
 use borrow.Author.Needs.{needs}
 use mathlib.Core.Path.{refl}

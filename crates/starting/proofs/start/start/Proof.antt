@@ -1,3 +1,4 @@
+-- `start` (src/start.rt) keeps its contract.
 use Rattle.starting.proofs.Fresh.{started}
 use borrow.Author.Needs.{needs}
 use Rattle.starting.proofs.start.start.Statement.{statement}

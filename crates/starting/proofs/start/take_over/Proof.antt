@@ -1,3 +1,4 @@
+-- `take_over` (src/start.rt) keeps its contract.
 use Prim.Native.Nat.{_+_, _-_, _≤_}
 use Rattle.starting.proofs.Fresh.{Taking, taking-ends, taking-more, taking-starts}
 use borrow.Author.Needs.{needs}

@@ -1,47 +1,19 @@
-use Prim.Native.Nat.{_-_}
-use Rattle.starting.proofs.Fresh.{Wiping, wiping-ends, wiping-more, wiping-starts}
+-- `wipe` (src/start.rt) keeps its contract.
+use Rattle.starting.proofs.Fresh.{wiped-all}
 use borrow.Author.Needs.{needs}
-use mathlib.Core.Path.{refl}
-use native.Mathlib.Omega.{arith}
 use Rattle.starting.proofs.start.wipe.Statement.{statement}
 use Rattle.starting.proofs.start.wipe.Tie as tie
 
-abbrev Inv-loop : tie.InvT-loop
-Inv-loop w₀ end i₀ w i = Wiping w₀ w i
-
-abbrev μ-loop : tie.MeasureT-loop
-μ-loop w₀ end i₀ w i = end - i
-
-loop-holds : tie.Need-loop-holds Inv-loop μ-loop
-loop-holds c = wiping-starts _
-
-slice-write-w : tie.Need-slice-write-w Inv-loop μ-loop
-slice-write-w c = omega (arith, c .before .loop .inv .long, c .before .before .smaller .ensures)
-
-add-i : tie.Need-add-i Inv-loop μ-loop
-add-i c = omega (arith, c .before .before .smaller .ensures)
-
-loop-again : tie.Need-loop-again Inv-loop μ-loop
-loop-again c = wiping-more _ (c .before .loop .inv) refl
-
-same-length : tie.Need-same-length Inv-loop μ-loop
-same-length c = c .before .loop .inv .long
-
-returns : tie.Need-returns Inv-loop μ-loop
-returns c = wiping-ends (c .before .loop .inv) (omega (arith, c .before .before .smaller .ensures))
+returns : tie.Need-returns
+returns c = wiped-all _ _ _ (c .before .before .before .before .before .smaller .ensures) (c .before .before .before .before .smaller2 .ensures) (c .before .before .clear-words .ensures)
 
 pub wipe-spec : {M : Type 1} → statement M
 wipe-spec =
     tie.close
     (tie.spec
-    Inv-loop
-    μ-loop
     (λ c κs. search needs)
-    loop-holds
     (λ c. search needs)
-    slice-write-w
-    add-i
+    (λ c κs. search needs)
+    (λ c κs. search needs)
     (λ c. search needs)
-    loop-again
-    same-length
     returns)

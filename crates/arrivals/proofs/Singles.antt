@@ -6,7 +6,7 @@ use Rattle.folds.specs.Answers.{value}
 use Rattle.sheet.specs.Sheet.{Sheet}
 use Rattle.graph.specs.Graph.{readSheet}
 use Rattle.graph.proofs.Proper.{proper}
-use Rattle.placing.specs.Choosing.{Single}
+use Rattle.arrivals.specs.Kept.{Single}
 
 pub read-single : (b : List ℕ) (s : Sheet) → readSheet b ≡ value s → Single s
 read-single b s e = record { once = proper b s e .form .single }

@@ -1,0 +1,130 @@
+-- The greatest key of step 1 is one of a processor that a link into the task comes from.
+use Prim.Native.Nat.{ℕ, _+_, _-_, _≤_, _<_, max}
+use mathlib.Core.Bool.{Bool, true, false}
+use mathlib.Core.Path.{_≡_, refl, ap, sym, _∙_}
+use mathlib.Core.Logic.{_≢_}
+use mathlib.Core.List.{List}
+use native.Mathlib.Omega.{arith}
+use native.Mathlib.Decide.{ℕ-discrete}
+use borrow.Author.Tests.{eq-eqb, ne-eqb, eqb-true}
+use lib.ListN.{getD}
+use lib.Dec.{eqb}
+use Rattle.folds.specs.Folds.{greatest}
+use Rattle.folds.proofs.Loops.{greatest-at, greatest-more, greatest-zero}
+use Rattle.folds.proofs.Laws.{any-found, any-some, greatest-le, greatest-skip, term-le-greatest}
+use Rattle.folds.proofs.Tests.{both-parts, parts-both}
+use Rattle.sheet.specs.Sheet.{Sheet, linkCount, sourceOf, targetOf}
+use Rattle.sheet.specs.Tables.{sheetIn}
+use Rattle.planner.specs.Schedule.{Schedule, stands, placeOf}
+use Rattle.planner.specs.Placing.{holdsBy, holdsPredecessor}
+use Rattle.planner.proofs.Ready.{ready-source}
+use Rattle.schedule.specs.Layout.{scheduleIn}
+use Rattle.arrivals.specs.Kept.{countedBy, into}
+use Rattle.arrivals.proofs.Numbered.{Walking, walk-begins, walk-ended, walk-more, walk-there}
+use Rattle.placing.specs.Choosing.{Choosing}
+use Rattle.placing.specs.Ranks.{joinKey}
+use Rattle.placing.proofs.Steps.{join-none}
+
+-- what link l gives, if it leads to t: the key of the processor that it comes from
+pub linkKey : Sheet → Schedule → ℕ → ℕ → ℕ
+linkKey s σ t = countedBy (into s t) (λ l. joinKey s σ t (placeOf σ (sourceOf s l))) (λ l. true)
+
+-- the walk over the links into t, at link l, after i links
+pub record Joining (s : Sheet) (σ : Schedule) (t i l best : ℕ) : Type 0 where
+  pub walk : Walking s t i l
+  pub most : best ≡ greatest l (linkKey s σ t)
+
+module _ (w : List ℕ) (t : ℕ) (c : Choosing w t) where
+  abbrev s : Sheet
+  s = sheetIn w
+
+  abbrev σ : Schedule
+  σ = scheduleIn w
+
+  -- the processor that link l comes from
+  abbrev at : ℕ → ℕ
+  at l = placeOf σ (sourceOf s l)
+
+  own-key : (l : ℕ) → targetOf s l ≡ t → linkKey s σ t l ≡ joinKey s σ t (at l)
+  unfolding countedBy linkKey
+  own-key l e = rw (eq-eqb (targetOf s l) t e)
+
+  else-key : (l : ℕ) → targetOf s l ≢ t → linkKey s σ t l ≡ 0
+  unfolding countedBy linkKey
+  else-key l e = rw (ne-eqb (targetOf s l) t e)
+
+  link-open : (l : ℕ) → l < linkCount s → targetOf s l ≡ t → at l < σ .opened
+  link-open l h e = c .kept .standing (sourceOf s l) (ready-source s σ t l (c .isReady) h e)
+
+  link-holds : (l : ℕ) → l < linkCount s → targetOf s l ≡ t → holdsPredecessor s σ t (at l) ≡ true
+  unfolding holdsPredecessor holdsBy stands
+  link-holds l h e =
+      any-found (linkCount s) (holdsBy s σ t (at l)) l h (parts-both (eqb (targetOf s l) t) (eqb (at l) (at l)) (eq-eqb (targetOf s l) t e) (eq-eqb (at l) (at l) refl))
+
+  link-le : (l : ℕ) → l < linkCount s → linkKey s σ t l ≤ greatest (σ .opened) (joinKey s σ t)
+  link-le l h = go (ℕ-discrete (targetOf s l) t)
+    where
+      go : Dec (targetOf s l ≡ t) → linkKey s σ t l ≤ greatest (σ .opened) (joinKey s σ t)
+      go (yes e) = omega (arith, own-key l e, term-le-greatest (σ .opened) (joinKey s σ t) (at l) (link-open l h e))
+      go (no e) = omega (arith, else-key l e)
+
+  key-le : (k : ℕ) → joinKey s σ t k ≤ greatest (linkCount s) (linkKey s σ t)
+  unfolding holdsPredecessor holdsBy stands
+  key-le k = go (holdsPredecessor s σ t k) refl
+    where
+      go : (b : Bool) → holdsPredecessor s σ t k ≡ b → joinKey s σ t k ≤ greatest (linkCount s) (linkKey s σ t)
+      go true e =
+          let m = any-some (linkCount s) (holdsBy s σ t k) e in
+          let b = both-parts (eqb (targetOf s (m .0)) t) (eqb (at (m .0)) k) (m .2) in
+          omega (
+            arith,
+            own-key (m .0) (eqb-true (targetOf s (m .0)) t (b .0)),
+            ap (joinKey s σ t) (eqb-true (at (m .0)) k (b .1)),
+            term-le-greatest (linkCount s) (linkKey s σ t) (m .0) (m .1),
+          )
+      go false e = omega (arith, join-none s σ t k e)
+
+  link-keys : greatest (linkCount s) (linkKey s σ t) ≡ greatest (σ .opened) (joinKey s σ t)
+  link-keys =
+      omega (
+        arith,
+        greatest-le (linkCount s) (linkKey s σ t) (greatest (σ .opened) (joinKey s σ t)) link-le,
+        greatest-le (σ .opened) (joinKey s σ t) (greatest (linkCount s) (linkKey s σ t)) (λ k h. key-le k),
+      )
+
+  -- from a up to b no link leads to t
+  skip : (a b : ℕ) → a ≤ b → ((i : ℕ) → a ≤ i → i < b → targetOf s i ≢ t) → greatest a (linkKey s σ t) ≡ greatest b (linkKey s σ t)
+  skip a b h none =
+      let z : a + (b - a) ≡ b = omega arith in
+      sym (greatest-skip (linkKey s σ t) a (b - a) (λ i p q. else-key i (none i p (omega arith)))) ∙ ap (λ (n : ℕ). greatest n (linkKey s σ t)) z
+
+  pub join-begins : {l : ℕ} → l ≡ getD w (2576 + t) 0 → l ≤ linkCount s → Joining s σ t 0 l 0
+  join-begins {l} e h =
+      record {
+        walk = walk-begins (c .kept .caches .inward) (c .kept .caches .gathered) t (c .task) e h;
+        most = sym (greatest-zero (linkKey s σ t)) ∙ skip 0 l (omega arith) (λ j p q. c .kept .caches .inward .head-none t (c .task) j (rw e at q));
+      }
+
+  module _ {i l best : ℕ} (g : Joining s σ t i l best) where
+    -- there is a link more
+    pub join-there : {n : ℕ} → n ≡ getD w (6176 + t) 0 → i < n → l < linkCount s
+    join-there e h = walk-there (c .kept .caches .inward) (c .kept .caches .gathered) t (c .task) (g .walk) e h
+
+    -- and the processor that it comes from holds a predecessor
+    pub join-can : {u k : ℕ} → l < linkCount s → u ≡ sourceOf s l → k ≡ placeOf σ u → (k < 16) × (holdsPredecessor s σ t k ≡ true)
+    join-can h eu ek =
+        let e = ek ∙ ap (placeOf σ) eu in
+        (omega (arith, e, link-open l h (g .walk .own h), c .kept .few-opened), rw e (link-holds l h (g .walk .own h)))
+
+    pub join-more : {l′ u k v best′ : ℕ} → l < linkCount s → l′ ≡ getD w (2832 + l) 0 → l < l′ → l′ ≤ linkCount s → u ≡ sourceOf s l → k ≡ placeOf σ u → v ≡ joinKey s σ t k → best′ ≡ max best v → Joining s σ t (i + 1) l′ best′
+    join-more {l′} h e more f eu ek ev eb =
+        record {
+          walk = walk-more (c .kept .caches .inward) (c .kept .caches .gathered) t (c .task) (g .walk) h e more f;
+          most =
+              greatest-more l (linkKey s σ t) (g .most) (ev ∙ ap (joinKey s σ t) (ek ∙ ap (placeOf σ) eu) ∙ sym (own-key l (g .walk .own h))) eb
+              ∙ skip (l + 1) l′ (omega arith) (λ j x y z. c .kept .caches .inward .next-none l h j (omega arith) (rw e at y) (z ∙ sym (g .walk .own h)));
+        }
+
+    pub join-done : {n : ℕ} → n ≡ getD w (6176 + t) 0 → n ≤ i → best ≡ greatest (σ .opened) (joinKey s σ t)
+    join-done e h =
+        greatest-at (linkKey s σ t) l (linkCount s) (g .most) (walk-ended (c .kept .caches .inward) (c .kept .caches .gathered) t (c .task) (g .walk) e h) ∙ link-keys
