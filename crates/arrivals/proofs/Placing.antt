@@ -20,6 +20,11 @@ use Rattle.arrivals.specs.Steps.{upTo, Placeable, Landed, Released}
 use Rattle.arrivals.proofs.Counts.{count-agree}
 use Rattle.arrivals.proofs.Fours.{four-cong}
 
+-- who stands on a processor is placed
+pub stands-placed : (σ : Schedule) (k : ℕ) → k < 16 → (u : ℕ) → stands σ u k ≡ true → placed σ u ≡ true
+unfolding stands placed
+stands-placed σ k h u e = lt-ltb (placeOf σ u) 16 (omega (arith, eqb-true (placeOf σ u) k e))
+
 module _ (s : Sheet) (σ : Schedule) (t k a b : ℕ) (g : Placeable s σ t k) where
   abbrev σ′ : Schedule
   σ′ = put σ t k a b
@@ -195,10 +200,6 @@ module _ (s : Sheet) (σ : Schedule) (t k a b : ℕ) (g : Placeable s σ t k) wh
   stands-else u j h d (yes e) = rw (e, stands-now j, stands-free j h) (ne-eqb k j (λ x. d (sym x)))
   stands-else u j h d (no e) = stands-other u j e
 
-  stands-placed : (u : ℕ) → stands σ u k ≡ true → placed σ u ≡ true
-  unfolding stands placed
-  stands-placed u e = let h = g .on in let q : placeOf σ u ≡ k = eqb-true (placeOf σ u) k e in lt-ltb (placeOf σ u) 16 (omega arith)
-
   bytes-else : (j l : ℕ) → j < 16 → j ≢ k → bytesBy s σ′ j l ≡ bytesBy s σ j l
   unfolding bytesBy
   bytes-else j l h d = rw (stands-else (targetOf s l) j h d (ℕ-discrete (targetOf s l) t), stands-else (sourceOf s l) j h d (ℕ-discrete (sourceOf s l) t))
@@ -212,7 +213,7 @@ module _ (s : Sheet) (σ : Schedule) (t k a b : ℕ) (g : Placeable s σ t k) wh
       go true = omega arith
       go false = omega arith
   bytes-term l h (no d) true e =
-      let o = not-t (sourceOf s l) (g .closed l h (stands-placed (targetOf s l) e)) in
+      let o = not-t (sourceOf s l) (g .closed l h (stands-placed σ k (g .on) (targetOf s l) e)) in
       rw (stands-other (targetOf s l) k d, stands-other (sourceOf s l) k o, ne-eqb (targetOf s l) t d)
   bytes-term l h (no d) false e = rw (stands-other (targetOf s l) k d, e, ne-eqb (targetOf s l) t d)
 

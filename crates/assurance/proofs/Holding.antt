@@ -59,13 +59,13 @@ module _ (s : Sheet) (b : Bundle) where
         record {
           count = h .1;
           moves = moves-on (h .2) (p .over);
-          once = λ t l. omega (arith, done-left s b σ (is (run t)), run-once s b (p .published) t l);
+          once = λ t l. omega (arith, done-left s b σ (is (run t)), run-once s b (p .published .once) t l);
           inputs = λ k i t l m e. inputs s b (p .published) k i t l e;
           holds = h .0 .store;
           store = λ k. omega (arith, h .0 .store k, p .within k, need-split σ k);
           finish =
               λ z. (
-                λ t l. omega (arith, done-left s b σ (is (run t)), run-once s b (p .published) t l, ended-all s b σ z (is (run t))),
+                λ t l. omega (arith, done-left s b σ (is (run t)), run-once s b (p .published .once) t l, ended-all s b σ z (is (run t))),
                 ap latest (one-end s b (h .0) here (still σ (h .0) z) (h .2) (still (p .end) (leads-sound s b (h .2) (h .0)) (p .over))) ∙ p .claimed,
               );
         }

@@ -38,9 +38,6 @@ two-halves q at =
 
 -- key i becomes x
 module _ {q : List ℕ} (k : Blocked q) (i x : ℕ) (h : i < 512) where
-  block : List ℕ → ℕ
-  block p = greatest 16 (keyBy p (16 * (i / 16)))
-
   long : length (set q i x) ≡ 544
   long = length-set q i x ∙ k .long
 

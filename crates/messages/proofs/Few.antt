@@ -89,7 +89,7 @@ module _ (s : Sheet) (b : Bundle) (p : Published s b) where
         sum-swap n (taskCount s) (λ k t. wholeOf b (is (run t)) k),
         sum-swap n (linkCount s) (λ k x. wholeOf b (is (send x)) k),
         sum-swap n (linkCount s) (λ k x. wholeOf b (is (receive x)) k),
-        sum-le (taskCount s) 1 (λ t. whole b (is (run t))) (λ t h. omega (arith, run-once s b p t h)),
+        sum-le (taskCount s) 1 (λ t. whole b (is (run t))) (λ t h. omega (arith, run-once s b (p .once) t h)),
         sum-le (linkCount s) 1 (λ x. whole b (is (send x))) (λ x h. both-one x h .0),
         sum-le (linkCount s) 1 (λ x. whole b (is (receive x))) (λ x h. both-one x h .1),
       )

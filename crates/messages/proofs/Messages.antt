@@ -57,12 +57,13 @@ message s b l e = go (eqb j k) e
         let g = both-parts (eqb (whole b (is (receive l))) 1) _ (h .1) in
         record { one = omega (arith, eqb-true); comes = inr (both-parts (before (run (sourceOf s l)) (send l) (programmeOf b j)) _ (g .1) .1) }
 
+-- 26: every task runs just once
+pub run-once : (s : Sheet) (b : Bundle) → at26 s b ≡ none → (t : ℕ) → t < taskCount s → whole b (is (run t)) ≡ 1
+unfolding at26 notOnce
+run-once s b once t h = eqb-true _ _ (not-false _ (first-none (taskCount s) (notOnce b) once t h))
+
 module _ (s : Sheet) (b : Bundle) where
   module _ (published : Published s b) where
-    pub run-once : (t : ℕ) → t < taskCount s → whole b (is (run t)) ≡ 1
-    unfolding at26 notOnce
-    run-once t h = eqb-true _ _ (not-false _ (first-none (taskCount s) (notOnce b) (published .once) t h))
-
     pub messages : (l : ℕ) → l < linkCount s → Message s b l
     unfolding at27 wrongMessage
     messages l h = message s b l (not-false _ (first-none (linkCount s) (wrongMessage s b) (published .messages) l h))
@@ -74,7 +75,7 @@ module _ (s : Sheet) (b : Bundle) where
     inputs k i t h e l m q =
         let f : getElem? (programmeOf b k) i ≡ some (run (targetOf s l)) = rw q e in
         let z =
-        home-is b (run (targetOf s l)) k (command-below b k i (run t) e) (omega (arith, run-once t h, ap (λ x. whole b (is (run x))) q))
+        home-is b (run (targetOf s l)) k (command-below b k i (run t) e) (omega (arith, run-once s b (published .once) t h, ap (λ x. whole b (is (run x))) q))
         (standing (run (targetOf s l)) (programmeOf b k) i f)
         in
         ⊎-elim (λ g. omega (arith, before-takes (run (sourceOf s l)) (run (targetOf s l)) (programmeOf b k) i (rw z at g) f))

@@ -7,12 +7,12 @@ use mathlib.Core.Logic.{_⊎_, ⊎-elim}
 use mathlib.Core.List.{List}
 use native.Mathlib.Omega.{arith}
 use native.Mathlib.Numerals.{add-one}
-use borrow.Author.Tests.{eqb-true, eq-eqb, ne-eqb, lt-ltb, le-ltb, not-false}
+use borrow.Author.Tests.{eqb-true, eq-eqb, ne-eqb, lt-ltb, le-ltb}
 use lib.ListN.{getD}
 use lib.Dec.{eqb, ltb}
 use Rattle.folds.specs.Folds.{pick, both}
 use Rattle.folds.proofs.Tests.{below-suc}
-use Rattle.folds.proofs.Laws.{first-none, none-first, first-found}
+use Rattle.folds.proofs.Laws.{none-first, first-found}
 use Rattle.sheet.specs.Sheet.{Sheet, taskCount, linkCount, sourceOf, targetOf}
 use Rattle.bundle.specs.Bundle.{Command, run, send, receive, Bundle, programmeCount, programmeOf}
 use Rattle.bundle.specs.Fits.{Known}
@@ -21,6 +21,7 @@ use Rattle.messages.specs.Messages.{notOnce, before, insideOk, acrossOk,
 use Rattle.messages.specs.Notes.{slotOf, sofar, Noted, never, again, once, Notes, ahead, insideBy, acrossBy}
 use Rattle.messages.specs.Rules.{Given, OnceIs, LinkIs, MessageIs}
 use Rattle.messages.specs.declared.Found.the-variants.{At, Nothing}
+use Rattle.messages.proofs.Messages.{run-once}
 use Rattle.messages.proofs.Ranks.{sofar-whole}
 use Rattle.messages.proofs.Places.{Placed, placed-home, same-programme, before-first, before-second}
 
@@ -115,10 +116,6 @@ both-three true q r = refl
 both-three false q r = refl
 
 module _ (s : Sheet) (b : Bundle) (sheet w : List ℕ) (h : Given s b sheet w) (l : ℕ) (kl : l < linkCount s) (once : at26 s b ≡ none) where
-  run-one : (t : ℕ) → t < taskCount s → whole b (is (run t)) ≡ 1
-  unfolding at26 notOnce
-  run-one t k = eqb-true (whole b (is (run t))) 1 (not-false (eqb (whole b (is (run t))) 1) (first-none (taskCount s) (notOnce b) once t k))
-
   abbrev noteOf : Command → ℕ
   noteOf c = getD w (2048 + slotOf c) 0
 
@@ -129,10 +126,10 @@ module _ (s : Sheet) (b : Bundle) (sheet w : List ℕ) (h : Given s b sheet w) (
   target = run (targetOf s l)
 
   from : (j : ℕ) × (i : ℕ) × Placed b source j i (noteOf source)
-  from = placed s b w (h .count) (h .notes) source (h .source l kl) (run-one (sourceOf s l) (h .source l kl))
+  from = placed s b w (h .count) (h .notes) source (h .source l kl) (run-once s b once (sourceOf s l) (h .source l kl))
 
   to : (j : ℕ) × (i : ℕ) × Placed b target j i (noteOf target)
-  to = placed s b w (h .count) (h .notes) target (h .target l kl) (run-one (targetOf s l) (h .target l kl))
+  to = placed s b w (h .count) (h .notes) target (h .target l kl) (run-once s b once (targetOf s l) (h .target l kl))
 
   inside-by : from .0 ≡ to .0 → insideBy (noteOf source) (noteOf target) (noteOf (send l)) (noteOf (receive l)) ≡ insideOk s b l (to .0)
   unfolding insideBy insideOk ahead

@@ -6,7 +6,7 @@ use mathlib.Core.Logic.{_≢_}
 use mathlib.Core.List.{List}
 use native.Mathlib.Omega.{arith}
 use native.Mathlib.Decide.{ℕ-discrete}
-use borrow.Author.Tests.{eq-eqb, ne-eqb, lt-ltb, eqb-true}
+use borrow.Author.Tests.{eq-eqb, ne-eqb, eqb-true}
 use lib.ListN.{getD}
 use lib.Dec.{eqb}
 use Rattle.folds.specs.Folds.{pick, both, either, sum}
@@ -14,12 +14,13 @@ use Rattle.folds.proofs.Tests.{both-parts}
 use Rattle.folds.proofs.Laws.{sum-zeros, sum-cong, sum-mono, sum-swap, all-eqb, none-any}
 use Rattle.sheet.specs.Sheet.{Sheet, taskCount, linkCount, sourceOf, targetOf}
 use Rattle.sheet.specs.Tables.{sheetIn, Ranged}
-use Rattle.planner.specs.Schedule.{Schedule, placed, stands, placeOf}
+use Rattle.planner.specs.Schedule.{Schedule, placed, stands}
 use Rattle.planner.specs.Placing.{followsBy, follows, spentBy, spent}
 use Rattle.planner.proofs.Ready.{ready-free}
 use Rattle.schedule.specs.Layout.{scheduleIn}
 use Rattle.arrivals.specs.Kept.{countedBy, into, intoFrom, waits, oneBy, known, Single, Closed, Counted}
 use Rattle.arrivals.proofs.Counts.{sum-single, counts-from-le}
+use Rattle.arrivals.proofs.Placing.{stands-placed}
 use Rattle.arrivals.proofs.Few.{few-from}
 use Rattle.arrivals.proofs.Fours.{four-byte}
 use Rattle.arrivals.proofs.Links.{few-counted}
@@ -35,10 +36,6 @@ module _ (s : Sheet) (σ : Schedule) (t k : ℕ) (k-in : k < 16) (free : placed 
   spread true n f = refl
   spread false n f = sym (sum-zeros n (λ l. 0) (λ l h. refl))
 
-  standing : (u : ℕ) → stands σ u k ≡ true → placed σ u ≡ true
-  unfolding stands placed
-  standing u e = lt-ltb (placeOf σ u) 16 (omega (arith, eqb-true (placeOf σ u) k e))
-
   turned : (a b : ℕ) → Dec (a ≡ b) → eqb a b ≡ eqb b a
   turned a b (yes e) = eq-eqb a b e ∙ sym (eq-eqb b a (sym e))
   turned a b (no e) = ne-eqb a b e ∙ sym (ne-eqb b a (λ x. e (sym x)))
@@ -46,7 +43,7 @@ module _ (s : Sheet) (σ : Schedule) (t k : ℕ) (k-in : k < 16) (free : placed 
   hit : (i l : ℕ) → stands σ (sourceOf s l) k ≡ true → part i l ≡ pick (followsBy s (targetOf s l) t i) 1 0
   unfolding countedBy followsBy
   hit i l e =
-      rw (e, standing (sourceOf s l) e, turned (targetOf s l) (targetOf s i) (ℕ-discrete (targetOf s l) (targetOf s i))) (go (eqb (sourceOf s i) t) (eqb (targetOf s i) (targetOf s l)))
+      rw (e, stands-placed σ k k-in (sourceOf s l) e, turned (targetOf s l) (targetOf s i) (ℕ-discrete (targetOf s l) (targetOf s i))) (go (eqb (sourceOf s i) t) (eqb (targetOf s i) (targetOf s l)))
     where
       go : (a b : Bool) → _≡_ {A = ℕ} (pick a (pick (both (both b true) true) 1 0) 0) (pick (both a b) 1 0)
       go true true = refl
@@ -101,7 +98,7 @@ module _ (s : Sheet) (σ : Schedule) (t k : ℕ) (k-in : k < 16) (free : placed 
 
   less : (l : ℕ) → l < linkCount s → followed l ≤ waiting l
   unfolding countedBy
-  less l h = go (stands σ (sourceOf s l) k) (placed σ (targetOf s l)) (follows s (targetOf s l) t) (placed σ (sourceOf s l)) (behind l h) (standing (sourceOf s l))
+  less l h = go (stands σ (sourceOf s l) k) (placed σ (targetOf s l)) (follows s (targetOf s l) t) (placed σ (sourceOf s l)) (behind l h) (stands-placed σ k k-in (sourceOf s l))
     where
       go : (a p f d : Bool) → (p ≡ true → f ≡ false) → (a ≡ true → d ≡ true) → pick (both a f) 1 0 ≤ pick (both (both a (not p)) d) 1 0
       go false p f d h g = omega arith
@@ -112,7 +109,7 @@ module _ (s : Sheet) (σ : Schedule) (t k : ℕ) (k-in : k < 16) (free : placed 
 
   each : (l : ℕ) → l < linkCount s → spentBy s σ t k l ≡ eqb (followed l) (waiting l)
   unfolding spentBy countedBy
-  each l h = go (stands σ (sourceOf s l) k) (placed σ (targetOf s l)) (follows s (targetOf s l) t) (placed σ (sourceOf s l)) (behind l h) (standing (sourceOf s l))
+  each l h = go (stands σ (sourceOf s l) k) (placed σ (targetOf s l)) (follows s (targetOf s l) t) (placed σ (sourceOf s l)) (behind l h) (stands-placed σ k k-in (sourceOf s l))
     where
       go : (a p f d : Bool) → (p ≡ true → f ≡ false) → (a ≡ true → d ≡ true) → either (not a) (either p f) ≡ eqb (pick (both a f) 1 0) (pick (both (both a (not p)) d) 1 0)
       go false p f d h g = refl
