@@ -84,6 +84,7 @@ pub fn work_length() -> usize {
 
 /// Calls with a place to write to. It starts as no length or offset is, so that a call which
 /// leaves it alone shows.
+#[inline]
 fn answer(call: impl FnOnce(&mut u64) -> u8) -> Answer {
     let mut place = u64::MAX;
     let number = call(&mut place);

@@ -34,6 +34,7 @@ macro_rules! interface {
         [$($safe:tt)*] [$($c:ty,)*] [$($pass:expr,)*]
     ) => {
         $(#[$doc])*
+        #[inline]
         pub fn $name($($safe)*) -> Answer {
             extern "C" {
                 fn $symbol($(_: $c,)* _: *mut u64) -> u8;
