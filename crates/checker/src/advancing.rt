@@ -5,7 +5,6 @@ ghost use lib.ListN.{getD};
 ghost use Rattle.state.specs.Words.{placedWords};
 ghost use Rattle.stepping.specs.Advance.{Roomy};
 ghost use Rattle.checker.specs.Settling.{AdvanceIs};
-use stepping::pair;
 use stepping::place;
 use stepping::processors::Processor;
 
@@ -43,14 +42,18 @@ fn advance_from(sheet: &[u8], bundle: &[u8], w: &mut [u32], k: usize) -> usize
         let c = words::byte(bundle, at);
         if c == 0x52 {
             let t = words::byte(bundle, at + 1);
-            clock = (clock + pair(sheet, 7 + 5 * t)) % 4294967296;
-            store = (store + pair(sheet, 9 + 5 * t)) % 4294967296;
+            clock = (clock + words::pair(sheet, 7 + 5 * t)) % 4294967296;
+            store = (store + words::pair(sheet, 9 + 5 * t)) % 4294967296;
             at = (at + 2) % 4294967296;
             n += 1;
         } else {
-            let l = pair(bundle, at + 1);
+            let l = words::pair(bundle, at + 1);
             if c == 0x53 {
-                words::put(w, 96 + l, clock + pair(sheet, 9 + 5 * tasks + 7 * l) + 1);
+                words::put(
+                    w,
+                    96 + l,
+                    clock + words::pair(sheet, 9 + 5 * tasks + 7 * l) + 1,
+                );
                 at = (at + 3) % 4294967296;
                 n += 1;
             } else {
@@ -59,7 +62,7 @@ fn advance_from(sheet: &[u8], bundle: &[u8], w: &mut [u32], k: usize) -> usize
                     return put_back(w, k, n, at, clock, store);
                 }
                 clock = words::later(clock, stamp - 1);
-                store = (store + pair(sheet, 11 + 5 * tasks + 7 * l)) % 4294967296;
+                store = (store + words::pair(sheet, 11 + 5 * tasks + 7 * l)) % 4294967296;
                 at = (at + 3) % 4294967296;
                 n += 1;
             }

@@ -13,17 +13,6 @@ ghost use Rattle.state.specs.Words.{placedWords, movedWords, ranWords, sentWord
 ghost use Rattle.state.specs.Keeps.{StepIs, RunIs};
 ghost use Rattle.stepping.specs.Advance.{Narrow, Roomy, processorIn};
 
-// The two bytes at i, lowest first, with one test where both are there.
-pub fn pair(b: &[u8], i: usize) -> usize
-    requires { ⌜ i < 1099511627776 ⌝ }
-    ensures { λ r. ⌜ (r ≡ numberAt 2 (now (b .entry)) i) × (r < 65536) ⌝ }
-{
-    if i + 1 < b.len() {
-        return numbers::get16(b, i) as usize;
-    }
-    words::pair(b, i)
-}
-
 // Puts the low 32 bits of x at i, a word that is there.
 fn put(w: &mut [u32], i: usize, x: usize)
     requires { ⌜ i < length (now w) ⌝ }
@@ -71,8 +60,8 @@ fn run_at(sheet: &[u8], bundle: &[u8], w: &mut [u32], k: usize, at: usize)
     ensures { λ _. ⌜ now (w .exit) ≡ ranWords (now (sheet .entry)) (now (bundle .entry)) (now (w .entry)) k at ⌝ }
 {
     let t = words::byte(bundle, at + 1);
-    let work = pair(sheet, 7 + 5 * t);
-    let need = pair(sheet, 9 + 5 * t);
+    let work = words::pair(sheet, 7 + 5 * t);
+    let need = words::pair(sheet, 9 + 5 * t);
     let p = processors::stepped(processor(w, k), 0, work, need);
     move_on(w, k, at + 2, p);
 }
@@ -82,9 +71,9 @@ fn send_at(sheet: &[u8], bundle: &[u8], w: &mut [u32], k: usize, at: usize)
     requires { ⌜ Roomy (now w) k × (at < 4294967296) ⌝ }
     ensures { λ _. ⌜ now (w .exit) ≡ sentWords (now (sheet .entry)) (now (bundle .entry)) (now (w .entry)) k at ⌝ }
 {
-    let l = pair(bundle, at + 1);
+    let l = words::pair(bundle, at + 1);
     let p = processor(w, k);
-    let cost = pair(sheet, 9 + 5 * workspace::word(w, 18) + 7 * l);
+    let cost = words::pair(sheet, 9 + 5 * workspace::word(w, 18) + 7 * l);
     words::put(w, 96 + l, p.clock + cost + 1);
     let q = processors::stepped(p, 0, 0, 0);
     move_on(w, k, at + 3, q);
@@ -95,12 +84,12 @@ fn receive_at(sheet: &[u8], bundle: &[u8], w: &mut [u32], k: usize, at: usize) -
     requires { ⌜ Roomy (now w) k × (at < 4294967296) ⌝ }
     ensures { λ r. ⌜ (r ≡ not (eqb (getD (now (w .entry)) (96 + numberAt 2 (now (bundle .entry)) (at + 1)) 0) 0)) × (now (w .exit) ≡ pick r (gotWords (now (sheet .entry)) (now (bundle .entry)) (now (w .entry)) k at) (now (w .entry))) ⌝ }
 {
-    let l = pair(bundle, at + 1);
+    let l = words::pair(bundle, at + 1);
     let stamp = words::word(w, 96 + l);
     if stamp == 0 {
         return false;
     }
-    let need = pair(sheet, 11 + 5 * workspace::word(w, 18) + 7 * l);
+    let need = words::pair(sheet, 11 + 5 * workspace::word(w, 18) + 7 * l);
     let p = processors::stepped(processor(w, k), stamp - 1, 0, need);
     move_on(w, k, at + 3, p);
     true

@@ -14,14 +14,14 @@ pub fn byte(b: &[u8], i: usize) -> usize
     0
 }
 
-// The two bytes at i, lowest first.
+// The two bytes at i, lowest first; one test where both are there.
 pub fn pair(b: &[u8], i: usize) -> usize
     ensures { λ r. ⌜ (r ≡ numberAt 2 (now (b .entry)) i) × (r < 65536) ⌝ }
 {
-    if i < b.len() {
-        return byte(b, i) + 256 * byte(b, i + 1);
+    if i < minus(b.len(), 1) {
+        return numbers::get16(b, i) as usize;
     }
-    0
+    byte(b, i)
 }
 
 // The word at i.

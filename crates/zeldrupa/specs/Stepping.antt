@@ -1,4 +1,4 @@
--- What the functions of the stepping machine give. How its state is kept in words is `Keeps` of machine/specs/Keeps.
+-- What the functions of the stepping machine give. How its state is kept in words is `Keeps` of state/specs/Keeps.
 use Prim.Native.Nat.{ℕ, suc, _≤_, _<_}
 use mathlib.Core.Path.{_≡_}
 use mathlib.Core.Option.{Option, none, some}
