@@ -12,7 +12,9 @@ use Rattle.sheet.specs.Sheet.{Sheet, taskCount, linkCount, sourceOf, targetOf}
 use Rattle.planner.specs.Schedule.{Schedule, placed, stands, placeOf}
 use Rattle.planner.specs.Placing.{endBy, endOf, storeBy, bytesBy, storeOn}
 use Rattle.arrivals.specs.Kept.{countedBy, into, intoFrom, intoOff, waits, reachBy, oneBy, known, Counted, Ends, Closed}
+use Rattle.arrivals.specs.Steps.{Zero, Blank}
 use Rattle.arrivals.proofs.Fours.{four-zero}
+use Rattle.arrivals.proofs.Clearing.{blank-word}
 
 module _ (s : Sheet) (σ : Schedule) (free : (u : ℕ) → placeOf σ u ≡ 16) where
   not-placed : (u : ℕ) → placed σ u ≡ false
@@ -37,17 +39,6 @@ module _ (s : Sheet) (σ : Schedule) (free : (u : ℕ) → placeOf σ u ≡ 16) 
   no-most : (q : ℕ → Bool) (x : ℕ → ℕ) → greatest (linkCount s) (countedBy q x (known s σ)) ≡ 0
   no-most q x = omega (arith, greatest-le (linkCount s) (countedBy q x (known s σ)) 0 (λ l h. omega (arith, unknown q x l)))
 
-  pub counted-zero : {w : List ℕ} → taskCount s ≤ 256 → ((i : ℕ) → 6688 ≤ i → i < 8816 → getD w i 0 ≡ 0) → Counted s σ (known s σ) w
-  counted-zero {w} few z =
-      record {
-        seen = λ t h. z (6688 + t) (omega arith) (omega arith) ∙ sym (no-sum (into s t) oneBy);
-        arrived = λ t h. z (6944 + t) (omega arith) (omega arith) ∙ sym (no-most (into s t) (reachBy s σ));
-        main = λ t h. z (6944 + t) (omega arith) (omega arith) ∙ sym (no-most (intoFrom s σ t (getD w (7456 + t) 0)) (reachBy s σ));
-        off = λ t h. z (7200 + t) (omega arith) (omega arith) ∙ sym (no-most (intoOff s σ t (getD w (7456 + t) 0)) (reachBy s σ));
-        pending = λ k h. z (7744 + k) (omega arith) (omega arith) ∙ sym (no-sum (waits s σ k) oneBy);
-        packed = λ t j h g. z (7792 + (4 * t + j)) (omega arith) (omega arith) ∙ sym (four-zero _ (λ i p. no-sum (intoFrom s σ t (4 * j + i)) oneBy));
-      }
-
   no-end : (k : ℕ) → k < 16 → endOf s σ k ≡ 0
   unfolding endOf endBy
   no-end k h = omega (arith, greatest-le (taskCount s) (endBy s σ k) 0 (λ u l. rw (nowhere-on u k h) (omega arith)))
@@ -61,9 +52,25 @@ module _ (s : Sheet) (σ : Schedule) (free : (u : ℕ) → placeOf σ u ≡ 16) 
         sum-zeros (linkCount s) (bytesBy s σ k) (λ l g. rw (nowhere-on (targetOf s l) k h)),
       )
 
-  pub ends-zero : {w : List ℕ} → ((i : ℕ) → 6688 ≤ i → i < 8816 → getD w i 0 ≡ 0) → Ends s σ w
-  ends-zero z =
-      record { ends = λ k h. z (7712 + k) (omega arith) (omega arith) ∙ sym (no-end k h); stores = λ k h. z (7728 + k) (omega arith) (omega arith) ∙ sym (no-store k h) }
+  -- in words that were cleared (w) and stand as they did
+  module _ (w′ : List ℕ) {w : List ℕ} (zero : Zero 7712 (7792 + 4 * taskCount s) w) (same : (i : ℕ) → 6688 ≤ i → getD w′ i 0 ≡ getD w i 0) where
+    z : (i : ℕ) → 7712 ≤ i → i < 7792 + 4 * taskCount s → getD w′ i 0 ≡ 0
+    z i h l = same i (omega arith) ∙ zero .at i h l
+
+    pub counted-zero : Blank (taskCount s) 6 w → Counted s σ (known s σ) w′
+    counted-zero b =
+        record {
+          seen = λ t h. same (6688 + t) (omega arith) ∙ blank-word b 2 t (omega arith) h ∙ sym (no-sum (into s t) oneBy);
+          arrived = λ t h. same (6944 + t) (omega arith) ∙ blank-word b 3 t (omega arith) h ∙ sym (no-most (into s t) (reachBy s σ));
+          main = λ t h. same (6944 + t) (omega arith) ∙ blank-word b 3 t (omega arith) h ∙ sym (no-most (intoFrom s σ t (getD w′ (7456 + t) 0)) (reachBy s σ));
+          off = λ t h. same (7200 + t) (omega arith) ∙ blank-word b 4 t (omega arith) h ∙ sym (no-most (intoOff s σ t (getD w′ (7456 + t) 0)) (reachBy s σ));
+          pending = λ k h. z (7744 + k) (omega arith) (omega arith) ∙ sym (no-sum (waits s σ k) oneBy);
+          packed = λ t j h g. z (7792 + (4 * t + j)) (omega arith) (omega arith) ∙ sym (four-zero _ (λ i p. no-sum (intoFrom s σ t (4 * j + i)) oneBy));
+        }
+
+    pub ends-zero : Ends s σ w′
+    ends-zero =
+        record { ends = λ k h. z (7712 + k) (omega arith) (omega arith) ∙ sym (no-end k h); stores = λ k h. z (7728 + k) (omega arith) (omega arith) ∙ sym (no-store k h) }
 
   pub closed-zero : Closed s σ
   closed-zero l h e = absurd (true≢false (sym e ∙ not-placed (targetOf s l)))

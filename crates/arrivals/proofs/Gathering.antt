@@ -1,15 +1,14 @@
--- All links gathered at their targets, and words that are cleared first.
+-- All links gathered at their targets.
 use Prim.Native.Nat.{ℕ, _+_, _*_, _≤_, _<_}
 use mathlib.Core.Bool.{Bool, true}
 use mathlib.Core.Path.{_≡_, refl, ap, ap₂, sym, _∙_, subst}
-use mathlib.Core.Logic.{inl, inr}
 use mathlib.Core.List.{List}
 use native.Mathlib.Omega.{arith}
 use native.Mathlib.Decide.{ℕ-discrete}
 use borrow.Author.Tests.{eq-eqb, ne-eqb}
 use lib.ListN.{length, getD, set, length-set}
 use lib.Seq.{getD-set-same, getD-set-other}
-use Rattle.workspace.specs.Area.{fixed, ClearIs}
+use Rattle.workspace.specs.Area.{fixed}
 use Rattle.folds.specs.Folds.{both, sum}
 use Rattle.folds.proofs.Tests.{pick-le}
 use Rattle.folds.proofs.Loops.{sum-zero, sum-one}
@@ -19,14 +18,16 @@ use Rattle.sheet.specs.Tables.{sheetIn, Loaded, Ranged}
 use Rattle.chains.specs.Frames.{Only}
 use Rattle.chains.proofs.Frames.{only-none, only-set, only-trans, only-sheet}
 use Rattle.arrivals.specs.Kept.{countedBy, into, oneBy, Gathered}
-use Rattle.arrivals.specs.Steps.{Zero, GatheredTo}
+use Rattle.arrivals.specs.Steps.{Blank, GatheredTo}
+use Rattle.arrivals.proofs.Clearing.{blank-word}
 
--- a range that was cleared
-pub cleared : {a e : ℕ} {w w′ : List ℕ} → ClearIs w w′ a e → Only a e w w′ × Zero a e w′
-cleared c = (record { long = c .long; low = λ i h. c .other i (inl h); high = λ i h. c .other i (inr h) }, record { at = c .zeros })
-
-pub gather-none : {s : Sheet} {w : List ℕ} → taskCount s ≤ 256 → ((i : ℕ) → 6176 ≤ i → i < 6688 → getD w i 0 ≡ 0) → GatheredTo s 0 w
-gather-none few z = record { number = λ t h. z (6176 + t) (omega arith) (omega arith) ∙ sym (sum-zero _); bytes = λ t h. z (6432 + t) (omega arith) (omega arith) ∙ sym (sum-zero _) }
+-- in tables that were cleared (w) and stand as they did
+pub gather-none : {s : Sheet} {w w′ : List ℕ} → Blank (taskCount s) 6 w → ((i : ℕ) → 6176 ≤ i → getD w′ i 0 ≡ getD w i 0) → GatheredTo s 0 w′
+gather-none b same =
+    record {
+      number = λ t h. same (6176 + t) (omega arith) ∙ blank-word b 0 t (omega arith) h ∙ sym (sum-zero _);
+      bytes = λ t h. same (6432 + t) (omega arith) ∙ blank-word b 1 t (omega arith) h ∙ sym (sum-zero _);
+    }
 
 module _ (s : Sheet) (w : List ℕ) (l : ℕ) (long : fixed ≤ length w) (ranged : Ranged s) (l-in : l < linkCount s) (d : GatheredTo s l w) where
   abbrev v : ℕ

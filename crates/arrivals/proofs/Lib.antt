@@ -12,5 +12,6 @@ pub mod Numbered
 pub mod Surveys
 pub mod Placing
 pub mod Settling
+pub mod Clearing
 pub mod Gathering
 pub mod Beginning

@@ -60,6 +60,10 @@ pub record Enough (w : List ℕ) : Type 0 where
 pub record Zero (a e : ℕ) (w : List ℕ) : Type 0 where
   pub at : (i : ℕ) → a ≤ i → i < e → getD w i 0 ≡ 0
 
+-- the words of n tasks are 0 in the first j of the tables of 256 words from 6176 on
+pub record Blank (n j : ℕ) (w : List ℕ) : Type 0 where
+  pub table : (i : ℕ) → i < j → Zero (6176 + 256 * i) (6176 + 256 * i + n) w
+
 -- the links below l are gathered
 pub record GatheredTo (s : Sheet) (l : ℕ) (w : List ℕ) : Type 0 where
   pub number : (t : ℕ) → t < taskCount s → getD w (6176 + t) 0 ≡ sum l (countedBy (into s t) oneBy (λ i. true))

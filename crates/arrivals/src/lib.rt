@@ -15,7 +15,7 @@ ghost use Rattle.chains.specs.Chains.{Chained};
 ghost use Rattle.chains.specs.declared.End.the-variants.{Source, Target};
 ghost use Rattle.arrivals.specs.Kept.{known, Single, Gathered, Counted, SurveyedTo, Surveyed, Ends, Kept};
 ghost use Rattle.arrivals.specs.Reach.{further};
-ghost use Rattle.arrivals.specs.Steps.{countWords, upTo, Beside, Placeable, Landed, Released, Enough, Zero, GatheredTo};
+ghost use Rattle.arrivals.specs.Steps.{countWords, upTo, Beside, Placeable, Landed, Released, Enough, Zero, Blank, GatheredTo};
 use chains::End;
 use sheet::tables;
 
@@ -155,12 +155,28 @@ pub fn release(w: &mut [u32])
     }
 }
 
-// Nothing is known or placed.
-pub fn clear(w: &mut [u32])
+// The words of n tasks, in the six tables that have one for each.
+fn clear_tables(w: &mut [u32], n: usize)
     requires { ⌜ fixed ≤ length (now w) ⌝ }
-    ensures { λ _. ⌜ Only 6176 8816 (now (w .entry)) (now (w .exit)) × Zero 6176 8816 (now (w .exit)) ⌝ }
+    requires { ⌜ n ≤ 256 ⌝ }
+    ensures { λ _. ⌜ Only 6176 8816 (now (w .entry)) (now (w .exit)) × Blank n 6 (now (w .exit)) ⌝ }
 {
-    workspace::clear_words(w, 6176, 8816);
+    let mut j: usize = 0;
+    while j < 6 {
+        let a = 6176 + 256 * j;
+        workspace::clear_words(w, a, a + n);
+        j += 1;
+    }
+}
+
+// Nothing is known or placed. Only the words of the sheet's own tasks are cleared, so that a small sheet does not pay for 256.
+pub fn clear(w: &mut [u32])
+    requires { ⌜ Loaded (now w) ⌝ }
+    ensures { λ _. ⌜ Only 6176 8816 (now (w .entry)) (now (w .exit)) × Blank (taskCount (sheetIn (now (w .entry)))) 6 (now (w .exit)) × Zero 7712 (7792 + 4 * taskCount (sheetIn (now (w .entry)))) (now (w .exit)) ⌝ }
+{
+    let n = tables::tasks(w);
+    clear_tables(w, n);
+    workspace::clear_words(w, 7712, 7792 + 4 * n);
 }
 
 // Link l into t is surveyed.

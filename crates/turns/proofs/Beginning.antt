@@ -1,5 +1,5 @@
 -- Before the first turn: the schedule emptied (w₁), what is kept beside it cleared (w₂), the links out of each task chained (w₃), links gathered (w₄).
-use Prim.Native.Nat.{ℕ, _≤_, _<_}
+use Prim.Native.Nat.{ℕ, _+_, _*_, _≤_, _<_}
 use mathlib.Core.Path.{_≡_, refl, ap, ap₂, sym, _∙_, subst}
 use mathlib.Core.Bool.{true}
 use mathlib.Core.List.{List}
@@ -23,7 +23,7 @@ use Rattle.chains.specs.declared.End.the-variants.{Source, Target}
 use Rattle.chains.proofs.Frames.{same-sheet, same-loaded}
 use Rattle.chains.proofs.Walks.{chained-frame}
 use Rattle.arrivals.specs.Kept.{Single, Caches}
-use Rattle.arrivals.specs.Steps.{Zero, GatheredTo}
+use Rattle.arrivals.specs.Steps.{Zero, Blank, GatheredTo}
 use Rattle.arrivals.proofs.Gathering.{gather-none, gathered-all}
 use Rattle.arrivals.proofs.Beginning.{counted-zero, ends-zero, closed-zero}
 use Rattle.turns.specs.Turns.{Timely, Going, Emptied, Afterwards}
@@ -39,7 +39,10 @@ module _ {w w₁ : List ℕ} (loaded : Loaded w) (levelled : Levelled (sheetIn w
   pub loaded₁ : Loaded w₁
   loaded₁ = same-loaded w w₁ loaded low₁ (e₁ .only .long)
 
-  module _ {w₂ : List ℕ} (o₂ : Only 6176 8816 w₁ w₂) (zero : Zero 6176 8816 w₂) where
+  sheet₁ : sheetIn w₁ ≡ s
+  sheet₁ = same-sheet w w₁ loaded low₁
+
+  module _ {w₂ : List ℕ} (o₂ : Only 6176 8816 w₁ w₂) (blank : Blank (taskCount (sheetIn w₁)) 6 w₂) (zero : Zero 7712 (7792 + 4 * taskCount (sheetIn w₁)) w₂) where
     low₂ : (i : ℕ) → i < 3856 → getD w₂ i 0 ≡ getD w i 0
     low₂ i h = o₂ .low i (omega arith) ∙ low₁ i h
 
@@ -51,6 +54,13 @@ module _ {w w₁ : List ℕ} (loaded : Loaded w) (levelled : Levelled (sheetIn w
 
     sheet₂ : sheetIn w₂ ≡ s
     sheet₂ = same-sheet w w₂ loaded low₂
+
+    -- what was cleared, by the tasks of the sheet
+    blank₂ : Blank (taskCount s) 6 w₂
+    blank₂ = subst (λ (x : Sheet). Blank (taskCount x) 6 w₂) sheet₁ blank
+
+    zero₂ : Zero 7712 (7792 + 4 * taskCount s) w₂
+    zero₂ = subst (λ (x : Sheet). Zero 7712 (7792 + 4 * taskCount x) w₂) sheet₁ zero
 
     module _ {w₃ : List ℕ} (o₃ : Only 4896 6176 w₂ w₃) (outward : Chained Source (sheetIn w₂) w₃) where
       low₃ : (i : ℕ) → i < 3856 → getD w₃ i 0 ≡ getD w i 0
@@ -65,11 +75,8 @@ module _ {w w₁ : List ℕ} (loaded : Loaded w) (levelled : Levelled (sheetIn w
       sheet₃ : sheetIn w₃ ≡ s
       sheet₃ = same-sheet w w₃ loaded low₃
 
-      nought₃ : (i : ℕ) → 6176 ≤ i → i < 8816 → getD w₃ i 0 ≡ 0
-      nought₃ i h l = o₃ .high i (omega arith) ∙ zero .at i h l
-
       pub gather₃ : GatheredTo (sheetIn w₃) 0 w₃
-      gather₃ = gather-none (ranged w₃ loaded₃ .few-tasks) (λ i h l. nought₃ i h (omega arith))
+      gather₃ = subst (λ (x : Sheet). GatheredTo x 0 w₃) (sym sheet₃) (gather-none blank₂ (o₃ .high))
 
       module _ {w₄ : List ℕ} (o₄ : Only 6176 6688 w₃ w₄) (gathered : GatheredTo (sheetIn w₃) (linkCount (sheetIn w₃)) w₄) where
         low₄ : (i : ℕ) → i < 3856 → getD w₄ i 0 ≡ getD w i 0
@@ -99,8 +106,8 @@ module _ {w w₁ : List ℕ} (loaded : Loaded w) (levelled : Levelled (sheetIn w
         unfolding placed
         standing₄ u e = absurd (omega (arith, empty₄ u, ltb-true (placeOf (scheduleIn w₄) u) 16 e))
 
-        nought₄ : (i : ℕ) → 6688 ≤ i → i < 8816 → getD w₄ i 0 ≡ 0
-        nought₄ i h l = o₄ .high i h ∙ nought₃ i (omega arith) l
+        high₄ : (i : ℕ) → 6688 ≤ i → getD w₄ i 0 ≡ getD w₂ i 0
+        high₄ i h = o₄ .high i h ∙ o₃ .high i (omega arith)
 
         caches₄ : Caches s (scheduleIn w₄) w₄
         caches₄ =
@@ -109,8 +116,8 @@ module _ {w w₁ : List ℕ} (loaded : Loaded w) (levelled : Levelled (sheetIn w
               outward = chained-frame (r .few-tasks) (r .few-links) (λ i h l. o₄ .low i (omega arith)) (subst (λ (x : Sheet). Chained Source x w₃) sheet₂ outward);
               inward = chained-frame (r .few-tasks) (r .few-links) (λ i h l. low₄ i (omega arith)) (levelled .inward);
               gathered = gathered-all (subst (λ (x : Sheet). GatheredTo x (linkCount x) w₄) sheet₃ gathered);
-              counted = counted-zero s (scheduleIn w₄) empty₄ (r .few-tasks) nought₄;
-              ends = ends-zero s (scheduleIn w₄) empty₄ nought₄;
+              counted = counted-zero s (scheduleIn w₄) empty₄ w₄ zero₂ high₄ blank₂;
+              ends = ends-zero s (scheduleIn w₄) empty₄ w₄ zero₂ high₄;
               closed = closed-zero s (scheduleIn w₄) empty₄;
             }
 

@@ -1,5 +1,5 @@
 -- `survey` (src/lib.rt) keeps its contract.
-use Rattle.arrivals.proofs.Gathering.{cleared}
+use Rattle.arrivals.proofs.Clearing.{cleared}
 use Rattle.arrivals.proofs.Surveys.{survey-all, survey-can}
 use borrow.Author.Needs.{needs}
 use Rattle.arrivals.proofs.survey.Statement.{statement}
