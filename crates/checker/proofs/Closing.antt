@@ -23,10 +23,10 @@ use Rattle.bundle.specs.Lies.{Laid}
 use Rattle.bundle.proofs.Lying.{lies-next, lies-none}
 use Rattle.bundle.proofs.Rounds.{read-formed}
 use Rattle.messages.specs.Messages.{at26, at27, at28, Published}
-use Rattle.messages.specs.Rules.{foundOf}
+use Rattle.words.specs.Found.{foundOf}
 use Rattle.messages.specs.Admitted.{fitting, messaging, admitted, admittedBytes, judgedOf, Known, JudgeIs}
-use Rattle.messages.specs.declared.Found.{Found}
-use Rattle.messages.specs.declared.Found.the-variants.{At, Nothing}
+use Rattle.words.specs.declared.Found.{Found}
+use Rattle.words.specs.declared.Found.the-variants.{At, Nothing}
 use Rattle.messages.specs.declared.Judged.{Judged}
 use Rattle.messages.specs.declared.Judged.the-variants.{Fit, Refused as Unfit}
 use Rattle.messages.proofs.Walking.{drop-short}

@@ -9,9 +9,9 @@ use Rattle.sheet.specs.Tables.{sheetIn}
 use Rattle.bundle.specs.Bundle.{Bundle}
 use Rattle.bundle.specs.Format.{readBundle}
 use Rattle.messages.specs.Fields.{Fields}
-use Rattle.messages.specs.Rules.{foundOf}
+use Rattle.words.specs.Found.{foundOf}
 use Rattle.messages.specs.Admitted.{Known}
-use Rattle.messages.specs.declared.Found.{Found}
+use Rattle.words.specs.declared.Found.{Found}
 use Rattle.machine.specs.Machine.{State}
 use Rattle.machine.specs.Runs.{latest}
 use Rattle.state.specs.Keeps.{Keeps}

@@ -5,7 +5,7 @@ ghost use Rattle.sheet.specs.Tables.{Loaded};
 ghost use Rattle.checker.specs.Verdicts.{UnfinishedIs, LatestIs, FinishIs, JudgementIs, CheckIs};
 use crate::Verdict;
 use crate::settling::settle;
-use messages::Found;
+use words::Found;
 use messages::Judged;
 
 // 29: the lowest processor with commands left.

@@ -17,9 +17,10 @@ use Rattle.chains.specs.Chains.{Chained}
 use Rattle.chains.specs.declared.End.the-variants.{Target}
 use Rattle.peeling.specs.Words.{Held, Kept, Beside, inQueue, doneBy}
 use Rattle.peeling.specs.Peeling.{dueBy, levelIn, Peeled}
-use Rattle.levelling.specs.Found.{foundOf, Levelled, LevelsAre}
-use Rattle.levelling.specs.declared.Found.{Found}
-use Rattle.levelling.specs.declared.Found.the-variants.{Nothing}
+use Rattle.words.specs.Found.{foundOf}
+use Rattle.levelling.specs.Found.{Levelled, LevelsAre}
+use Rattle.words.specs.declared.Found.{Found}
+use Rattle.words.specs.declared.Found.the-variants.{Nothing}
 use Rattle.graph.proofs.Reaches.{Declared}
 use Rattle.graph.proofs.Ranks.{Ranked, Solved, ranked-none, rankOf, none-ranked, level-is}
 use Rattle.peeling.proofs.Frames.{only-kept, kept-held, kept-sheet, kept-trans, beside-held, beside-own, loaded-declared, beside-chained}

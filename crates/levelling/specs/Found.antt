@@ -1,10 +1,12 @@
 -- What the search for circles and levels gives.
 use Prim.Native.Nat.{ℕ, _+_, _<_}
 use mathlib.Core.Bool.{true}
-use mathlib.Core.Option.{Option, none, some}
+use mathlib.Core.Option.{none}
 use mathlib.Core.Path.{_≡_}
 use mathlib.Core.List.{List}
 use lib.ListN.{getD}
+use Rattle.words.specs.Found.{foundOf}
+use Rattle.words.specs.declared.Found.{Found}
 use Rattle.sheet.specs.Sheet.{Sheet, taskCount}
 use Rattle.sheet.specs.Tables.{sheetIn}
 use Rattle.graph.specs.Graph.{onCircle, circle, level}
@@ -14,13 +16,6 @@ use Rattle.peeling.specs.Words.{Kept}
 use Rattle.peeling.specs.Peeling.{Searched}
 use Rattle.levelling.specs.declared.search.Spread.{Spread}
 use Rattle.levelling.specs.declared.search.Spread.the-variants.{Back, On}
-use Rattle.levelling.specs.declared.Found.{Found}
-use Rattle.levelling.specs.declared.Found.the-variants.{At, Nothing}
-
--- the lowest task on a circle
-abbrev pub foundOf : Found → Option ℕ
-foundOf (At t) = some t
-foundOf Nothing = none
 
 -- what the search leaves where there is no circle: the level of each task, and the chains of the links into it
 pub record Levelled (s : Sheet) (w : List ℕ) : Type 0 where

@@ -4,15 +4,10 @@ ghost use Rattle.levelling.specs.Found.{LevelsAre};
 use chains::End;
 use peeling::peel;
 use sheet::tables;
+use words::Found;
 
 pub mod open;
 mod search;
-
-// The lowest task on a circle.
-pub enum Found {
-    At(usize),
-    Nothing,
-}
 
 // The lowest task on a circle (10), or, where there is none, the level of each task in the words from 2320 on.
 // Takes time in proportion to tasks and links where there is no circle.

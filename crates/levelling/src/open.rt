@@ -7,7 +7,7 @@ ghost use Rattle.sheet.specs.Writing.{valueBytes};
 ghost use Rattle.sheet.specs.Tables.{sheetIn, Loaded};
 ghost use Rattle.graph.specs.Graph.{circle, readSheet};
 ghost use Rattle.levelling.specs.Opened.{OpenIs};
-use crate::Found;
+use words::Found;
 use sheet_reader::Reading;
 use sheet_reader::values;
 

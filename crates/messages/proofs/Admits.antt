@@ -21,11 +21,12 @@ use Rattle.bundle.proofs.Rounds.{read-formed}
 use Rattle.bundle.proofs.Faults.{sheetBy, sized-by}
 use Rattle.messages.specs.Messages.{at26, at27, at28, Published}
 use Rattle.messages.specs.Notes.{NotesIs}
-use Rattle.messages.specs.Rules.{foundOf, Given, OnceIs, MessageIs}
+use Rattle.words.specs.Found.{foundOf}
+use Rattle.messages.specs.Rules.{Given, OnceIs, MessageIs}
 use Rattle.messages.specs.Stores.{OverIs}
 use Rattle.messages.specs.Admitted.{fitting, messaging, admitted, admittedBytes, judgedOf, Known, Told, StoresIs, MessagesIs, RulesIs, JudgeIs}
-use Rattle.messages.specs.declared.Found.{Found}
-use Rattle.messages.specs.declared.Found.the-variants.{At, Nothing}
+use Rattle.words.specs.declared.Found.{Found}
+use Rattle.words.specs.declared.Found.the-variants.{At, Nothing}
 use Rattle.messages.specs.declared.Judged.{Judged}
 use Rattle.messages.specs.declared.Judged.the-variants.{Fit, Refused}
 use Rattle.messages.proofs.Walking.{laid-by}

@@ -23,7 +23,7 @@ use Rattle.messages.specs.Messages.{overStore, at28}
 use Rattle.messages.specs.Fields.{Fields}
 use Rattle.messages.specs.Notes.{sizeAt}
 use Rattle.messages.specs.Stores.{runNeed, receiveNeed, needAt, NeedIs, OverIs}
-use Rattle.messages.specs.declared.Found.the-variants.{At, Nothing}
+use Rattle.words.specs.declared.Found.the-variants.{At, Nothing}
 use Rattle.messages.proofs.Weights.{weigh-take}
 use Rattle.messages.proofs.Walking.{drop-next, drop-short}
 use Rattle.messages.proofs.Noted.{stands-size}

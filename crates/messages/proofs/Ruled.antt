@@ -20,7 +20,7 @@ use Rattle.messages.specs.Counting.{whole, is}
 use Rattle.messages.specs.Messages.{notOnce, before, insideOk, acrossOk, linkOk, wrongMessage, at26, at27}
 use Rattle.messages.specs.Notes.{slotOf, sofar, Noted, never, again, once, Notes, ahead, insideBy, acrossBy}
 use Rattle.messages.specs.Rules.{Given, OnceIs, LinkIs, MessageIs}
-use Rattle.messages.specs.declared.Found.the-variants.{At, Nothing}
+use Rattle.words.specs.declared.Found.the-variants.{At, Nothing}
 use Rattle.messages.proofs.Messages.{run-once}
 use Rattle.messages.proofs.Ranks.{sofar-whole}
 use Rattle.messages.proofs.Places.{Placed, placed-home, same-programme, before-first, before-second}

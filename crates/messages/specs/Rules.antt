@@ -2,19 +2,15 @@
 use Prim.Native.Nat.{ℕ, _<_, _≤_}
 use mathlib.Core.Path.{_≡_}
 use mathlib.Core.Bool.{Bool, not}
-use mathlib.Core.Option.{Option, none, some}
+use mathlib.Core.Option.{none}
 use mathlib.Core.List.{List}
+use Rattle.words.specs.Found.{foundOf}
+use Rattle.words.specs.declared.Found.{Found}
 use Rattle.sheet.specs.Sheet.{Sheet, taskCount, linkCount, sourceOf, targetOf}
 use Rattle.bundle.specs.Bundle.{Bundle, programmeCount}
 use Rattle.messages.specs.Messages.{wrongMessage, at26, at27}
 use Rattle.messages.specs.Fields.{Fields}
 use Rattle.messages.specs.Notes.{Notes}
-use Rattle.messages.specs.declared.Found.{Found}
-use Rattle.messages.specs.declared.Found.the-variants.{At, Nothing}
-
-abbrev pub foundOf : Found → Option ℕ
-foundOf (At i) = some i
-foundOf Nothing = none
 
 -- a sheet in these bytes, with links between its tasks; and notes of a whole bundle
 pub record Given (s : Sheet) (b : Bundle) (sheet w : List ℕ) : Type 0 where

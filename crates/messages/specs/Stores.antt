@@ -12,8 +12,8 @@ use Rattle.bundle.specs.Lies.{Laid}
 use Rattle.messages.specs.Counting.{wholeOf, need}
 use Rattle.messages.specs.Messages.{at28}
 use Rattle.messages.specs.Fields.{Fields}
-use Rattle.messages.specs.Rules.{foundOf}
-use Rattle.messages.specs.declared.Found.{Found}
+use Rattle.words.specs.Found.{foundOf}
+use Rattle.words.specs.declared.Found.{Found}
 
 -- what the command at an offset adds to the store in use, behind n tasks: a run, a receive, any
 unfoldable pub runNeed : List ℕ → List ℕ → ℕ → ℕ

@@ -3,7 +3,7 @@ ghost use mathlib.Core.Path.{_≡_};
 ghost use Prim.Native.Nat.{_≤_, _<_};
 ghost use lib.ListN.{length};
 ghost use Rattle.messages.specs.Admitted.{StoresIs, MessagesIs, RulesIs, JudgeIs};
-use crate::Found;
+use words::Found;
 use crate::Judged;
 use crate::notes::note_all;
 use crate::rules::not_once;

@@ -4,12 +4,6 @@ pub mod rules; // rules.rt: 26 and 27 by the notes
 pub mod stores; // stores.rt: 28 along the programmes' bytes
 pub mod judge; // judge.rt: 21 to 28 of any bytes
 
-// A number that was found, or none.
-pub enum Found {
-    At(usize),
-    Nothing,
-}
-
 // A bundle of so many programmes and commands, with its claim, that passes 21 to 28; or a refusal's number and place.
 pub enum Judged {
     Fit(usize, usize, usize),

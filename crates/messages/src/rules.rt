@@ -4,7 +4,7 @@ ghost use Prim.Native.Nat.{_+_, _≤_, _<_};
 ghost use lib.ListN.{length};
 ghost use Rattle.messages.specs.Notes.{ahead, insideBy, acrossBy};
 ghost use Rattle.messages.specs.Rules.{OnceIs, LinkIs, MessageIs};
-use crate::Found;
+use words::Found;
 
 // 26: the lowest of n tasks that does not run just once.
 pub fn not_once(w: &[u32], n: usize) -> Found

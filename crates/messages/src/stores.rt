@@ -4,7 +4,7 @@ ghost use Prim.Native.Nat.{_<_};
 ghost use lib.Dec.{eqb};
 ghost use Rattle.folds.specs.Folds.{pick};
 ghost use Rattle.messages.specs.Stores.{runNeed, receiveNeed, NeedIs, OverIs};
-use crate::Found;
+use words::Found;
 
 // What the run at `at` adds to the store in use.
 fn run_need(sheet: &[u8], bundle: &[u8], at: usize) -> usize

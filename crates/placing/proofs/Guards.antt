@@ -20,9 +20,9 @@ use Rattle.planner.specs.Schedule.{Schedule, placed, stands, placeOf}
 use Rattle.planner.specs.Placing.{arrival, priority, firstPartlyReady, endOf, startFrom, startOn, startWith, startAt, holdsBy, holdsPredecessor, bestStart, endsWith, delays, barredFor, barred}
 use Rattle.schedule.specs.Layout.{scheduleIn}
 use Rattle.arrivals.specs.Kept.{countedBy, intoFrom, reachBy, known, Kept}
-use Rattle.readiness.specs.Found.{foundOf}
-use Rattle.readiness.specs.declared.Found.{Found}
-use Rattle.readiness.specs.declared.Found.the-variants.{At, Nothing}
+use Rattle.words.specs.Found.{foundOf}
+use Rattle.words.specs.declared.Found.{Found}
+use Rattle.words.specs.declared.Found.the-variants.{At, Nothing}
 use Rattle.readiness.proofs.Counts.{arrival-kept}
 use Rattle.placing.specs.Guards.{BarsFor, Bars}
 use Rattle.placing.proofs.Starts.{start-kept}

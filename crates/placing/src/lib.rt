@@ -14,13 +14,13 @@ ghost use Rattle.planner.specs.Placing.{arrival, endOf, startFrom, startOn, fit
 ghost use Rattle.planner.specs.Planner.{join, idle, another, lastResort, choice};
 ghost use Rattle.schedule.specs.Layout.{scheduleIn};
 ghost use Rattle.arrivals.specs.Kept.{Kept};
-ghost use Rattle.readiness.specs.Found.{foundOf, Below};
+ghost use Rattle.words.specs.Found.{foundOf, Below};
 ghost use Rattle.readiness.specs.Keyed.{Keyed};
 ghost use Rattle.placing.specs.Choosing.{Choosing, knownInto, dueBy, OnBoard};
 ghost use Rattle.placing.specs.Ranks.{lowKey, highKey, processorOf, joinKey, idleKey, mayBeIdle};
 ghost use Rattle.placing.specs.Guards.{BarsFor, Bars};
 use chains::End;
-use readiness::Found;
+use words::Found;
 use sheet::tables;
 
 // When k is done with its tasks.

@@ -21,9 +21,9 @@ use Rattle.graph.specs.Graph.{levelBy, levelWithin, level}
 use Rattle.planner.specs.Schedule.{Schedule, finishOf}
 use Rattle.planner.specs.Placing.{comes, ready, partlyReady, arrivalBy, arrival, priority, ahead, firstReady, firstPartlyReady}
 use Rattle.planner.proofs.Choosing.{leading-some}
-use Rattle.readiness.specs.Found.{foundOf, Below}
-use Rattle.readiness.specs.declared.Found.{Found}
-use Rattle.readiness.specs.declared.Found.the-variants.{At, Nothing}
+use Rattle.words.specs.Found.{foundOf, Below}
+use Rattle.words.specs.declared.Found.{Found}
+use Rattle.words.specs.declared.Found.the-variants.{At, Nothing}
 use Rattle.readiness.specs.Keyed.{keyOf, readyKey, partlyKey, taskOf, Early, Keyed}
 
 pub task-of-more : (x : ℕ) → 0 < x → taskOf x ≡ some (255 - x % 256)

@@ -1,5 +1,4 @@
 -- The laws of `readiness`.
-pub mod Searches
 pub mod Counts
 pub mod Keys
 pub mod Renewing

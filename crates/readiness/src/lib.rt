@@ -4,6 +4,7 @@ ghost use Prim.Native.Nat.{_+_, _<_};
 ghost use lib.ListN.{replicate};
 ghost use Rattle.folds.specs.Folds.{pick};
 ghost use Rattle.keys.specs.Keys.{Blocked};
+ghost use Rattle.words.specs.Found.{foundOf, Below};
 ghost use Rattle.sheet.specs.Sheet.{taskCount};
 ghost use Rattle.sheet.specs.Tables.{sheetIn};
 ghost use Rattle.planner.specs.Schedule.{placed};
@@ -11,15 +12,10 @@ ghost use Rattle.planner.specs.Placing.{ready, partlyReady, arrival, priority, 
 ghost use Rattle.levelling.specs.Found.{Levelled};
 ghost use Rattle.schedule.specs.Layout.{scheduleIn};
 ghost use Rattle.arrivals.specs.Kept.{Kept};
-ghost use Rattle.readiness.specs.Found.{foundOf, Below};
 ghost use Rattle.readiness.specs.Keyed.{keyOf, taskOf, Early, Renewed, Keyed, KeyedPast, KeyedBeside};
 use chains::End;
 use sheet::tables;
-
-pub enum Found {
-    At(usize),
-    Nothing,
-}
+use words::Found;
 
 fn is_placed(w: &[u32], t: usize) -> bool
     requires { ⌜ Kept (now w) ⌝ }

@@ -12,7 +12,7 @@ ghost use Rattle.arrivals.specs.Kept.{Single, Surveyed};
 ghost use Rattle.readiness.specs.Keyed.{Keyed};
 ghost use Rattle.turns.specs.Turns.{answerOf, Going, Cleared, Emptied, Afterwards};
 use chains::End;
-use readiness::Found;
+use words::Found;
 use sheet::tables;
 
 // Done, or refused for want of store (11) at a task.

@@ -4,6 +4,12 @@ ghost use Prim.Native.Nat.{_-_, _%_, _<_, max, min};
 ghost use lib.ListN.{getD, set};
 ghost use Rattle.numbers.specs.Number.{numberAt};
 
+// A number that a search found, or none.
+pub enum Found {
+    At(usize),
+    Nothing,
+}
+
 // The byte at i.
 pub fn byte(b: &[u8], i: usize) -> usize
     ensures { λ r. ⌜ (r ≡ getD (now (b .entry)) i 0) × (r < 256) ⌝ }

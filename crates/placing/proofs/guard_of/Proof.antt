@@ -1,5 +1,5 @@
 -- `guard_of` (src/lib.rt) keeps its contract.
-use Rattle.readiness.proofs.Searches.{below-at}
+use Rattle.words.proofs.Searches.{below-at}
 use Rattle.placing.proofs.Guards.{guard-ahead, guard-behind, guard-none}
 use borrow.Author.Needs.{needs}
 use Rattle.placing.proofs.guard_of.Statement.{statement}

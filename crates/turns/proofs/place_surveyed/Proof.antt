@@ -1,9 +1,9 @@
 -- `place_surveyed` (src/lib.rt) keeps its contract.
 use mathlib.Core.Path.{_∙_, ap, sym}
 use native.Mathlib.Omega.{arith}
-use Rattle.readiness.proofs.Searches.{below-at}
+use Rattle.words.proofs.Searches.{below-at}
 use Rattle.turns.proofs.Going.{choosing, later-turns}
-use Rattle.readiness.specs.Found.{foundOf}
+use Rattle.words.specs.Found.{foundOf}
 use borrow.Author.Needs.{needs}
 use Rattle.turns.proofs.Turns.{place-done, place-refused}
 use Rattle.turns.proofs.place_surveyed.Statement.{statement}

@@ -1,8 +1,8 @@
 -- What a search answers, as an option.
 use Prim.Native.Nat.{ℕ, _<_}
 use mathlib.Core.Option.{Option, none, some}
-use Rattle.readiness.specs.declared.Found.{Found}
-use Rattle.readiness.specs.declared.Found.the-variants.{At, Nothing}
+use Rattle.words.specs.declared.Found.{Found}
+use Rattle.words.specs.declared.Found.the-variants.{At, Nothing}
 
 abbrev pub foundOf : Found → Option ℕ
 foundOf (At i) = some i

@@ -1,0 +1,2 @@
+-- The definitions of `words`.
+pub mod Found
