@@ -5,8 +5,8 @@ ghost use Rattle.sheet.specs.Tables.{Loaded};
 ghost use Rattle.checker.specs.Verdicts.{UnfinishedIs, LatestIs, FinishIs, JudgementIs, CheckIs};
 use crate::Verdict;
 use crate::settling::settle;
-use words::Found;
 use messages::Judged;
+use words::Found;
 
 // 29: the lowest processor with commands left.
 fn unfinished(w: &[u32]) -> Found

@@ -11,10 +11,10 @@ ghost use Rattle.peeling.specs.Words.{Held, Beside, Queued};
 ghost use Rattle.peeling.specs.Peeling.{Emptied, Noted, Searched, Spreading};
 ghost use Rattle.words.specs.Found.{foundOf};
 ghost use Rattle.levelling.specs.Found.{SpreadIs};
-use words::Found;
 use chains::End;
 use peeling::queue;
 use sheet::tables;
+use words::Found;
 
 // A circle through the goal was closed, or the queue has so many tasks.
 pub enum Spread {

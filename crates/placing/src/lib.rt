@@ -20,8 +20,8 @@ ghost use Rattle.placing.specs.Choosing.{Choosing, knownInto, dueBy, OnB
 ghost use Rattle.placing.specs.Ranks.{lowKey, highKey, processorOf, joinKey, idleKey, mayBeIdle};
 ghost use Rattle.placing.specs.Guards.{BarsFor, Bars};
 use chains::End;
-use words::Found;
 use sheet::tables;
+use words::Found;
 
 // When k is done with its tasks.
 fn end_of(w: &[u32], k: usize) -> usize

@@ -12,8 +12,8 @@ ghost use Rattle.arrivals.specs.Kept.{Single, Surveyed};
 ghost use Rattle.readiness.specs.Keyed.{Keyed};
 ghost use Rattle.turns.specs.Turns.{answerOf, Going, Cleared, Emptied, Afterwards};
 use chains::End;
-use words::Found;
 use sheet::tables;
+use words::Found;
 
 // Done, or refused for want of store (11) at a task.
 pub enum Planned {
