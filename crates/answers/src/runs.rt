@@ -1,6 +1,6 @@
 // The machine's side of the interface, behind the test of the areas.
 ghost use mathlib.Core.Path.{_≡_};
-ghost use Prim.Native.Nat.{_%_, _≤_};
+ghost use Prim.Native.Nat.{_≤_};
 ghost use lib.ListN.{length};
 ghost use Rattle.folds.specs.Folds.{bit};
 ghost use Rattle.workspace.specs.Area.{fixed};
@@ -50,18 +50,12 @@ pub fn counted(b: bool) -> u64
     0
 }
 
-fn narrow(x: usize) -> u32
-    ensures { λ r. ⌜ r ≡ x % 4294967296 ⌝ }
-{
-    (x % 4294967296) as u32
-}
-
 // Clock, position and store in use of processor k.
 pub fn numbers(state: &[u32], k: usize, processor: &mut [u32; 3])
     ensures { λ _. ⌜ NumbersIs (now (state .entry)) k (now (processor .exit)) ⌝ }
 {
-    let clock = narrow(state::clock(state, k));
-    let position = narrow(state::position(state, k));
-    let store = narrow(state::store(state, k));
+    let clock = words::narrow(state::clock(state, k));
+    let position = words::narrow(state::position(state, k));
+    let store = words::narrow(state::store(state, k));
     *processor = [clock, position, store];
 }

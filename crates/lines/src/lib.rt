@@ -1,5 +1,4 @@
 // The listing of a sheet's schedule, or of the refusal.
-ghost use mathlib.Core.Path.{_≡_};
 ghost use Prim.Native.Nat.{_≤_};
 ghost use lib.ListN.{length};
 ghost use Rattle.workspace.specs.Area.{fixed};
@@ -21,12 +20,6 @@ mod rows;
 pub enum Listed {
     Long(usize),
     Short(usize),
-}
-
-fn wide(x: u8) -> usize
-    ensures { λ r. ⌜ r ≡ x ⌝ }
-{
-    x as usize
 }
 
 // The listing of a refusal.
@@ -87,7 +80,7 @@ pub fn list(sheet: &[u8], work: &mut [u32], out: &mut [u8]) -> Listed
     ensures { λ r. ⌜ ListIs (now (sheet .entry)) (now (work .entry)) (now (work .exit)) (now (out .entry)) (now (out .exit)) r ⌝ }
 {
     match open::read(sheet, work) {
-        Reading::Refused(r, at) => list_refusal(wide(r), at, out),
+        Reading::Refused(r, at) => list_refusal(numbers::wide(r), at, out),
         Reading::Read => list_planned(work, out),
     }
 }

@@ -1,21 +1,14 @@
 // 21 to 28: reads any bytes as a bundle and tries its tasks, messages and stores. The sheet is given by its counts, its limit and its bytes.
-ghost use mathlib.Core.Path.{_≡_};
 ghost use Prim.Native.Nat.{_≤_, _<_};
 ghost use lib.ListN.{length};
 ghost use Rattle.messages.specs.Admitted.{StoresIs, MessagesIs, RulesIs, JudgeIs};
-use words::Found;
 use crate::Judged;
 use crate::notes::note_all;
 use crate::rules::not_once;
 use crate::rules::wrong_message;
 use crate::stores::over_store;
 use bundle_reader::bytes::Reading;
-
-fn wide(x: u32) -> usize
-    ensures { λ r. ⌜ r ≡ x ⌝ }
-{
-    x as usize
-}
+use words::Found;
 
 // 28, or the bundle fits. A limit that holds 65,535 for each task and each end of a link is never exceeded.
 fn stores(
@@ -99,6 +92,8 @@ pub fn judge(
 {
     match bundle_reader::bytes::read(bundle, p, n, l, w) {
         Reading::Refused(r, at) => Judged::Refused(r, at),
-        Reading::Read(m, c, claim) => { rules(sheet, bundle, w, n, l, limit, m, c, wide(claim)) }
+        Reading::Read(m, c, claim) => {
+            rules(sheet, bundle, w, n, l, limit, m, c, workspace::wide(claim))
+        }
     }
 }

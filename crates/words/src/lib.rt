@@ -40,7 +40,8 @@ pub fn word(w: &[u32], i: usize) -> usize
     0
 }
 
-fn narrow(x: usize) -> u32
+// The low 32 bits of x.
+pub fn narrow(x: usize) -> u32
     ensures { λ r. ⌜ r ≡ x % 4294967296 ⌝ }
 {
     (x % 4294967296) as u32

@@ -14,7 +14,7 @@ list-planned-requires c κs =
     (open-loaded h q, (open-levelled h q, (open-single b h q, open-stands b h q)))
 
 returns : tie.Need-returns
-returns c = list-refused (now (c .before .before .before .before .before .before .before .before .before .before .before .before .before .before .before .args .sheet)) (c .before .before .before .before .before .before .before .before .before .before .read .ensures) _ _ _ (c .before .before .before .before .before .before .r .given .1) (c .before .before .before .before .wide .ensures) (c .before .before .list-refusal .ensures)
+returns c = list-refused (now (c .before .before .before .before .before .before .before .before .before .before .before .before .before .before .before .args .sheet)) (c .before .before .before .before .before .before .before .before .before .before .read .ensures) _ _ _ (c .before .before .before .before .before .before .r .given .1) (c .before .before .before .before .wide .ensures .0) (c .before .before .list-refusal .ensures)
 
 returns-2 : tie.Need-returns-2
 returns-2 c = list-read (now (c .before .before .before .before .before .before .before .before .before .before .before .before .before .before .before .before .args .sheet)) (c .before .before .before .before .before .before .before .before .before .before .before .read .ensures) (c .before .before .before .before .before .before .before .enum-told .given .1) _ (c .before .before .before .before .list-planned .kept .0) (c .before .before .before .before .list-planned .ensures)

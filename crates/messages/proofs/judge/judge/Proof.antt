@@ -12,7 +12,7 @@ returns : tie.Need-returns
 returns c = judge-refused _ _ _ _ _ _ _ _ _ (c .before .before .before .before .before .read .ensures) _ _ (c .before .r .given .1)
 
 returns-2 : tie.Need-returns-2
-returns-2 c = judge-rules _ _ _ _ _ _ _ _ _ (c .before .before .before .before .before .before .before .before .before .before .read .ensures) _ _ _ _ _ _ (λ i. omega (arith, c .before .before .before .before .before .before .before .before .before .before .before .before .before .shared-slice-known2 .given i)) (c .before .before .before .before .before .before .m .given .1) (c .before .before .before .wide .ensures) (c .before .before .rules .ensures)
+returns-2 c = judge-rules _ _ _ _ _ _ _ _ _ (c .before .before .before .before .before .before .before .before .before .before .read .ensures) _ _ _ _ _ _ (λ i. omega (arith, c .before .before .before .before .before .before .before .before .before .before .before .before .before .shared-slice-known2 .given i)) (c .before .before .before .before .before .before .m .given .1) (c .before .before .before .wide .ensures .0) (c .before .before .rules .ensures)
 
 pub judge-spec : {M : Type 1} → statement M
 judge-spec =
