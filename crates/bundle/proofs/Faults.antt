@@ -1,6 +1,6 @@
 -- What refuses each kind of command by the bytes at its offset, and that the counts of a sheet decide it.
 use Prim.Native.Nat.{ℕ, _+_, _-_, _<_}
-use mathlib.Core.Path.{_≡_, refl, sym, ap, _∙_}
+use mathlib.Core.Path.{_≡_, refl, ap, _∙_}
 use mathlib.Core.Bool.{Bool, true, false, not}
 use mathlib.Core.Option.{Option, none, some}
 use mathlib.Core.Logic.{_⊎_, inl, inr}
@@ -14,13 +14,13 @@ use Rattle.folds.specs.Folds.{either, firstOf}
 use Rattle.folds.proofs.Tests.{either-none}
 use Rattle.numbers.specs.Number.{numberAt}
 use Rattle.numbers.proofs.Laws.{numberAt-drop}
-use Rattle.commands.specs.Commands.{refuse, go, verdict, judgeKind, judge}
+use Rattle.commands.specs.Commands.{verdict, judgeKind, judge}
 use Rattle.commands.proofs.Going.{judge-at}
 use Rattle.sheet.specs.Sheet.{Sheet, noTask, noLink, taskCount, linkCount}
 use Rattle.bundle.specs.Bundle.{Command}
 use Rattle.bundle.specs.Format.{Kind, opening, running, sending, receiving, claiming, kindOf, fault, bundleFormat}
 use Rattle.bundle.specs.Counts.{Sized, faultBelow, limitOf, countFormat}
-use Rattle.bundle.specs.Kinds.{numbered, isMessage}
+use Rattle.bundle.specs.Kinds.{isMessage}
 
 module _ (m n : ℕ) (b : List ℕ) (at : ℕ) where
   pub fault-open : faultBelow m n opening (drop (at + 1) b) ≡ firstOf ((ltb (length b - (at + 1)) 1, 21) ∷ (either (not (eqb (getD b (at + 1) 0) n)) (leb m (getD b (at + 1) 0)), 23) ∷ [])
@@ -58,16 +58,6 @@ unfolding isMessage
 strange-kind c m r o k =
     let f = either-none (eqb c 0x53) (eqb c 0x56) m in
     simp (ne-eqb _ _ o, ne-eqb _ _ r, f .0, f .1, ne-eqb _ _ k)
-
--- what a fault's number makes of a command of a kind
-module _ (p t l : ℕ) (k : Kind) (r : ℕ) where
-  pub verdict-clear : (o : Option ℕ) → numbered r ≡ o → r ≡ 0 → verdict (countFormat p t l) k o ≡ go k
-  verdict-clear o h e = ap (verdict (countFormat p t l) k) (sym h ∙ ap numbered e)
-
-  pub verdict-refused : (o : Option ℕ) → numbered r ≡ o → (r ≡ 0 → ⊥) → verdict (countFormat p t l) k o ≡ refuse r
-  verdict-refused o h e =
-      let q : numbered r ≡ some r = rw (ne-eqb r 0 e) in
-      ap (verdict (countFormat p t l) k) (sym h ∙ q)
 
 -- the command at an offset, by the kind of its first byte
 module _ (p t l n : ℕ) (b : List ℕ) (at : ℕ) (more : at < length b) where

@@ -16,7 +16,7 @@ use Rattle.folds.specs.Answers.{value, refused}
 use Rattle.folds.proofs.Tests.{not-value}
 use Rattle.numbers.specs.Number.{numberAt}
 use Rattle.numbers.proofs.Laws.{numberAt-drop}
-use Rattle.commands.specs.Commands.{Outcome, refuse, go, verdict, judgeKind, judge}
+use Rattle.commands.specs.Commands.{Outcome, refuse, go, numbered, verdict, judgeKind, judge}
 use Rattle.commands.specs.Reading.{Going}
 use Rattle.commands.proofs.Going.{comes, starts, goes, refuses, ends}
 use Rattle.sheet.specs.Sheet.{Sheet}
@@ -24,7 +24,7 @@ use Rattle.bundle.specs.Bundle.{Command, run, send, receive, Bundle, programmeC
 use Rattle.bundle.specs.Format.{Kind, opening, running, sending, receiving, claiming, kindOf, width, within, after, closes, ended, bundleFormat, readBundle}
 use Rattle.bundle.specs.Counts.{Sized, faultBelow, limitOf, countFormat, commandsIn, commandCount}
 use Rattle.bundle.specs.Lies.{sizeOf, Stands, Laid}
-use Rattle.bundle.specs.Kinds.{numbered, isMessage}
+use Rattle.bundle.specs.Kinds.{isMessage}
 use Rattle.bundle_reader.specs.Answers.{readingOf, closedOf, kindNext, nextOf, judgedOf}
 use Rattle.bundle_reader.specs.ReadIs.{ReadIs}
 use Rattle.bundle_reader.specs.declared.bytes.Next.{Next}

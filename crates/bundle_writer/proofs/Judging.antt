@@ -15,20 +15,21 @@ use Rattle.folds.specs.Folds.{pick, both}
 use Rattle.folds.specs.Answers.{refused}
 use Rattle.numbers.specs.Number.{numberBytes}
 use Rattle.numbers.proofs.Laws.{number-of-bytes}
-use Rattle.commands.specs.Commands.{Outcome, refuse, go, verdict, judgeKind, judge}
+use Rattle.commands.specs.Commands.{Outcome, refuse, go, numbered, verdict, judgeKind, judge}
 use Rattle.commands.specs.Reading.{Going}
 use Rattle.commands.proofs.Going.{comes, starts, goes, refuses, ends}
+use Rattle.commands.proofs.Numbered.{numbered-some, numbered-none}
 use Rattle.sheet.specs.Sheet.{Sheet}
 use Rattle.bundle.specs.Bundle.{Command}
 use Rattle.bundle.specs.Format.{Kind, opening, running, sending, receiving, claiming, kindOf, width, inside, after, closes, ended, bundleFormat, readBundle}
 use Rattle.bundle.specs.Writing.{claimBytes, operandBytes, valueBytes}
 use Rattle.bundle.specs.Counts.{Sized, faultBelow, limitOf, countFormat}
-use Rattle.bundle.specs.Kinds.{numbered, isMessage}
+use Rattle.bundle.specs.Kinds.{isMessage}
 use Rattle.bundle_writer.specs.Writes.{judgedOf, RefusalIs, knownFault, openFault, cutKind, cutNumber}
 use Rattle.bundle_writer.specs.declared.writer.Judged.the-variants.{Long, Refused}
 use Rattle.bundle.proofs.Steps.{on-claim}
 use Rattle.bundle.proofs.Parts.{drop-operand, length-within}
-use Rattle.bundle.proofs.Faults.{judge-sized, message-kind, strange-kind, verdict-clear, verdict-refused}
+use Rattle.bundle.proofs.Faults.{judge-sized, message-kind, strange-kind}
 
 -- the faults of commands whose operands are there
 module _ (m n x : ℕ) (b : List ℕ) where
@@ -237,13 +238,13 @@ module _ {vs : List ℕ} {p t l n at i : ℕ} (g : Judges vs p t l n at i) (more
         place = omega arith;
         near = omega (arith, g .near, width-most k c);
         few = omega (arith, g .few, opened-most n k);
-        each = λ s q claim m. judging-on q (g .each s q claim m) k c more (judged-kind k e (numbered r) h claim ∙ verdict-clear p t l k r (numbered r) refl z);
+        each = λ s q claim m. judging-on q (g .each s q claim m) k c more (judged-kind k e (numbered r) h claim ∙ ap (verdict (countFormat p t l) k) (numbered-none r (numbered r) refl z));
       }
 
   refused-kind : (k : Kind) → kindOf (getD vs i 0) ≡ some k → (r : ℕ) → (r ≡ 0 → ⊥)
       → ((b : List ℕ) → numbered r ≡ faultBelow (limitOf p t l k) n k (operandBytes (some k) (getD vs (i + 1) 0) ++ b)) → RefusalIs vs p t l (Refused r at)
   refused-kind k e r z h =
-      record { answer = λ s q claim m. judging-refused q (g .each s q claim m) r (judged-kind k e (numbered r) h claim ∙ verdict-refused p t l k r (numbered r) refl z) }
+      record { answer = λ s q claim m. judging-refused q (g .each s q claim m) r (judged-kind k e (numbered r) h claim ∙ ap (verdict (countFormat p t l) k) (numbered-some r (numbered r) refl z)) }
 
   pub judges-message : getD vs (i + 1) 0 < 65536 → isMessage (getD vs i 0) ≡ true → (r : ℕ) → numbered r ≡ knownFault l n (getD vs (i + 1) 0) → r ≡ 0 → Judges vs p t l n (at + 3) (i + 2)
   judges-message s e r h z =

@@ -6,7 +6,7 @@ ghost use lib.ListN.{length, drop};
 ghost use lib.Dec.{eqb};
 ghost use Rattle.folds.specs.Folds.{pick};
 ghost use Rattle.bundle.specs.Writing.{valueBytes};
-ghost use Rattle.bundle.specs.Kinds.{numbered};
+ghost use Rattle.commands.specs.Commands.{numbered};
 ghost use Rattle.bundle_writer.specs.Writes.{Counted, WriteIs, RefusalIs, knownFault, openFault, cutNumber, Writable, PutIs};
 use bundle::kinds::is_message;
 

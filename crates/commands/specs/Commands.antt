@@ -4,6 +4,8 @@ use mathlib.Core.Bool.{Bool, true, false}
 use mathlib.Core.Option.{Option, none, some}
 use mathlib.Core.List.{List, [], _∷_}
 use lib.ListN.{length, drop}
+use lib.Dec.{eqb}
+use Rattle.folds.specs.Folds.{pick}
 use Rattle.folds.specs.Answers.{Answer, refused}
 
 -- P is how far reading has come, K the kinds of command, A what is read
@@ -25,6 +27,10 @@ pub record Format (P K A : Type 0) : Type 0 where
 pub data Outcome (K : Type 0) : Type 0 where
   refuse : ℕ → Outcome K
   go : K → Outcome K
+
+-- the number of a fault as code tells it: 0 for none
+abbrev pub numbered : ℕ → Option ℕ
+numbered r = pick (eqb r 0) none (some r)
 
 module _ {P K A : Type 0} (F : Format P K A) where
   abbrev pub verdict : K → Option ℕ → Outcome K

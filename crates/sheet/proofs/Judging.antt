@@ -19,16 +19,9 @@ use Rattle.commands.specs.Commands.{refuse, go, judge, judgeKind}
 use Rattle.commands.proofs.Going.{judge-at, comes}
 use Rattle.sheet.specs.Sheet.{Sheet, taskCount, linkCount}
 use Rattle.sheet.specs.Format.{Kind, board, task, link, end, kindOf, width, Progress, fresh, inTurn, full, outOfRange, loose, doubled, fault, sheetFormat}
-use Rattle.sheet.specs.Faults.{begun, taskFault, linkFault, numbered}
+use Rattle.sheet.specs.Faults.{begun, taskFault, linkFault}
 use Rattle.sheet.specs.Tables.{sheetIn, pairIn, Filling}
 use Rattle.sheet.proofs.Rows.{tasks-in, links-in}
-
--- a fault's number, where there is one and where there is none
-pub numbered-some : (r : ℕ) (o : Option ℕ) → numbered r ≡ o → r ≢ 0 → o ≡ some r
-numbered-some r o e h = sym e ∙ simp (ne-eqb r 0 h)
-
-pub numbered-none : (r : ℕ) (o : Option ℕ) → numbered r ≡ o → r ≡ 0 → o ≡ none
-numbered-none r o e h = sym e ∙ simp (eq-eqb r 0 h)
 
 -- a command whose first byte is known
 pub judge-known : (p : Progress) (b : List ℕ) (at v : ℕ) → at < length b → getD b at 0 ≡ v → judge sheetFormat p (drop at b) ≡ judgeKind sheetFormat p (kindOf v) (drop (at + 1) b)

@@ -1,6 +1,7 @@
 -- `link_at` (src/bytes.rt) keeps its contract.
 use Rattle.commands.specs.Commands.{verdict}
-use Rattle.sheet.proofs.Judging.{link-cut, link-numbers, numbered-none, numbered-some}
+use Rattle.commands.proofs.Numbered.{numbered-none, numbered-some}
+use Rattle.sheet.proofs.Judging.{link-cut, link-numbers}
 use Rattle.sheet.specs.Format.{link, sheetFormat}
 use borrow.Author.Needs.{needs}
 use denote.Ref.{now}

@@ -1,6 +1,7 @@
 -- `task_at` (src/bytes.rt) keeps its contract.
 use Rattle.commands.specs.Commands.{verdict}
-use Rattle.sheet.proofs.Judging.{numbered-none, numbered-some, task-cut, task-numbers, task-turn}
+use Rattle.commands.proofs.Numbered.{numbered-none, numbered-some}
+use Rattle.sheet.proofs.Judging.{task-cut, task-numbers, task-turn}
 use Rattle.sheet.specs.Format.{sheetFormat, task}
 use borrow.Author.Needs.{needs}
 use denote.Ref.{now}

@@ -2,7 +2,7 @@
 use Prim.Native.Nat.{_*_, _+_, _-_, _/_, _≤_, ℕ}
 use Rattle.folds.proofs.Lists.{rest}
 use Rattle.sheet_reader.proofs.Given.{link-fits, linkTail, links-closed, links-start, refuse-link, scan-at, take-link}
-use Rattle.sheet.proofs.Judging.{numbered-none, numbered-some}
+use Rattle.commands.proofs.Numbered.{numbered-none, numbered-some}
 use Rattle.sheet_reader.specs.Scanning.{Scanning, readOn}
 use Rattle.sheet.specs.Tables.{Filling}
 use Rattle.sheet.specs.Writing.{linkBytes, linkValue, linkValueBytes}

@@ -2,7 +2,7 @@
 use Prim.Native.Nat.{_*_, _+_, _-_, _/_, _≤_, ℕ}
 use Rattle.folds.proofs.Lists.{rest}
 use Rattle.sheet_reader.proofs.Given.{read-as, refuse-task, scan-at, take-task, task-fits, taskTail, tasks-cut, tasks-done, tasks-start}
-use Rattle.sheet.proofs.Judging.{numbered-none, numbered-some}
+use Rattle.commands.proofs.Numbered.{numbered-none, numbered-some}
 use Rattle.sheet_reader.proofs.Scans.{read-through, scan-blank}
 use Rattle.sheet_reader.specs.Scanning.{Scanning, readOn}
 use Rattle.sheet.specs.Writing.{taskBytes, taskValue, taskValueBytes}
