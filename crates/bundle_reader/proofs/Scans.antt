@@ -6,14 +6,12 @@ use mathlib.Core.Option.{Option, none, some}
 use mathlib.Core.Logic.{⊎-elim}
 use mathlib.Core.List.{List, [], _∷_, _++_}
 use native.Mathlib.Omega.{arith}
-use borrow.Author.Tests.{lt-ltb, le-ltb}
 use lib.ListN.{length, getD, drop, set, length-set, length-drop, length-append}
 use lib.Seq.{getD-drop, drop-drop, getD-set-other}
 use lib.Dec.{eqb, ltb}
-use native.Mathlib.Decide.{decLt}
 use Rattle.folds.specs.Folds.{pick}
 use Rattle.folds.specs.Answers.{value, refused}
-use Rattle.folds.proofs.Tests.{not-value}
+use Rattle.folds.proofs.Tests.{ltb-same, not-value}
 use Rattle.numbers.specs.Number.{numberAt}
 use Rattle.numbers.proofs.Laws.{numberAt-drop}
 use Rattle.commands.specs.Commands.{Outcome, refuse, go, numbered, verdict, judgeKind, judge}
@@ -115,13 +113,6 @@ module _ {s : Sheet} {p t l : ℕ} (z : Sized s p t l) (ps : List (List Command)
       (f .0, (byte-here receiving j, number-here 2, omega (arith, f .2, z .links), room-here receiving j))
   stands-here claiming e j = absurd (false≢true e)
 
-same-test : (a b c d k : ℕ) → a ≡ c + k → d + k ≡ b → ltb a b ≡ ltb c d
-same-test a b c d k e f =
-    elim (decLt c d) [
-      | yes h ↦ lt-ltb a b (omega arith) ∙ sym (lt-ltb c d h)
-      | no h ↦ le-ltb a b (omega arith) ∙ sym (le-ltb c d (omega arith))
-    ]
-
 -- for one sheet: the programmes read so far, and that reading on gives the whole answer
 pub record Scanning (s : Sheet) (b : List ℕ) (t l : ℕ) (w : List ℕ) (n m at : ℕ) : Type 0 where
   pub ps : List (List Command)
@@ -179,7 +170,7 @@ module _ {s : Sheet} {b : List ℕ} {p t l : ℕ} {w : List ℕ} {n m at : ℕ} 
   scanning-claim j =
       let r = room-here z (g .ps) b at claiming (judged (go claiming) j) in
       let d : length (drop 1 (drop at b)) + (at + 1) ≡ length b = omega (arith, r, length-drop 1 (drop at b), length-drop at b) in
-      let e : ltb (at + 5) (length b) ≡ ltb 4 (length (drop 1 (drop at b))) = same-test (at + 5) (length b) 4 (length (drop 1 (drop at b))) (at + 1) (omega arith) d in
+      let e : ltb (at + 5) (length b) ≡ ltb 4 (length (drop 1 (drop at b))) = ltb-same (at + 5) (length b) 4 (length (drop 1 (drop at b))) (λ h. omega arith) (λ h. omega arith) in
       rw (e, number-here z (g .ps) b at 4, ← g .count, ← g .total) (by (ltb 4 (length (drop 1 (drop at b)))) refl) ∙ sym (ap readingOf (ended-here j))
     where
       by : (q : Bool) → ltb 4 (length (drop 1 (drop at b))) ≡ q

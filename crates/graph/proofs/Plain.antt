@@ -13,7 +13,7 @@ use Rattle.folds.proofs.Laws.{term-le-greatest, greatest-some, greatest-le, fir
 use Rattle.sheet.specs.Sheet.{Sheet, taskCount, linkCount, workOf, sourceOf, targetOf, costOf}
 use Rattle.graph.specs.Graph.{onCircle, circle, levelBy, levelWithin, level}
 use Rattle.graph.specs.Paths.{Path, here, along, steps, weight, Last, LevelIs, Circle, LowestOnCircle}
-use Rattle.graph.proofs.Reaches.{Declared, reaches-path, path-reaches-all}
+use Rattle.graph.proofs.Reaches.{Declared, path-begins, reaches-path, path-reaches-all}
 use Rattle.graph.proofs.Ranks.{path-falls, ranked-falling, rankOf, none-ranked}
 
 module _ (s : Sheet) where
@@ -106,11 +106,7 @@ module _ (s : Sheet) (declared : Declared s) where
 
   -- a task on a circle is declared
   circle-task : (t : ℕ) → Circle s t → t < taskCount s
-  circle-task t c = go (c .path) (c .some)
-    where
-      go : {a b : ℕ} (p : Path s a b) → 0 < steps p → a < taskCount s
-      go here k = absurd (omega arith)
-      go (along l h e p) k = rw (sym e) (declared .source l h)
+  circle-task t c = path-begins s declared (c .path) (c .some)
 
   pub circle-lowest : (t : ℕ) → circle s ≡ some t → LowestOnCircle s t
   unfolding circle

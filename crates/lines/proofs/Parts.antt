@@ -1,12 +1,11 @@
 -- Lines: how long each is, and that its parts put one behind the other are the line.
 use Prim.Native.Nat.{ℕ, zero, suc, _+_, _*_, _≤_, _<_}
 use mathlib.Core.Path.{_≡_, sym, ap, ap₂}
-use mathlib.Core.Logic.{⊎-elim}
 use mathlib.Core.List.{List, _++_, append-assoc}
 use native.Mathlib.Omega.{arith}
 use lib.ListN.{length, getD, length-append}
 use Rattle.folds.specs.Folds.{gather}
-use Rattle.folds.proofs.Tests.{below-suc}
+use Rattle.folds.proofs.Lists.{gather-part}
 use Rattle.folds.proofs.Loops.{gather-zero, gather-one}
 use Rattle.sheet.specs.Sheet.{Sheet, taskCount}
 use Rattle.sheet.specs.Tables.{sheetIn, Loaded}
@@ -48,14 +47,6 @@ task-length σ t =
 pub schedule-length : (s : Sheet) (σ : Schedule) → length (scheduleLines s σ) ≡ length (planLine s σ) + length (gather (taskCount s) (taskLine σ))
 unfolding scheduleLines
 schedule-length s σ = length-append (planLine s σ) (gather (taskCount s) (taskLine σ))
-
--- the lists up to one, with one more, are within all
-gather-room : {X : Type 0} (f : ℕ → List X) (n t : ℕ) → t < n → length (gather t f) + length (f t) ≤ length (gather n f)
-unfolding gather
-gather-room f zero t h = absurd (omega arith)
-gather-room f (suc n) t h =
-    ⊎-elim (λ l. omega (arith, length-append (gather n f) (f n), gather-room f n t l))
-    (λ e. rw e (omega (arith, length-append (gather n f) (f n)))) (below-suc h)
 
 -- one line more
 pub needed-more : (f : ℕ → List ℕ) (a n r t : ℕ) → n ≡ a + length (gather t f) → r ≡ length (f t) → n + r ≡ a + length (gather (t + 1) f)
@@ -111,7 +102,7 @@ module _ (b : List ℕ) {at : ℕ} (σ : Schedule) (t x y z : ℕ) (d : x ≡ pl
   times-room m₁ m₂ p k q l = omega (arith, task-length σ t, fields-length y z, digits-of d, digits-of e, digits-of f, p .next, q .next)
 
 pub tasks-room : (b m : List ℕ) {at i : ℕ} (f : ℕ → List ℕ) (n t : ℕ) → at + length (gather n f) ≤ length b → t < n → Put b at (gather t f) m i → length m ≡ length b → i + length (f t) ≤ length m
-tasks-room b m f n t h l p k = omega (arith, gather-room f n t l, p .next)
+tasks-room b m f n t h l p k = omega (arith, gather-part n f t l, p .next)
 
 pub schedule-room : (b m : List ℕ) {i : ℕ} (s : Sheet) (σ : Schedule) → length (scheduleLines s σ) ≤ length b → Put b 0 (planLine s σ) m i → length m ≡ length b
     → i + length (gather (taskCount s) (taskLine σ)) ≤ length m

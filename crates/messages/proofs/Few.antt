@@ -11,7 +11,7 @@ use lib.Dec.{eqb}
 use Rattle.folds.specs.Folds.{sum, pick}
 use Rattle.folds.specs.Answers.{value}
 use Rattle.folds.proofs.Tests.{both-parts}
-use Rattle.folds.proofs.Laws.{sum-cong, sum-add, sum-le, sum-mono, sum-swap, term-le-sum, first-none, none-first}
+use Rattle.folds.proofs.Laws.{sum-front, sum-cong, sum-add, sum-le, sum-mono, sum-swap, term-le-sum, first-none, none-first}
 use Rattle.numbers.specs.Number.{Bytes, numberAt}
 use Rattle.sheet.specs.Sheet.{Sheet, taskCount, linkCount, sourceOf, targetOf}
 use Rattle.bundle.specs.Bundle.{Bundle, Command, run, send, receive, programmeCount, programmeOf}
@@ -135,11 +135,6 @@ rows-long (claims e) = omega arith
 rows-long (opens h x r) = omega (arith, lies-long x, rows-long r)
 
 -- all commands, counted both ways
-sum-front : (n : ℕ) (f : ℕ → ℕ) → sum (suc n) f ≡ f 0 + sum n (λ k. f (suc k))
-unfolding sum
-sum-front zero f = omega arith
-sum-front (suc n) f = omega (arith, sum-front n f)
-
 lengths : (ps : List (List Command)) → commandsIn ps ≡ sum (length ps) (λ k. length (getD ps k []))
 unfolding sum
 lengths [] = refl

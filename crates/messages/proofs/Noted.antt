@@ -13,6 +13,7 @@ use lib.ListN.{length, getD, set, drop, getElem?, length-set}
 use lib.Seq.{getD-set-same, getD-set-other}
 use lib.Dec.{eqb}
 use Rattle.folds.specs.Folds.{pick, bit}
+use Rattle.folds.proofs.Tests.{bit-le}
 use Rattle.folds.specs.Answers.{value}
 use Rattle.sheet.specs.Sheet.{Sheet, taskCount, linkCount}
 use Rattle.bundle.specs.Bundle.{Command, run, send, receive, Bundle, programmeCount, programmeOf}
@@ -25,7 +26,7 @@ use Rattle.workspace.specs.Area.{ClearIs}
 use Rattle.messages.specs.Notes.{slotOf, sofar, rank, Noted, never, again, once, Notes, messageAt, slotAt, sizeAt, notedWords, Kept, BlankIs, NotesIs}
 use Rattle.messages.proofs.Weights.{is-refl}
 use Rattle.messages.proofs.Walking.{drop-next, drop-short}
-use Rattle.messages.proofs.Ranks.{bit-most, is-or, slot-small, slot-same, sofar-more, sofar-next, sofar-none, rank-small, rank-more, rank-next, rank-none}
+use Rattle.messages.proofs.Ranks.{is-or, slot-small, slot-same, sofar-more, sofar-next, sofar-none, rank-small, rank-more, rank-next, rank-none}
 use Rattle.messages.proofs.Rows.{Rows, claims, opens, rows-le, rows}
 
 -- a run, or another command
@@ -243,7 +244,7 @@ module _ {n l : ℕ} {bundle v w : List ℕ} {at k r : ℕ} (end : ℕ) (far : e
       record {
         kept = subst (Kept v) (sym eu) (noted-kept x k r (g .kept));
         few = omega (arith, g .few);
-        less = omega (arith, g .less, bit-most (eqb (getD w (2048 + x) 0) 0));
+        less = omega (arith, g .less, bit-le (eqb (getD w (2048 + x) 0) 0));
         each = λ s b en el few less small long bytes e. by s b few less small (omega (arith, g .kept .long)) (g .each s b en el few less small long bytes e);
       }
     where

@@ -11,6 +11,7 @@ use borrow.Author.Tests.{eq-eqb, ne-eqb, lt-ltb, le-ltb}
 use lib.ListN.{getElem?}
 use lib.Dec.{eqb, ltb}
 use Rattle.folds.specs.Folds.{pick}
+use Rattle.folds.proofs.Tests.{ltb-same}
 use Rattle.folds.proofs.Laws.{term-le-sum, two-terms-le-sum}
 use Rattle.sheet.specs.Sheet.{Sheet, taskCount, linkCount}
 use Rattle.bundle.specs.Bundle.{Command, Bundle, programmeCount, programmeOf}
@@ -40,13 +41,6 @@ before-without c d (x ∷ p) e = rw (not-same c x (omega arith)) (by (same d x) 
     by true r = refl
     by false r = r
 
-ltb-suc : (i m : ℕ) → ltb (suc i) (suc m) ≡ ltb i m
-ltb-suc i m =
-    elim (decLt i m) [
-      | yes h ↦ lt-ltb (suc i) (suc m) (omega arith) ∙ sym (lt-ltb i m h)
-      | no h ↦ le-ltb (suc i) (suc m) (omega arith) ∙ sym (le-ltb i m (omega arith))
-    ]
-
 before-index : (c d : Command) (p : List Command) (i m : ℕ) → weigh (is c) p ≤ 1 → weigh (is d) p ≤ 1 → getElem? p i ≡ some c → getElem? p m ≡ some d → before c d p ≡ ltb i m
 unfolding before weigh
 before-index c d [] i m a b e f = absurd (Option·none-ne-some c e)
@@ -60,7 +54,7 @@ before-index c d (x ∷ p) (suc i) zero a b e f =
     rw (ap (same d) q ∙ same-refl d) (sym (le-ltb (suc i) 0 (omega arith)))
 before-index c d (x ∷ p) (suc i) (suc m) a b e f =
     rw (not-same d x (omega (arith, standing d p m f)), not-same c x (omega (arith, standing c p i e)))
-    (before-index c d p i m (omega arith) (omega arith) e f ∙ sym (ltb-suc i m))
+    (before-index c d p i m (omega arith) (omega arith) e f ∙ ltb-same i m (suc i) (suc m) (λ h. omega arith) (λ h. omega arith))
 
 -- c stands once, at place i of programme k, and x is its note
 pub record Placed (b : Bundle) (c : Command) (k i x : ℕ) : Type 0 where

@@ -5,14 +5,15 @@ use native.Mathlib.Decide.{decLt}
 use borrow.Author.Tests.{eqb-true, eq-eqb, ne-eqb, lt-ltb, le-ltb}
 use mathlib.Core.Bool.{Bool, true, false}
 use mathlib.Core.Option.{some}
-use mathlib.Core.Path.{_≡_, refl, sym, ap, _∙_, subst}
+use mathlib.Core.Path.{_≡_, refl, sym, ap, _∙_}
 use mathlib.Core.Logic.{_≢_, _⊎_, inl, inr, ⊎-elim}
 use mathlib.Core.List.{List, [], _∷_}
 use lib.ListN.{length, take, getElem?}
 use lib.Seq.{take-all}
 use lib.Dec.{eqb, ltb}
 use Rattle.folds.specs.Folds.{bit, sum}
-use Rattle.folds.proofs.Laws.{sum-le, sum-mono, sum-point, sum-zeros}
+use Rattle.folds.proofs.Tests.{bit-le}
+use Rattle.folds.proofs.Laws.{sum-le, sum-mono, sum-point, sum-zeros, sum-rises}
 use Rattle.sheet.specs.Sheet.{Sheet, taskCount, linkCount}
 use Rattle.bundle.specs.Bundle.{Command, run, send, receive, Bundle, programmeCount, programmeOf}
 use Rattle.bundle.specs.Fits.{Known}
@@ -82,14 +83,6 @@ pub sofar-whole : (b : Bundle) (c : Command) → sofar b (programmeCount b) 0 c 
 unfolding sofar whole weigh
 sofar-whole b c = omega arith
 
-sum-upto : (n m : ℕ) (f : ℕ → ℕ) → sum n f ≤ sum (n + m) f
-unfolding sum
-sum-upto n zero f = let e : n + zero ≡ n = omega arith in rw e (omega arith)
-sum-upto n (suc m) f = let e : n + suc m ≡ suc (n + m) = omega arith in rw e (omega (arith, sum-upto n m f))
-
-pub sum-rises : (n m : ℕ) (f : ℕ → ℕ) → n ≤ m → sum n f ≤ sum m f
-sum-rises n m f h = let e : n + (m - n) ≡ m = omega arith in subst (λ (k : ℕ). sum n f ≤ sum k f) e (sum-upto n (m - n) f)
-
 -- before the place of a command it was met less often than in the whole bundle
 pub sofar-less : (b : Bundle) (k i : ℕ) (c : Command) → getElem? (programmeOf b k) i ≡ some c → sofar b k i c < whole b (is c)
 unfolding sofar whole wholeOf sum
@@ -117,13 +110,9 @@ some-le : (a b : ℕ) → a ≤ b → bit (ltb 0 a) ≤ bit (ltb 0 b)
 some-le zero b h = omega arith
 some-le (suc a) b h = rw (lt-ltb 0 (suc a) (omega arith), lt-ltb 0 b (omega arith)) (omega arith)
 
-pub bit-most : (x : Bool) → bit x ≤ 1
-bit-most true = omega arith
-bit-most false = omega arith
-
 pub rank-small : (b : Bundle) (k i : ℕ) → rank b k i ≤ 2304
 unfolding rank met
-rank-small b k i = omega (arith, sum-le 2304 1 (met b k i) (λ x h. bit-most (ltb 0 (sofar b k i (commandOf x)))))
+rank-small b k i = omega (arith, sum-le 2304 1 (met b k i) (λ x h. bit-le (ltb 0 (sofar b k i (commandOf x)))))
 
 pub rank-rises : (b : Bundle) (k i m : ℕ) → i ≤ m → rank b k i ≤ rank b k m
 unfolding rank met

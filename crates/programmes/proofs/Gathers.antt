@@ -26,18 +26,6 @@ unfolding gather sum
 gather-long zero f = refl
 gather-long (suc n) f = omega (arith, length-append (gather n f) (f n), gather-long n f)
 
--- a part of what is gathered is no longer than the whole
-pub gather-part : {X : Type 0} (n : ℕ) (f : ℕ → List X) (i : ℕ) → i < n → length (gather i f) + length (f i) ≤ length (gather n f)
-unfolding gather
-gather-part n f i h = go (n - (i + 1)) (omega arith)
-  where
-    grows : (d j : ℕ) → length (gather j f) ≤ length (gather (j + d) f)
-    grows zero j = let e : j + 0 ≡ j = omega arith in rw e (omega arith)
-    grows (suc d) j = let e : j + suc d ≡ suc (j + d) = omega arith in rw e (omega (arith, length-append (gather (j + d) f) (f (j + d)), grows d j))
-
-    go : (d : ℕ) → i + 1 + d ≡ n → length (gather i f) + length (f i) ≤ length (gather n f)
-    go d e = omega (arith, grows d (i + 1), ap (λ (k : ℕ). length (gather k f)) e, ap length (gather-one i f), length-append (gather i f) (f i))
-
 -- the lists from a up to a + d are empty
 pub gather-skip : {X : Type 0} (f : ℕ → List X) (a d : ℕ) → ((i : ℕ) → a ≤ i → i < a + d → f i ≡ []) → gather (a + d) f ≡ gather a f
 unfolding gather

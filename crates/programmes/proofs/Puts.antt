@@ -6,6 +6,7 @@ use mathlib.Core.List.{List, [], _∷_}
 use native.Mathlib.Omega.{arith}
 use lib.ListN.{length, getD, set}
 use Rattle.folds.specs.Folds.{gather}
+use Rattle.folds.proofs.Lists.{gather-part}
 use Rattle.folds.proofs.Loops.{gather-zero, gather-one}
 use Rattle.numbers.specs.Number.{numberBytes, stored}
 use Rattle.numbers.proofs.Laws.{stored-one, stored-then}
@@ -20,7 +21,7 @@ use Rattle.programmes.specs.Bytes.{messageBytes, messagesBytes, blockByt
 use Rattle.numbers.specs.Number.{Put}
 use Rattle.programmes.specs.Laid.{Laid}
 use Rattle.programmes.proofs.Lays.{laid-none, laid-as, laid-then, laid-put, laid-last}
-use Rattle.programmes.proofs.Gathers.{gather-first, gather-next, gather-part}
+use Rattle.programmes.proofs.Gathers.{gather-first, gather-next}
 use Rattle.programmes.proofs.Parts.{message-none, block-home, open-parts, bundle-parts}
 use Rattle.programmes.proofs.Measures.{Walk, walk-starts, walk-on}
 

@@ -1,15 +1,10 @@
--- Sums from the front, and sums to which one term alone gives something.
+-- Sums with 2 more at each index, and sums to which one term alone gives something.
 use Prim.Native.Nat.{ℕ, zero, suc, _+_, _*_}
 use mathlib.Core.Path.{_≡_, refl, ap}
 use mathlib.Core.Bool.{Bool, true, false}
 use native.Mathlib.Omega.{arith}
 use Rattle.folds.specs.Folds.{pick, bit, sum}
 use Rattle.folds.proofs.Laws.{sum-zeros, term-le-sum}
-
-pub sum-front : (n : ℕ) (f : ℕ → ℕ) → sum (suc n) f ≡ f 0 + sum n (λ i. f (suc i))
-unfolding sum
-sum-front zero f = omega arith
-sum-front (suc n) f = omega (arith, sum-front n f)
 
 -- 2 more at each index
 pub sum-twos : (n : ℕ) (f : ℕ → ℕ) → sum n (λ i. 2 + f i) ≡ 2 * n + sum n f

@@ -1,6 +1,6 @@
 -- Links that join two tasks, of a sheet with one link more; and the tables that are being filled, kept right by each command.
 use Prim.Native.Nat.{ℕ, _+_, _*_, _/_, _%_, _≤_, _<_}
-use mathlib.Core.Bool.{Bool, true, false}
+use mathlib.Core.Bool.{Bool, false}
 use mathlib.Core.Path.{_≡_, refl, ap, ap₂, sym, _∙_, subst}
 use mathlib.Core.Logic.{_≢_, ⊎-elim}
 use mathlib.Core.List.{List, [], _∷_, _++_}
@@ -11,7 +11,7 @@ use lib.ListN.{length, getD, set, length-set, length-append, List·getD-append}
 use lib.Seq.{getD-at, getD-set-same, getD-set-other}
 use lib.Dec.{eqb}
 use Rattle.folds.specs.Folds.{both, either, any, listed}
-use Rattle.folds.proofs.Tests.{equal-or, both-false, either-true}
+use Rattle.folds.proofs.Tests.{equal-or, both-false, either-true, either-false}
 use Rattle.folds.proofs.Loops.{any-one, any-zero, listed-zero}
 use Rattle.folds.proofs.Laws.{any-cong}
 use Rattle.workspace.specs.Area.{fixed}
@@ -141,10 +141,6 @@ module _ (w : List ℕ) (m a b c d : ℕ) (f : Filling w) (e : getD w 1 0 ≡ m)
       other x y p q clear apart away =
           pair-other w a b (f .loaded .long) (small .0) (small .1) clear x y (omega (arith, f .loaded .tasks)) away
           ∙ f .pairs x y p q ∙ sym (ap (λ (z : Bool). either (joins (sheetIn w) x y) z) apart ∙ either-false (joins (sheetIn w) x y))
-        where
-          either-false : (z : Bool) → either z false ≡ z
-          either-false true = refl
-          either-false false = refl
 
       at : (x y : ℕ) → x < getD w 0 0 → y < getD w 0 0 → pairIn w a b ≡ false → Dec (x ≡ a) → Dec (y ≡ b) → pairIn v x y ≡ either (joins (sheetIn w) x y) (both (eqb a x) (eqb b y))
       at x y p q clear (yes g) (yes k) =

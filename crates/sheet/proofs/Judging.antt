@@ -1,8 +1,8 @@
 -- What refuses each kind of command, by the bytes at its offset; and what holds of a command that nothing refuses.
 use Prim.Native.Nat.{ℕ, _+_, _-_, _<_, _≤_, zero-le}
 use mathlib.Core.Path.{_≡_, refl, sym, ap, ap₂, _∙_}
-use mathlib.Core.Bool.{Bool, true, false, not}
-use mathlib.Core.Option.{Option, none, some}
+use mathlib.Core.Bool.{true, false, not}
+use mathlib.Core.Option.{none, some}
 use mathlib.Core.List.{List, [], _∷_}
 use mathlib.Core.Logic.{_≢_}
 use native.Mathlib.Omega.{arith}
@@ -12,7 +12,7 @@ use lib.ListN.{length, getD, drop, length-drop}
 use lib.Seq.{getD-drop}
 use lib.Dec.{eqb, ltb, leb}
 use Rattle.folds.specs.Folds.{pick, both, firstOf}
-use Rattle.folds.proofs.Tests.{not-some}
+use Rattle.folds.proofs.Firsts.{firstOf-none}
 use Rattle.numbers.specs.Number.{numberAt}
 use Rattle.numbers.proofs.Laws.{numberAt-drop}
 use Rattle.commands.specs.Commands.{refuse, go, judge, judgeKind}
@@ -66,20 +66,23 @@ pub record Sound (p : Progress) (k : Kind) (ops : List ℕ) : Type 0 where
   pub tight : loose (p .sheet) k ops ≡ false
   pub single : doubled (p .sheet) k ops ≡ false
 
-past : (t : Bool) (r : ℕ) (o : Option ℕ) → pick t (some r) o ≡ none → (t ≡ false) × (o ≡ none)
-past true r o e = not-some (sym e)
-past false r o e = (refl, e)
-
 pub sound : (p : Progress) (k : Kind) (ops : List ℕ) → fault p k ops ≡ none → Sound p k ops
 unfolding fault
 sound p k ops e =
-    let a = past _ 3 _ e in
-    let r = past _ 1 _ (a .1) in
-    let s = past _ 5 _ (r .1) in
-    let o = past _ 6 _ (s .1) in
-    let l = past _ 7 _ (o .1) in
-    let d = past _ 8 _ (l .1) in
-    record { turn = not-false _ (a .0); room = ltb-false _ _ (r .0); space = s .0; range = o .0; tight = l .0; single = d .0 }
+    let f =
+    firstOf-none
+    ((not (inTurn p k), 3) ∷
+    (ltb (length ops) (width k), 1) ∷
+    (full (p .sheet) k, 5) ∷ (outOfRange k ops, 6) ∷ (loose (p .sheet) k ops, 7) ∷ (doubled (p .sheet) k ops, 8) ∷ [])
+    e in
+    record {
+      turn = not-false _ (f .0);
+      room = ltb-false _ _ (f .1 .0);
+      space = f .1 .1 .0;
+      range = f .1 .1 .1 .0;
+      tight = f .1 .1 .1 .1 .0;
+      single = f .1 .1 .1 .1 .1 .0;
+    }
 
 pub sound-of : (p : Progress) (d : List ℕ) (k : Kind) → judge sheetFormat p d ≡ go k → Sound p k (drop 1 d)
 sound-of p d k j = sound p k _ (comes sheetFormat p d k j .clear)
