@@ -1,17 +1,17 @@
 -- What each kind of command that passes says: its byte, its operand, and the programmes with it.
 use Prim.Native.Nat.{ℕ, suc, _+_, _≤_, _<_}
 use mathlib.Core.Path.{_≡_, refl, sym, ap, _∙_}
-use mathlib.Core.Bool.{Bool, true, false, not, false≢true, true≢false}
-use mathlib.Core.Option.{Option, none, some}
+use mathlib.Core.Bool.{true, false, not, false≢true, true≢false}
+use mathlib.Core.Option.{none, some}
 use mathlib.Core.List.{List, [], _∷_, _++_}
 use native.Mathlib.Omega.{arith}
 use borrow.Author.Tests.{eqb-true, eqb-false, leb-false, not-false}
 use lib.ListN.{length, getD, take, drop, length-append}
 use lib.Dec.{eqb}
-use Rattle.folds.specs.Folds.{pick}
 use Rattle.folds.proofs.Tests.{either-none, not-some}
 use Rattle.numbers.specs.Number.{Bytes, numberAt}
 use Rattle.numbers.proofs.Laws.{bytes-of-number, number-of-bytes}
+use Rattle.commands.proofs.Bytes.{by-byte}
 use Rattle.sheet.specs.Sheet.{Sheet, taskCount, linkCount}
 use Rattle.bundle.specs.Bundle.{Command, run, send, receive}
 use Rattle.bundle.specs.Format.{Kind, opening, running, sending, receiving, claiming, kindOf, width, within, after, closes}
@@ -27,19 +27,10 @@ byteOf sending = 0x53
 byteOf receiving = 0x56
 byteOf claiming = 0x5A
 
--- a command byte told by a chain of tests
-one-kind : (c n : ℕ) (k j : Kind) (o : Option Kind) → n ≡ byteOf j → pick (eqb c n) (some j) o ≡ some k → (o ≡ some k → c ≡ byteOf k) → c ≡ byteOf k
-one-kind c n k j o b e r = go (eqb c n) refl e
-  where
-    go : (x : Bool) → eqb c n ≡ x → pick x (some j) o ≡ some k → c ≡ byteOf k
-    go true q f = let z : j ≡ k = cc in eqb-true c n q ∙ b ∙ ap byteOf z
-    go false q f = r f
-
 pub kind-byte : (c : ℕ) (k : Kind) → kindOf c ≡ some k → c ≡ byteOf k
-kind-byte c k e =
-    one-kind c 0x50 k opening _ refl e
-    (λ f. one-kind c 0x52 k running _ refl f
-    (λ g. one-kind c 0x53 k sending _ refl g (λ h. one-kind c 0x56 k receiving _ refl h (λ i. one-kind c 0x5A k claiming none refl i (λ j. not-some j)))))
+kind-byte c k =
+    by-byte byteOf c opening k _
+    (by-byte byteOf c running k _ (by-byte byteOf c sending k _ (by-byte byteOf c receiving k _ (by-byte byteOf c claiming k none not-some))))
 
 module _ (s : Sheet) (ps : List (List Command)) (b : List ℕ) where
   -- what was tested, as facts

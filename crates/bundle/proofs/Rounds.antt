@@ -7,13 +7,13 @@ use mathlib.Core.List.{List, [], _∷_, _++_, append-assoc, append-nil}
 use native.Mathlib.Omega.{arith}
 use borrow.Author.Tests.{ltb-false}
 use lib.ListN.{length, getD, take, drop, take-append-drop}
-use lib.Seq.{getD-drop, drop-drop, take-all}
+use lib.Seq.{drop-drop, take-all}
 use lib.Dec.{ltb}
 use Rattle.folds.specs.Folds.{pick}
 use Rattle.folds.specs.Answers.{value, refused}
 use Rattle.folds.proofs.Tests.{not-value}
 use Rattle.numbers.specs.Number.{Bytes, numberAt, numberBytes}
-use Rattle.numbers.proofs.Laws.{number-of-bytes}
+use Rattle.numbers.proofs.Laws.{number-of-bytes, drop-bytes}
 use Rattle.commands.specs.Commands.{Outcome, go, judge}
 use Rattle.commands.proofs.Going.{comes}
 use Rattle.sheet.specs.Sheet.{Sheet}
@@ -34,9 +34,6 @@ ended-value ps e b x h = by (ltb 4 (length b)) refl h
         → (length b ≤ 4) × (x ≡ record { programmes = ps; claim = numberAt 4 b 0 })
     by true q r = not-value r
     by false q r = (ltb-false 4 (length b) q, cc)
-
-pub drop-bytes : (n : ℕ) (b : List ℕ) → Bytes b → Bytes (drop n b)
-drop-bytes n b h i = rw (getD-drop n b i 0) (h (n + i))
 
 -- a command's bytes, and what follows them
 pub split-command : (b : List ℕ) (n : ℕ) → 0 < length b → b ≡ (getD b 0 0 ∷ take n (drop 1 b)) ++ drop (1 + n) b

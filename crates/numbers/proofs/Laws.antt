@@ -9,11 +9,11 @@ use lib.Seq.{getD-drop, getD-append-add, take-all, take-at, drop-append-add, dro
 use native.Mathlib.Numerals.{add-one, add-two}
 use lib.Dec.{lit<}
 use borrow.Rule.Slice.PartMut.{midOf, postOf, putMid}
-use Rattle.numbers.specs.Number.{numberAt, numberBytes, stored}
+use Rattle.numbers.specs.Number.{Bytes, numberAt, numberBytes, stored}
 
-pub length-numberBytes : (w n : ℕ) → length (numberBytes w n) ≡ w
-length-numberBytes zero n = refl
-length-numberBytes (suc w) n = ap suc (length-numberBytes w (n / 256))
+-- bytes, from one of them on
+pub drop-bytes : (n : ℕ) (b : List ℕ) → Bytes b → Bytes (drop n b)
+drop-bytes n b h i = rw (getD-drop n b i 0) (h (n + i))
 
 -- reading past the first byte
 pub numberAt-cons : (w : ℕ) (x : ℕ) (b : List ℕ) (i : ℕ) → numberAt w (x ∷ b) (suc i) ≡ numberAt w b i

@@ -2,24 +2,25 @@
 use Prim.Native.Nat.{ℕ, zero, suc, _+_, _*_, _<_, _≤_}
 use mathlib.Core.Path.{_≡_, refl, sym, ap, ap₂, subst, _∙_}
 use mathlib.Core.Bool.{Bool, true, false, false≢true, true≢false}
-use mathlib.Core.Option.{Option, none, some}
+use mathlib.Core.Option.{none, some}
 use mathlib.Core.Logic.{_⊎_, inl, inr}
 use mathlib.Core.List.{List, [], _∷_, _++_, append-assoc, append-nil}
 use native.Mathlib.Omega.{arith}
 use native.Mathlib.Decide.{decLt}
 use borrow.Author.Tests.{eqb-true, eqb-false, eq-eqb, lt-ltb, leb-true, leb-false, not-false}
 use lib.ListN.{length, getD, take, drop, length-drop, length-append, take-append-drop, List·getD-append}
-use lib.Seq.{getD-drop, drop-drop, drop-cons, getD-at}
+use lib.Seq.{drop-drop, drop-cons, getD-at}
 use lib.Dec.{eqb, leb}
 use Rattle.folds.specs.Folds.{pick, both}
 use Rattle.folds.specs.Answers.{Answer, value, refused}
 use Rattle.folds.proofs.Tests.{not-value, not-some, both-parts, parts-both, either-none, below-suc}
 use Rattle.folds.proofs.Laws.{any-each}
-use Rattle.numbers.specs.Number.{numberAt, numberBytes}
-use Rattle.numbers.proofs.Laws.{bytes-of-number, number-lt}
+use Rattle.numbers.specs.Number.{Bytes, numberAt, numberBytes}
+use Rattle.numbers.proofs.Laws.{drop-bytes, bytes-of-number, number-lt}
 use Rattle.commands.specs.Commands.{Outcome, refuse, go, judge}
 use Rattle.commands.specs.Reading.{Going}
 use Rattle.commands.proofs.Going.{starts, goes, refuses, ends, comes}
+use Rattle.commands.proofs.Bytes.{by-byte}
 use Rattle.sheet.specs.Sheet.{Sheet, Task, Link, noTask, noLink, taskCount, linkCount, workOf, storeOf, sourceOf, targetOf, costOf, bytesOf}
 use Rattle.sheet.specs.Format.{Kind, board, task, link, end, kindOf, Progress, fresh, withCommand, taskFrom, linkFrom, ended, joins, joinsBy, sheetFormat, readForm}
 use Rattle.sheet.specs.Writing.{boardBytes, taskBytes, linkBytes, sheetBytes}
@@ -50,15 +51,8 @@ byteOf task = 0x54
 byteOf link = 0x45
 byteOf end = 0x51
 
-by-byte : (c : ℕ) (k′ k : Kind) (o : Option Kind) → (o ≡ some k → c ≡ byteOf k) → pick (eqb c (byteOf k′)) (some k′) o ≡ some k → c ≡ byteOf k
-by-byte c k′ k o rest e = split (eqb c (byteOf k′)) refl e
-  where
-    split : (t : Bool) → eqb c (byteOf k′) ≡ t → pick t (some k′) o ≡ some k → c ≡ byteOf k
-    split true q e = let s : k′ ≡ k = cc in eqb-true c (byteOf k′) q ∙ ap byteOf s
-    split false q e = rest e
-
 kind-byte : (c : ℕ) (k : Kind) → kindOf c ≡ some k → c ≡ byteOf k
-kind-byte c k = by-byte c board k _ (by-byte c task k _ (by-byte c link k _ (by-byte c end k none not-some)))
+kind-byte c k = by-byte byteOf c board k _ (by-byte byteOf c task k _ (by-byte byteOf c link k _ (by-byte byteOf c end k none not-some)))
 
 -- a command that comes next, by its first byte and the rest
 pub first-byte : (p : Progress) (d : List ℕ) (k : Kind) → judge sheetFormat p d ≡ go k → d ≡ byteOf k ∷ drop 1 d
@@ -108,29 +102,22 @@ module _ (Held : Sheet → List ℕ → Type 0)
       → Held t (0x51 ∷ []) × (0 < taskCount t)
   read-holds b h begins = from-first b h begins (judge sheetFormat fresh b) refl
 
--- bytes
-abbrev Small : List ℕ → Type 0
-Small b = (k : ℕ) → getD b k 0 < 256
-
-small-drop : (n : ℕ) (b : List ℕ) → Small b → Small (drop n b)
-small-drop n b s k = rw getD-drop (s (n + k))
-
 -- what follows the first m bytes, and the n after them
 cut : (n m : ℕ) (b : List ℕ) → drop m b ≡ take n (drop m b) ++ drop (m + n) b
 cut n m b = sym (take-append-drop n (drop m b)) ∙ ap (λ (l : List ℕ). take n (drop m b) ++ l) (drop-drop n m b)
 
 -- a number of w bytes at m, with what follows it
-cut-number : (w m : ℕ) (b more : List ℕ) → m + w ≤ length b → Small b → drop (m + w) b ≡ more → drop m b ≡ numberBytes w (numberAt w b m) ++ more
+cut-number : (w m : ℕ) (b more : List ℕ) → m + w ≤ length b → Bytes b → drop (m + w) b ≡ more → drop m b ≡ numberBytes w (numberAt w b m) ++ more
 cut-number w m b more h s e = cut w m b ∙ ap₂ (λ (x y : List ℕ). x ++ y) (sym (bytes-of-number w b m h s)) e
 
 -- the operands of a command, as its bytes
-board-operands : (b : List ℕ) → 5 ≤ length b → Small b → 0x4D ∷ b ≡ boardBytes (getD b 0 0) (numberAt 4 b 1) ++ drop 5 b
+board-operands : (b : List ℕ) → 5 ≤ length b → Bytes b → 0x4D ∷ b ≡ boardBytes (getD b 0 0) (numberAt 4 b 1) ++ drop 5 b
 board-operands b h s = ap (λ (l : List ℕ). 0x4D ∷ l) (drop-cons b 0 0 (omega arith) ∙ ap (λ (l : List ℕ). getD b 0 0 ∷ l) (cut-number 4 1 b (drop 5 b) (omega arith) s refl))
 
-task-operands : (b : List ℕ) → 4 ≤ length b → Small b → 0x54 ∷ b ≡ taskBytes (taskFrom b ∷ []) ++ drop 4 b
+task-operands : (b : List ℕ) → 4 ≤ length b → Bytes b → 0x54 ∷ b ≡ taskBytes (taskFrom b ∷ []) ++ drop 4 b
 task-operands b h s = ap (λ (l : List ℕ). 0x54 ∷ l) (cut-number 2 0 b _ (omega arith) s (cut-number 2 2 b (drop 4 b) (omega arith) s refl))
 
-link-operands : (b : List ℕ) → 6 ≤ length b → Small b → 0x45 ∷ b ≡ linkBytes (linkFrom b ∷ []) ++ drop 6 b
+link-operands : (b : List ℕ) → 6 ≤ length b → Bytes b → 0x45 ∷ b ≡ linkBytes (linkFrom b ∷ []) ++ drop 6 b
 link-operands b h s =
     ap (λ (l : List ℕ). 0x45 ∷ l)
     (drop-cons b 0 0 (omega arith)
@@ -156,7 +143,7 @@ module _ (b₀ : List ℕ) where
   -- the bytes are those of the sheet so far, and then the rest
   record Passed (s : Sheet) (d : List ℕ) : Type 0 where
     same : b₀ ≡ front s ++ d
-    small : Small d
+    small : Bytes d
 
   no-links : (s : Sheet) (d : List ℕ) → judge sheetFormat (begun s) d ≡ go task → s .links ≡ []
   unfolding linkCount
@@ -184,25 +171,25 @@ module _ (b₀ : List ℕ) where
   pass-task s d j h =
       let ops : List ℕ = drop 1 d in
       let bytes : d ≡ taskBytes (taskFrom ops ∷ []) ++ drop 5 d =
-      first-byte (begun s) d task j ∙ task-operands ops (sound-of (begun s) d task j .room) (small-drop 1 d (h .small)) ∙ ap (λ (l : List ℕ). taskBytes (taskFrom ops ∷ []) ++ l) (drop-drop 4 1 d) in
-      record { same = h .same ∙ ap (λ (l : List ℕ). front s ++ l) bytes ∙ task-front s (taskFrom ops) (drop 5 d) (no-links s d j); small = small-drop 5 d (h .small) }
+      first-byte (begun s) d task j ∙ task-operands ops (sound-of (begun s) d task j .room) (drop-bytes 1 d (h .small)) ∙ ap (λ (l : List ℕ). taskBytes (taskFrom ops ∷ []) ++ l) (drop-drop 4 1 d) in
+      record { same = h .same ∙ ap (λ (l : List ℕ). front s ++ l) bytes ∙ task-front s (taskFrom ops) (drop 5 d) (no-links s d j); small = drop-bytes 5 d (h .small) }
 
   pass-link : (s : Sheet) (d : List ℕ) → judge sheetFormat (begun s) d ≡ go link → Passed s d → Passed (withCommand s link (drop 1 d)) (drop 7 d)
   pass-link s d j h =
       let ops : List ℕ = drop 1 d in
       let bytes : d ≡ linkBytes (linkFrom ops ∷ []) ++ drop 7 d =
-      first-byte (begun s) d link j ∙ link-operands ops (sound-of (begun s) d link j .room) (small-drop 1 d (h .small)) ∙ ap (λ (l : List ℕ). linkBytes (linkFrom ops ∷ []) ++ l) (drop-drop 6 1 d) in
-      record { same = h .same ∙ ap (λ (l : List ℕ). front s ++ l) bytes ∙ link-front s (linkFrom ops) (drop 7 d); small = small-drop 7 d (h .small) }
+      first-byte (begun s) d link j ∙ link-operands ops (sound-of (begun s) d link j .room) (drop-bytes 1 d (h .small)) ∙ ap (λ (l : List ℕ). linkBytes (linkFrom ops ∷ []) ++ l) (drop-drop 6 1 d) in
+      record { same = h .same ∙ ap (λ (l : List ℕ). front s ++ l) bytes ∙ link-front s (linkFrom ops) (drop 7 d); small = drop-bytes 7 d (h .small) }
 
-  pass-board : Small b₀ → judge sheetFormat fresh b₀ ≡ go board → Passed (record { processors = getD (drop 1 b₀) 0 0; limit = numberAt 4 (drop 1 b₀) 1; tasks = []; links = [] }) (drop 6 b₀)
+  pass-board : Bytes b₀ → judge sheetFormat fresh b₀ ≡ go board → Passed (record { processors = getD (drop 1 b₀) 0 0; limit = numberAt 4 (drop 1 b₀) 1; tasks = []; links = [] }) (drop 6 b₀)
   pass-board small j =
       let ops : List ℕ = drop 1 b₀ in
       record {
         same =
             first-byte fresh b₀ board j
-            ∙ board-operands ops (sound-of fresh b₀ board j .room) (small-drop 1 b₀ small)
+            ∙ board-operands ops (sound-of fresh b₀ board j .room) (drop-bytes 1 b₀ small)
             ∙ ap (λ (l : List ℕ). boardBytes (getD ops 0 0) (numberAt 4 ops 1) ++ l) (drop-drop 5 1 b₀);
-        small = small-drop 6 b₀ small;
+        small = drop-bytes 6 b₀ small;
       }
 
 -- a sheet that is read has the bytes that it was read from
@@ -246,7 +233,7 @@ pub record Shaped (s : Sheet) : Type 0 where
 
 -- its numbers fit the bytes that they are read from
 record Sized (s : Sheet) (d : List ℕ) : Type 0 where
-  small : Small d
+  small : Bytes d
   limit : s .limit < 4294967296
   tasks : (i : ℕ) → i < length (s .tasks) → TaskFits (getD (s .tasks) i noTask)
   links : (i : ℕ) → i < length (s .links) → LinkFits (getD (s .links) i noLink)
@@ -332,9 +319,9 @@ read-shaped b s h = read-holds (λ s d. Shaped s) shape-task shape-link s b h (s
 
 size-task : (s : Sheet) (d : List ℕ) → judge sheetFormat (begun s) d ≡ go task → Sized s d → Sized (withCommand s task (drop 1 d)) (drop 5 d)
 size-task s d j h =
-    let small : Small (drop 1 d) = small-drop 1 d (h .small) in
+    let small : Bytes (drop 1 d) = drop-bytes 1 d (h .small) in
     record {
-      small = small-drop 5 d (h .small);
+      small = drop-bytes 5 d (h .small);
       limit = h .limit;
       tasks = each-more TaskFits (s .tasks) (taskFrom (drop 1 d)) noTask (h .tasks) record { work = number-lt 2 (drop 1 d) 0 small; store = number-lt 2 (drop 1 d) 2 small };
       links = h .links;
@@ -342,19 +329,19 @@ size-task s d j h =
 
 size-link : (s : Sheet) (d : List ℕ) → judge sheetFormat (begun s) d ≡ go link → Sized s d → Sized (withCommand s link (drop 1 d)) (drop 7 d)
 size-link s d j h =
-    let small : Small (drop 1 d) = small-drop 1 d (h .small) in
+    let small : Bytes (drop 1 d) = drop-bytes 1 d (h .small) in
     record {
-      small = small-drop 7 d (h .small);
+      small = drop-bytes 7 d (h .small);
       limit = h .limit;
       tasks = h .tasks;
       links = each-more LinkFits (s .links) (linkFrom (drop 1 d)) noLink (h .links) record { cost = number-lt 2 (drop 1 d) 2 small; bytes = number-lt 2 (drop 1 d) 4 small };
     }
 
-size-board : (b : List ℕ) → Small b → Sized (record { processors = getD (drop 1 b) 0 0; limit = numberAt 4 (drop 1 b) 1; tasks = []; links = [] }) (drop 6 b)
+size-board : (b : List ℕ) → Bytes b → Sized (record { processors = getD (drop 1 b) 0 0; limit = numberAt 4 (drop 1 b) 1; tasks = []; links = [] }) (drop 6 b)
 size-board b small =
     record {
-      small = small-drop 6 b small;
-      limit = number-lt 4 (drop 1 b) 1 (small-drop 1 b small);
+      small = drop-bytes 6 b small;
+      limit = number-lt 4 (drop 1 b) 1 (drop-bytes 1 b small);
       tasks = λ i l. absurd (omega arith);
       links = λ i l. absurd (omega arith);
     }
