@@ -11,7 +11,7 @@ use Rattle.sheet.specs.Sheet.{Sheet, Task, Link, noTask, noLink, taskCount, lin
 use Rattle.folds.specs.Answers.{value}
 use Rattle.sheet.specs.Format.{readForm}
 use Rattle.sheet.specs.Tables.{Ranged}
-use Rattle.sheet.specs.Writing.{boardBytes, taskBytes, linkBytes, sheetBytes}
+use Rattle.sheet.specs.Writing.{boardBytes, taskCommand, linkCommand, taskBytes, linkBytes, sheetBytes}
 use Rattle.sheet.proofs.Rounds.{bytes-again, read-ranged, task-bytes-length}
 use Rattle.messages.specs.Fields.{Fields}
 
@@ -26,50 +26,37 @@ module _ (p b : List ℕ) (i j : ℕ) (e : j ≡ length p + i) where
 number-behind : (p r : List ℕ) (x j : ℕ) → j ≡ length p + 0 → x < 65536 → numberAt 2 (p ++ (numberBytes 2 x ++ r)) j ≡ x
 number-behind p r x j e h = behind p (numberBytes 2 x ++ r) 0 j e ∙ number-of-bytes 2 x r h
 
--- the bytes of a task, and of a link
-taskFront : Task → List ℕ
-taskFront t = 0x54 ∷ (numberBytes 2 (t .work) ++ numberBytes 2 (t .store))
-
-linkFront : Link → List ℕ
-linkFront l = 0x45 ∷ l .source ∷ l .target ∷ (numberBytes 2 (l .cost) ++ numberBytes 2 (l .bytes))
-
 -- task t
 work-at : (ts : List Task) (r : List ℕ) (t : ℕ) → t < length ts → getD ts t noTask .work < 65536 → numberAt 2 (taskBytes ts ++ r) (1 + 5 * t) ≡ getD ts t noTask .work
-unfolding taskFront
 work-at [] r t h l = absurd (omega arith)
 work-at (x ∷ ts) r zero h l = number-behind (0x54 ∷ []) (numberBytes 2 (x .store) ++ (taskBytes ts ++ r)) (x .work) (1 + 5 * 0) (omega arith) l
-work-at (x ∷ ts) r (suc t) h l = behind (taskFront x) (taskBytes ts ++ r) (1 + 5 * t) (1 + 5 * suc t) (omega arith) ∙ work-at ts r t (omega arith) l
+work-at (x ∷ ts) r (suc t) h l = behind (taskCommand x) (taskBytes ts ++ r) (1 + 5 * t) (1 + 5 * suc t) (omega arith) ∙ work-at ts r t (omega arith) l
 
 store-at : (ts : List Task) (r : List ℕ) (t : ℕ) → t < length ts → getD ts t noTask .store < 65536 → numberAt 2 (taskBytes ts ++ r) (3 + 5 * t) ≡ getD ts t noTask .store
-unfolding taskFront
 store-at [] r t h l = absurd (omega arith)
 store-at (x ∷ ts) r zero h l = number-behind (0x54 ∷ numberBytes 2 (x .work)) (taskBytes ts ++ r) (x .store) (3 + 5 * 0) (omega arith) l
-store-at (x ∷ ts) r (suc t) h l = behind (taskFront x) (taskBytes ts ++ r) (3 + 5 * t) (3 + 5 * suc t) (omega arith) ∙ store-at ts r t (omega arith) l
+store-at (x ∷ ts) r (suc t) h l = behind (taskCommand x) (taskBytes ts ++ r) (3 + 5 * t) (3 + 5 * suc t) (omega arith) ∙ store-at ts r t (omega arith) l
 
 -- link l
 source-at : (ls : List Link) (r : List ℕ) (l : ℕ) → l < length ls → getD (linkBytes ls ++ r) (1 + 7 * l) 0 ≡ getD ls l noLink .source
-unfolding linkFront
 source-at [] r l h = absurd (omega arith)
 source-at (x ∷ ls) r zero h = refl
-source-at (x ∷ ls) r (suc l) h = byte-behind (linkFront x) (linkBytes ls ++ r) (1 + 7 * l) (1 + 7 * suc l) (omega arith) ∙ source-at ls r l (omega arith)
+source-at (x ∷ ls) r (suc l) h = byte-behind (linkCommand x) (linkBytes ls ++ r) (1 + 7 * l) (1 + 7 * suc l) (omega arith) ∙ source-at ls r l (omega arith)
 
 target-at : (ls : List Link) (r : List ℕ) (l : ℕ) → l < length ls → getD (linkBytes ls ++ r) (2 + 7 * l) 0 ≡ getD ls l noLink .target
-unfolding linkFront
 target-at [] r l h = absurd (omega arith)
 target-at (x ∷ ls) r zero h = refl
-target-at (x ∷ ls) r (suc l) h = byte-behind (linkFront x) (linkBytes ls ++ r) (2 + 7 * l) (2 + 7 * suc l) (omega arith) ∙ target-at ls r l (omega arith)
+target-at (x ∷ ls) r (suc l) h = byte-behind (linkCommand x) (linkBytes ls ++ r) (2 + 7 * l) (2 + 7 * suc l) (omega arith) ∙ target-at ls r l (omega arith)
 
 cost-at : (ls : List Link) (r : List ℕ) (l : ℕ) → l < length ls → getD ls l noLink .cost < 65536 → numberAt 2 (linkBytes ls ++ r) (3 + 7 * l) ≡ getD ls l noLink .cost
-unfolding linkFront
 cost-at [] r l h g = absurd (omega arith)
 cost-at (x ∷ ls) r zero h g = number-behind (0x45 ∷ x .source ∷ x .target ∷ []) (numberBytes 2 (x .bytes) ++ (linkBytes ls ++ r)) (x .cost) (3 + 7 * 0) (omega arith) g
-cost-at (x ∷ ls) r (suc l) h g = behind (linkFront x) (linkBytes ls ++ r) (3 + 7 * l) (3 + 7 * suc l) (omega arith) ∙ cost-at ls r l (omega arith) g
+cost-at (x ∷ ls) r (suc l) h g = behind (linkCommand x) (linkBytes ls ++ r) (3 + 7 * l) (3 + 7 * suc l) (omega arith) ∙ cost-at ls r l (omega arith) g
 
 bytes-at : (ls : List Link) (r : List ℕ) (l : ℕ) → l < length ls → getD ls l noLink .bytes < 65536 → numberAt 2 (linkBytes ls ++ r) (5 + 7 * l) ≡ getD ls l noLink .bytes
-unfolding linkFront
 bytes-at [] r l h g = absurd (omega arith)
 bytes-at (x ∷ ls) r zero h g = number-behind (0x45 ∷ x .source ∷ x .target ∷ numberBytes 2 (x .cost)) (linkBytes ls ++ r) (x .bytes) (5 + 7 * 0) (omega arith) g
-bytes-at (x ∷ ls) r (suc l) h g = behind (linkFront x) (linkBytes ls ++ r) (5 + 7 * l) (5 + 7 * suc l) (omega arith) ∙ bytes-at ls r l (omega arith) g
+bytes-at (x ∷ ls) r (suc l) h g = behind (linkCommand x) (linkBytes ls ++ r) (5 + 7 * l) (5 + 7 * suc l) (omega arith) ∙ bytes-at ls r l (omega arith) g
 
 module _ (s : Sheet) where
   abbrev front : List ℕ

@@ -10,6 +10,13 @@ use Rattle.sheet.specs.Sheet.{Sheet, Task, Link}
 abbrev pub boardBytes : ℕ → ℕ → List ℕ
 boardBytes processors limit = 0x4D ∷ processors ∷ numberBytes 4 limit
 
+-- one task, and one link
+abbrev pub taskCommand : Task → List ℕ
+taskCommand t = 0x54 ∷ (numberBytes 2 (t .work) ++ numberBytes 2 (t .store))
+
+abbrev pub linkCommand : Link → List ℕ
+linkCommand l = 0x45 ∷ l .source ∷ l .target ∷ (numberBytes 2 (l .cost) ++ numberBytes 2 (l .bytes))
+
 abbrev pub taskBytes : List Task → List ℕ
 taskBytes [] = []
 taskBytes (t ∷ ts) = 0x54 ∷ (numberBytes 2 (t .work) ++ (numberBytes 2 (t .store) ++ taskBytes ts))

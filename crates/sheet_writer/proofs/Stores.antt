@@ -11,7 +11,7 @@ use borrow.Author.Tests.{eq-eqb}
 use Rattle.folds.specs.Folds.{listed}
 use Rattle.folds.proofs.Loops.{listed-zero, listed-one}
 use Rattle.sheet.specs.Sheet.{Task, Link}
-use Rattle.sheet.specs.Writing.{boardBytes, taskBytes, linkBytes, taskValue, linkValue, linkValueBytes, taskValueBytes, valueBytes, taskValues, linkValues}
+use Rattle.sheet.specs.Writing.{boardBytes, taskCommand, linkCommand, taskBytes, linkBytes, taskValue, linkValue, linkValueBytes, taskValueBytes, valueBytes, taskValues, linkValues}
 
 -- records of one width: the bytes of one, and of a list of them
 module _ {X : Type 0} (size : ℕ) (one : X → List ℕ) (all : List X → List ℕ) (none : all [] ≡ [])
@@ -29,41 +29,35 @@ module _ {X : Type 0} (size : ℕ) (one : X → List ℕ) (all : List X → List
       stored-then b m r 0 at (all (listed i f)) (one (f i)) p q (e ∙ sym (zero-add _ ∙ length-all i)) zero-le
       ∙ rw (listed-one i f, more)
 
-abbrev pub taskOne : Task → List ℕ
-taskOne t = 0x54 ∷ (numberBytes 2 (t .work) ++ numberBytes 2 (t .store))
-
-abbrev pub linkOne : Link → List ℕ
-linkOne l = 0x45 ∷ l .source ∷ l .target ∷ (numberBytes 2 (l .cost) ++ numberBytes 2 (l .bytes))
-
-pub tasks-more : (xs : List Task) (t : Task) → taskBytes (xs ++ (t ∷ [])) ≡ taskBytes xs ++ taskOne t
+pub tasks-more : (xs : List Task) (t : Task) → taskBytes (xs ++ (t ∷ [])) ≡ taskBytes xs ++ taskCommand t
 tasks-more [] t = refl
 tasks-more (x ∷ xs) t = ap (λ (r : List ℕ). 0x54 ∷ (numberBytes 2 (x .work) ++ (numberBytes 2 (x .store) ++ r))) (tasks-more xs t)
 
-pub links-more : (xs : List Link) (l : Link) → linkBytes (xs ++ (l ∷ [])) ≡ linkBytes xs ++ linkOne l
+pub links-more : (xs : List Link) (l : Link) → linkBytes (xs ++ (l ∷ [])) ≡ linkBytes xs ++ linkCommand l
 links-more [] l = refl
 links-more (x ∷ xs) l = ap (λ (r : List ℕ). 0x45 ∷ x .source ∷ x .target ∷ (numberBytes 2 (x .cost) ++ (numberBytes 2 (x .bytes) ++ r))) (links-more xs l)
 
 pub tasks-length : (f : ℕ → Task) (n : ℕ) → length (taskBytes (listed n f)) ≡ n * 5
-tasks-length = length-all 5 taskOne taskBytes refl tasks-more (λ t. refl)
+tasks-length = length-all 5 taskCommand taskBytes refl tasks-more (λ t. refl)
 
 pub links-length : (f : ℕ → Link) (n : ℕ) → length (linkBytes (listed n f)) ≡ n * 7
-links-length = length-all 7 linkOne linkBytes refl links-more (λ l. refl)
+links-length = length-all 7 linkCommand linkBytes refl links-more (λ l. refl)
 
-pub tasks-next : (f : ℕ → Task) (b m r : List ℕ) (i : ℕ) → m ≡ stored b 0 (taskBytes (listed i f)) → r ≡ stored m (5 * i) (taskOne (f i)) → r ≡ stored b 0 (taskBytes (listed (i + 1) f))
-tasks-next f b m r i p q = all-next 5 taskOne taskBytes refl tasks-more (λ t. refl) f b m r i (5 * i) p q (omega arith)
+pub tasks-next : (f : ℕ → Task) (b m r : List ℕ) (i : ℕ) → m ≡ stored b 0 (taskBytes (listed i f)) → r ≡ stored m (5 * i) (taskCommand (f i)) → r ≡ stored b 0 (taskBytes (listed (i + 1) f))
+tasks-next f b m r i p q = all-next 5 taskCommand taskBytes refl tasks-more (λ t. refl) f b m r i (5 * i) p q (omega arith)
 
-pub links-next : (f : ℕ → Link) (b m r : List ℕ) (i : ℕ) → m ≡ stored b 0 (linkBytes (listed i f)) → r ≡ stored m (7 * i) (linkOne (f i)) → r ≡ stored b 0 (linkBytes (listed (i + 1) f))
-links-next f b m r i p q = all-next 7 linkOne linkBytes refl links-more (λ l. refl) f b m r i (7 * i) p q (omega arith)
+pub links-next : (f : ℕ → Link) (b m r : List ℕ) (i : ℕ) → m ≡ stored b 0 (linkBytes (listed i f)) → r ≡ stored m (7 * i) (linkCommand (f i)) → r ≡ stored b 0 (linkBytes (listed (i + 1) f))
+links-next f b m r i p q = all-next 7 linkCommand linkBytes refl links-more (λ l. refl) f b m r i (7 * i) p q (omega arith)
 
 pub length-three : (b : List ℕ) (i x y z : ℕ) → length (set (set (set b i x) (i + 1) y) (i + 2) z) ≡ length b
 length-three b i x y z = simp length-set
 
 -- nothing written yet
 pub tasks-none : (f : ℕ → Task) (b : List ℕ) → b ≡ stored b 0 (taskBytes (listed 0 f))
-tasks-none f = all-none 5 taskOne taskBytes refl tasks-more (λ t. refl) f
+tasks-none f = all-none 5 taskCommand taskBytes refl tasks-more (λ t. refl) f
 
 pub links-none : (f : ℕ → Link) (b : List ℕ) → b ≡ stored b 0 (linkBytes (listed 0 f))
-links-none f = all-none 7 linkOne linkBytes refl links-more (λ l. refl) f
+links-none f = all-none 7 linkCommand linkBytes refl links-more (λ l. refl) f
 
 -- the parts of a sheet, written one behind the other
 module _ (k c : ℕ) (tv lv : List ℕ) (tasks-whole : length tv % 2 ≡ 0) (links-whole : length lv % 4 ≡ 0) where
