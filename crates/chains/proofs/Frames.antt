@@ -15,6 +15,10 @@ only-none a b w = record { long = refl; low = λ i h. refl; high = λ i h. refl 
 pub only-trans : {a b : ℕ} {u v w : List ℕ} → Only a b u v → Only a b v w → Only a b u w
 only-trans p q = record { long = q .long ∙ p .long; low = λ i h. q .low i h ∙ p .low i h; high = λ i h. q .high i h ∙ p .high i h }
 
+-- what was written within narrower bounds
+pub only-wider : {a b c d : ℕ} {w w′ : List ℕ} → c ≤ a → b ≤ d → Only a b w w′ → Only c d w w′
+only-wider h g p = record { long = p .long; low = λ i k. p .low i (omega arith); high = λ i k. p .high i (omega arith) }
+
 pub only-set : {a b : ℕ} {w w′ : List ℕ} (j v : ℕ) → a ≤ j → j < b → Only a b w w′ → Only a b w (set w′ j v)
 only-set {a} {b} {w} {w′} j v h g p =
     record {

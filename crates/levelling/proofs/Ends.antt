@@ -15,7 +15,8 @@ use Rattle.graph.specs.Graph.{circle}
 use Rattle.chains.specs.Frames.{Only}
 use Rattle.chains.specs.Chains.{Chained}
 use Rattle.chains.specs.declared.End.the-variants.{Target}
-use Rattle.peeling.specs.Words.{Held, Kept, Beside, inQueue, doneBy}
+use Rattle.chains.proofs.Frames.{only-trans}
+use Rattle.peeling.specs.Words.{Held, Outside, inQueue, doneBy}
 use Rattle.peeling.specs.Peeling.{dueBy, levelIn, Peeled}
 use Rattle.words.specs.Found.{foundOf}
 use Rattle.levelling.specs.Found.{Levelled, LevelsAre}
@@ -23,7 +24,7 @@ use Rattle.words.specs.declared.Found.{Found}
 use Rattle.words.specs.declared.Found.the-variants.{Nothing}
 use Rattle.graph.proofs.Reaches.{Declared}
 use Rattle.graph.proofs.Ranks.{Ranked, Solved, ranked-none, rankOf, none-ranked, level-is}
-use Rattle.peeling.proofs.Frames.{only-kept, kept-held, kept-sheet, kept-trans, beside-held, beside-own, loaded-declared, beside-chained}
+use Rattle.peeling.proofs.Frames.{only-kept, kept-held, kept-sheet, outside-held, outside-own, loaded-declared, outside-chained}
 use Rattle.peeling.proofs.Pushes.{in-queue, queued-all, queued-few}
 use Rattle.peeling.proofs.Lights.{due-lit, due-other}
 use Rattle.peeling.proofs.Turns.{chain-here}
@@ -86,33 +87,33 @@ module _ (s : Sheet) (k : ℕ) (w : List ℕ) (declared : Declared s) (p : Peele
 pub peel-asks : {w w₁ : List ℕ} → Held w → Only 2576 3856 w w₁ × Chained Target (sheetIn w) w₁ → Held w₁ × Chained Target (sheetIn w₁) w₁
 peel-asks {w} {w₁} h d = let k = only-kept (d .0) in (kept-held h k, subst (λ (s : Sheet). Chained Target s w₁) (sym (kept-sheet h k)) (d .1))
 
-pub find-goes : {w w₁ w₂ : List ℕ} → Held w → Only 2576 3856 w w₁ × Chained Target (sheetIn w) w₁ → Beside w₁ w₂ → Held w₂ × Chained Target (sheetIn w₂) w₂
+pub find-goes : {w w₁ w₂ : List ℕ} → Held w → Only 2576 3856 w w₁ × Chained Target (sheetIn w) w₁ → Outside w₁ w₂ → Held w₂ × Chained Target (sheetIn w₂) w₂
 find-goes {w} {w₁} {w₂} h d b =
     let q = peel-asks h d in
-    (beside-held (q .0) b, beside-own (λ (s : Sheet). Chained Target s w₂) (q .0) b (chain-here (q .0) (q .1) b))
+    (outside-held (q .0) b, outside-own (λ (s : Sheet). Chained Target s w₂) (q .0) b (chain-here (q .0) (q .1) b))
 
-pub levels-free : {w w₁ w₂ : List ℕ} {k n : ℕ} → Held w → Only 2576 3856 w w₁ × Chained Target (sheetIn w) w₁ → Beside w₁ w₂ × Peeled (sheetIn w₁) k k 0 0 w₂ → n ≡ taskCount (sheetIn w₂) → k ≡ n → LevelsAre w w₂ Nothing
+pub levels-free : {w w₁ w₂ : List ℕ} {k n : ℕ} → Held w → Only 2576 3856 w w₁ × Chained Target (sheetIn w) w₁ → Outside w₁ w₂ × Peeled (sheetIn w₁) k k 0 0 w₂ → n ≡ taskCount (sheetIn w₂) → k ≡ n → LevelsAre w w₂ Nothing
 levels-free {w} {w₁} {w₂} {k} {n} h c d e q =
-    let b : Kept w w₁ = only-kept (c .0) in
+    let b : Only 2320 4624 w w₁ = only-kept (c .0) in
     let same : sheetIn w₁ ≡ sheetIn w = kept-sheet h b in
-    let kept : Kept w w₂ = kept-trans b (d .0 .kept) in
+    let kept : Only 2320 4624 w w₂ = only-trans b (d .0 .kept) in
     let p : Peeled (sheetIn w) k k 0 0 w₂ = subst (λ (s : Sheet). Peeled s k k 0 0 w₂) same (d .1) in
     let all : k ≡ taskCount (sheetIn w) = q ∙ e ∙ ap taskCount (kept-sheet h kept) in
     record {
       answer = sym (peeled-free (sheetIn w) k w₂ (loaded-declared (h .loaded)) p all);
-      levels = λ f. peeled-levels (sheetIn w) k w₂ (loaded-declared (h .loaded)) p all (beside-chained (sheetIn w) w₁ w₂ (h .few-tasks) (h .few-links) (d .0) (c .1));
+      levels = λ f. peeled-levels (sheetIn w) k w₂ (loaded-declared (h .loaded)) p all (outside-chained (sheetIn w) w₁ w₂ (h .few-tasks) (h .few-links) (d .0) (c .1));
       kept = kept;
     }
 
-pub levels-found : {w w₁ w₂ w₃ : List ℕ} {k n : ℕ} {r : Found} → Held w → Only 2576 3856 w w₁ → Beside w₁ w₂ × Peeled (sheetIn w₁) k k 0 0 w₂ → n ≡ taskCount (sheetIn w₂) → (k ≡ n → ⊥) → Beside w₂ w₃ × (foundOf r ≡ circle (sheetIn w₂)) → LevelsAre w w₃ r
+pub levels-found : {w w₁ w₂ w₃ : List ℕ} {k n : ℕ} {r : Found} → Held w → Only 2576 3856 w w₁ → Outside w₁ w₂ × Peeled (sheetIn w₁) k k 0 0 w₂ → n ≡ taskCount (sheetIn w₂) → (k ≡ n → ⊥) → Outside w₂ w₃ × (foundOf r ≡ circle (sheetIn w₂)) → LevelsAre w w₃ r
 levels-found {w} {w₁} {w₂} {w₃} {k} {n} {r} h o d e q t =
-    let b : Kept w w₁ = only-kept o in
+    let b : Only 2320 4624 w w₁ = only-kept o in
     let same : sheetIn w₁ ≡ sheetIn w = kept-sheet h b in
-    let kept : Kept w w₂ = kept-trans b (d .0 .kept) in
+    let kept : Only 2320 4624 w w₂ = only-trans b (d .0 .kept) in
     let same₂ : sheetIn w₂ ≡ sheetIn w = kept-sheet h kept in
     let p : Peeled (sheetIn w) k k 0 0 w₂ = subst (λ (s : Sheet). Peeled s k k 0 0 w₂) same (d .1) in
     record {
       answer = t .1 ∙ ap circle same₂;
       levels = λ f. absurd (q (peeled-all (sheetIn w) k w₂ (loaded-declared (h .loaded)) p f ∙ sym (ap taskCount same₂) ∙ sym e));
-      kept = kept-trans kept (t .0 .kept);
+      kept = only-trans kept (t .0 .kept);
     }

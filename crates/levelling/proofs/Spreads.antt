@@ -1,9 +1,9 @@
 -- The search for a circle through a goal: the tasks that lead to it, gathered in the queue.
-use Prim.Native.Nat.{ℕ, zero, suc, _+_, _-_, _≤_, _<_}
+use Prim.Native.Nat.{ℕ, zero, suc, _+_, _≤_, _<_}
 use mathlib.Core.Bool.{Bool, true, false, false≢true, true≢false}
 use mathlib.Core.Option.{none, some}
 use mathlib.Core.Path.{_≡_, refl, ap, sym, _∙_, subst}
-use mathlib.Core.Logic.{_≢_, _⊎_, inl, inr, ⊎-elim}
+use mathlib.Core.Logic.{_≢_, inl, inr, ⊎-elim}
 use mathlib.Core.List.{List}
 use native.Mathlib.Omega.{arith}
 use native.Mathlib.Decide.{decLt, ℕ-discrete}
@@ -19,36 +19,36 @@ use Rattle.sheet.specs.Tables.{sheetIn}
 use Rattle.graph.specs.Graph.{reaches, onCircle, circle}
 use Rattle.chains.specs.Chains.{Chained}
 use Rattle.chains.specs.declared.End.the-variants.{Target}
-use Rattle.peeling.specs.Words.{Held, Beside, Queued, pushed, doneBy, doneUpTo}
+use Rattle.peeling.specs.Words.{Held, Outside, Queued, pushed, doneBy, doneUpTo}
 use Rattle.peeling.specs.Peeling.{Emptied, Noted, Search, Searched, Spreading}
 use Rattle.levelling.specs.Found.{SpreadIs}
 use Rattle.levelling.specs.declared.search.Spread.{Spread}
 use Rattle.levelling.specs.declared.search.Spread.the-variants.{Back, On}
 use Rattle.graph.proofs.Reaches.{Declared, link-reaches, reaches-along, reaches-none}
-use Rattle.peeling.proofs.Frames.{loaded-declared, beside-sheet, beside-held, beside-none, beside-trans, beside-own, beside-from}
-use Rattle.peeling.proofs.Pushes.{queued-few, queued-room, queued-push, push-here, push-else, push-beside}
+use Rattle.peeling.proofs.Frames.{loaded-declared, outside-sheet, outside-held, outside-none, outside-trans, outside-own, outside-from}
+use Rattle.peeling.proofs.Pushes.{queued-few, queued-room, queued-push, push-here, push-else, push-outside}
 use Rattle.peeling.proofs.Walks.{up-none, up-hop, up-end, up-same, up-late, up-else}
 use Rattle.peeling.proofs.Starts.{queued-none, done-none}
 use Rattle.peeling.proofs.Turns.{chain-here}
 
 -- a task is noted
 module _ (w : List ℕ) (h : Held w) (k u : ℕ) (u-in : u < taskCount (sheetIn w)) (q : Queued (taskCount (sheetIn w)) k w) {x : ℕ} (x-is : x ≡ getD w (4368 + u) 0) where
-  pub note-stays : x < 256 → Beside w w × Noted (taskCount (sheetIn w)) k u k w w
+  pub note-stays : x < 256 → Outside w w × Noted (taskCount (sheetIn w)) k u k w w
   note-stays l =
-      (beside-none w, record { queued = q; more = omega arith; here = omega arith; else = λ t e. refl; kept = λ t e. refl; late = λ e. absurd (omega arith) })
+      (outside-none w, record { queued = q; more = omega arith; here = omega arith; else = λ t e. refl; kept = λ t e. refl; late = λ e. absurd (omega arith) })
 
   pub note-room : 256 ≤ x → k < 256
   note-room l = omega (arith, h .few-tasks, queued-room u q u-in (omega arith))
 
-  pub note-goes : 256 ≤ x → (w′ : List ℕ) → w′ ≡ pushed w k u → Beside w w′ × Noted (taskCount (sheetIn w)) k u (k + 1) w w′
+  pub note-goes : 256 ≤ x → (w′ : List ℕ) → w′ ≡ pushed w k u → Outside w w′ × Noted (taskCount (sheetIn w)) k u (k + 1) w w′
   note-goes l w′ e =
       let n : ℕ = taskCount (sheetIn w) in
       let free : 256 ≤ getD w (4368 + u) 0 = omega arith in
       let room = note-room l in
       let there : getD (pushed w k u) (4368 + u) 0 ≡ k = push-here n k u w (h .few-tasks) (h .long) u-in free q in
       let else : (t : ℕ) → t ≢ u → getD (pushed w k u) (4368 + t) 0 ≡ getD w (4368 + t) 0 = push-else n k u w (h .few-tasks) (h .long) u-in free q in
-      subst (λ (z : List ℕ). Beside w z × Noted n k u (k + 1) w z) (sym e) (
-        push-beside n k u w (h .few-tasks) (h .long) u-in free q,
+      subst (λ (z : List ℕ). Outside w z × Noted n k u (k + 1) w z) (sym e) (
+        push-outside n k u w (h .few-tasks) (h .long) u-in free q,
         record {
           queued = queued-push n k u w (h .few-tasks) (h .long) u-in free q;
           more = omega arith;
@@ -137,7 +137,7 @@ spread-hop s w goal i k j j′ v p h gap =
 
 -- the walk, seen from where it began
 pub record SpreadTo (w₀ : List ℕ) (goal v k l : ℕ) (w : List ℕ) : Type 0 where
-  pub beside : Beside w₀ w
+  pub outside : Outside w₀ w
   pub here : l ≤ linkCount (sheetIn w₀)
   pub own : l < linkCount (sheetIn w₀) → targetOf (sheetIn w₀) l ≡ v
   pub spreading : Spreading (sheetIn w₀) goal (getD w₀ (4368 + v) 0) k l v w
@@ -145,7 +145,7 @@ pub record SpreadTo (w₀ : List ℕ) (goal v k l : ℕ) (w : List ℕ) : Type 0
 pub spread-starts : (w : List ℕ) (goal v k r : ℕ) → Held w → Chained Target (sheetIn w) w → Spreading (sheetIn w) goal (getD w (4368 + v) 0) k 0 v w → r ≡ getD w (2576 + v) 0 → SpreadTo w goal v k r w
 spread-starts w goal v k r h d p e =
     record {
-      beside = beside-none w;
+      outside = outside-none w;
       here = rw e (d .head-few v (p .task));
       own = λ g. ap (targetOf (sheetIn w)) e ∙ d .head-own v (p .task) (rw e at g);
       spreading = spread-hop (sheetIn w) w goal (getD w (4368 + v) 0) k 0 r v p (omega arith) (λ l g a b. d .head-none v (p .task) l (rw e at b));
@@ -154,34 +154,34 @@ spread-starts w goal v k r h d p e =
 -- what a turn asks
 pub spread-asks : {w₀ w : List ℕ} {goal v k l u : ℕ} → Held w₀ → SpreadTo w₀ goal v k l w → u < taskCount (sheetIn w) → Held w × ((u < taskCount (sheetIn w)) × Queued (taskCount (sheetIn w)) k w)
 spread-asks {w₀} {w} {goal} {v} {k} {l} {u} h p g =
-    (beside-held h (p .beside), (g, beside-own (λ (s : Sheet). Queued (taskCount s) k w) h (p .beside) (p .spreading .search .queued)))
+    (outside-held h (p .outside), (g, outside-own (λ (s : Sheet). Queued (taskCount s) k w) h (p .outside) (p .spreading .search .queued)))
 
 pub spread-source : {w₀ w : List ℕ} {goal v k l : ℕ} → Held w₀ → SpreadTo w₀ goal v k l w → l < linkCount (sheetIn w₀) → l < linkCount (sheetIn w)
-spread-source {w₀} {w} {goal} {v} {k} {l} h p g = rw (beside-sheet h (p .beside)) g
+spread-source {w₀} {w} {goal} {v} {k} {l} h p g = rw (outside-sheet h (p .outside)) g
 
 pub spread-closes : {w₀ w : List ℕ} {goal v k l u : ℕ} → Held w₀ → SpreadTo w₀ goal v k l w → l < linkCount (sheetIn w₀) → u ≡ sourceOf (sheetIn w) l → u ≡ goal → onCircle (sheetIn w₀) goal ≡ true
 spread-closes {w₀} {w} {goal} {v} {k} {l} {u} h p g e q =
-    spread-back (sheetIn w₀) (loaded-declared (h .loaded)) (h .few-tasks) goal (getD w₀ (4368 + v) 0) l v k w (p .spreading) g (p .own g) (ap (λ (s : Sheet). sourceOf s l) (sym (beside-sheet h (p .beside))) ∙ sym e ∙ q)
+    spread-back (sheetIn w₀) (loaded-declared (h .loaded)) (h .few-tasks) goal (getD w₀ (4368 + v) 0) l v k w (p .spreading) g (p .own g) (ap (λ (s : Sheet). sourceOf s l) (sym (outside-sheet h (p .outside))) ∙ sym e ∙ q)
 
 pub spread-goes : {w₀ w w′ : List ℕ} {goal v k k′ l u r : ℕ} → Held w₀ → Chained Target (sheetIn w₀) w₀ → SpreadTo w₀ goal v k l w → l < linkCount (sheetIn w₀) → u ≡ sourceOf (sheetIn w) l → (u ≡ goal → ⊥)
-    → Beside w w′ × Noted (taskCount (sheetIn w)) k u k′ w w′ → r ≡ getD w′ (2832 + l) 0 → SpreadTo w₀ goal v k′ r w′
+    → Outside w w′ × Noted (taskCount (sheetIn w)) k u k′ w w′ → r ≡ getD w′ (2832 + l) 0 → SpreadTo w₀ goal v k′ r w′
 spread-goes {w₀} {w} {w′} {goal} {v} {k} {k′} {l} {u} {r} h d p g e o t q =
-    let b : Beside w₀ w′ = beside-trans (p .beside) (t .0) in
+    let b : Outside w₀ w′ = outside-trans (p .outside) (t .0) in
     let c : Chained Target (sheetIn w₀) w′ = chain-here h d b in
     let to = p .own g in
-    let n : Noted (taskCount (sheetIn w₀)) k u k′ w w′ = beside-from (λ (s : Sheet). Noted (taskCount s) k u k′ w w′) h (p .beside) (t .1) in
+    let n : Noted (taskCount (sheetIn w₀)) k u k′ w w′ = outside-from (λ (s : Sheet). Noted (taskCount s) k u k′ w w′) h (p .outside) (t .1) in
     let m : Spreading (sheetIn w₀) goal (getD w₀ (4368 + v) 0) k′ (l + 1) v w′ =
-    spread-turns (sheetIn w₀) (loaded-declared (h .loaded)) (h .few-tasks) goal (getD w₀ (4368 + v) 0) l v k w (p .spreading) g to w′ (e ∙ ap (λ (s : Sheet). sourceOf s l) (beside-sheet h (p .beside))) o n in
+    spread-turns (sheetIn w₀) (loaded-declared (h .loaded)) (h .few-tasks) goal (getD w₀ (4368 + v) 0) l v k w (p .spreading) g to w′ (e ∙ ap (λ (s : Sheet). sourceOf s l) (outside-sheet h (p .outside))) o n in
     record {
-      beside = b;
+      outside = b;
       here = rw q (c .next-few l g);
       own = λ a. ap (targetOf (sheetIn w₀)) q ∙ c .next-own l g (rw q at a) ∙ to;
       spreading = spread-hop (sheetIn w₀) w′ goal (getD w₀ (4368 + v) 0) k′ (l + 1) r v m (let x = c .next-more l g in omega arith) (λ j a x y z. c .next-none l g j (omega arith) (rw q at y) (z ∙ sym to));
     }
 
-pub spread-less : {w₀ w w′ : List ℕ} {goal v k l r : ℕ} → Held w₀ → Chained Target (sheetIn w₀) w₀ → SpreadTo w₀ goal v k l w → l < linkCount (sheetIn w₀) → Beside w w′ → r ≡ getD w′ (2832 + l) 0 → l < r
+pub spread-less : {w₀ w w′ : List ℕ} {goal v k l r : ℕ} → Held w₀ → Chained Target (sheetIn w₀) w₀ → SpreadTo w₀ goal v k l w → l < linkCount (sheetIn w₀) → Outside w w′ → r ≡ getD w′ (2832 + l) 0 → l < r
 spread-less {w₀} {w} {w′} {goal} {v} {k} {l} {r} h d p g t e =
-    let c : Chained Target (sheetIn w₀) w′ = chain-here h d (beside-trans (p .beside) t) in
+    let c : Chained Target (sheetIn w₀) w′ = chain-here h d (outside-trans (p .outside) t) in
     let x = c .next-more l g in
     omega arith
 
@@ -215,14 +215,14 @@ emptied-more {w} t h d = record { at = λ u k. go u k (ℕ-discrete u t) }
 pub emptied-at : {n t : ℕ} {w : List ℕ} → Emptied t w → t ≡ n → Emptied n w
 emptied-at {n} {t} {w} d e = subst (λ (x : ℕ). Emptied x w) e d
 
-pub search-starts : {s : Sheet} {goal : ℕ} {w w′ : List ℕ} → taskCount s ≤ 256 → fixed ≤ length w → goal < taskCount s → Emptied (taskCount s) w → w′ ≡ pushed w 0 goal → Beside w w′ × Searched s goal 0 1 w′
+pub search-starts : {s : Sheet} {goal : ℕ} {w w′ : List ℕ} → taskCount s ≤ 256 → fixed ≤ length w → goal < taskCount s → Emptied (taskCount s) w → w′ ≡ pushed w 0 goal → Outside w w′ × Searched s goal 0 1 w′
 search-starts {s} {goal} {w} {w′} few long g blank e =
     let q : Queued (taskCount s) 0 w = queued-none (blank .at) in
     let free : 256 ≤ getD w (4368 + goal) 0 = omega (arith, blank .at goal g) in
     let there : getD (pushed w 0 goal) (4368 + goal) 0 ≡ 0 = push-here (taskCount s) 0 goal w few long g free q in
     let else : (t : ℕ) → t ≢ goal → getD (pushed w 0 goal) (4368 + t) 0 ≡ getD w (4368 + t) 0 = push-else (taskCount s) 0 goal w few long g free q in
-    subst (λ (x : List ℕ). Beside w x × Searched s goal 0 1 x) (sym e) (
-      push-beside (taskCount s) 0 goal w few long g free q,
+    subst (λ (x : List ℕ). Outside w x × Searched s goal 0 1 x) (sym e) (
+      push-outside (taskCount s) 0 goal w few long g free q,
       record {
         search = record {
           queued = queued-push (taskCount s) 0 goal w few long g free q;
@@ -273,29 +273,29 @@ module _ (s : Sheet) (w : List ℕ) (goal i k : ℕ) (declared : Declared s) (go
       go false e = e
 
 -- the same, for the sheet that stands in a work area
-pub goal-first : {w w₁ w₂ : List ℕ} {goal : ℕ} → Held w → goal < taskCount (sheetIn w) → Beside w w₁ × Emptied (taskCount (sheetIn w)) w₁ → w₂ ≡ pushed w₁ 0 goal → Beside w w₂ × Searched (sheetIn w) goal 0 1 w₂
+pub goal-first : {w w₁ w₂ : List ℕ} {goal : ℕ} → Held w → goal < taskCount (sheetIn w) → Outside w w₁ × Emptied (taskCount (sheetIn w)) w₁ → w₂ ≡ pushed w₁ 0 goal → Outside w w₂ × Searched (sheetIn w) goal 0 1 w₂
 goal-first {w} {w₁} {w₂} {goal} h g d e =
-    let q = search-starts {s = sheetIn w} (h .few-tasks) (beside-held h (d .0) .long) g (d .1) e in
-    (beside-trans (d .0) (q .0), q .1)
+    let q = search-starts {s = sheetIn w} (h .few-tasks) (outside-held h (d .0) .long) g (d .1) e in
+    (outside-trans (d .0) (q .0), q .1)
 
-pub goal-asks : {w w₂ : List ℕ} {goal : ℕ} → Held w → Chained Target (sheetIn w) w → goal < taskCount (sheetIn w) → Beside w w₂ × Searched (sheetIn w) goal 0 1 w₂
+pub goal-asks : {w w₂ : List ℕ} {goal : ℕ} → Held w → Chained Target (sheetIn w) w → goal < taskCount (sheetIn w) → Outside w w₂ × Searched (sheetIn w) goal 0 1 w₂
     → Held w₂ × (Chained Target (sheetIn w₂) w₂ × ((goal < taskCount (sheetIn w₂)) × Searched (sheetIn w₂) goal 0 1 w₂))
-goal-asks {w} {w₂} {goal} h c g d = (beside-held h (d .0), beside-own (λ (s : Sheet). Chained Target s w₂ × ((goal < taskCount s) × Searched s goal 0 1 w₂)) h (d .0) (chain-here h c (d .0), (g, d .1)))
+goal-asks {w} {w₂} {goal} h c g d = (outside-held h (d .0), outside-own (λ (s : Sheet). Chained Target s w₂ × ((goal < taskCount s) × Searched s goal 0 1 w₂)) h (d .0) (chain-here h c (d .0), (g, d .1)))
 
-pub goal-ends : {w w₂ w₃ : List ℕ} (goal : ℕ) {r : Bool} → Held w → Beside w w₂ → Beside w₂ w₃ × (r ≡ onCircle (sheetIn w₂) goal) → Beside w w₃ × (r ≡ onCircle (sheetIn w) goal)
-goal-ends {w} {w₂} {w₃} goal {r} h b d = (beside-trans b (d .0), beside-from (λ (s : Sheet). r ≡ onCircle s goal) h b (d .1))
+pub goal-ends : {w w₂ w₃ : List ℕ} (goal : ℕ) {r : Bool} → Held w → Outside w w₂ → Outside w₂ w₃ × (r ≡ onCircle (sheetIn w₂) goal) → Outside w w₃ × (r ≡ onCircle (sheetIn w) goal)
+goal-ends {w} {w₂} {w₃} goal {r} h b d = (outside-trans b (d .0), outside-from (λ (s : Sheet). r ≡ onCircle s goal) h b (d .1))
 
 pub look-index : {s : Sheet} {goal i k : ℕ} {w : List ℕ} → Searched s goal i k w → i < k → i < taskCount s
 look-index p h = omega (arith, queued-few (p .search .queued))
 
-pub look-asks : {w₀ w : List ℕ} {goal i k : ℕ} → Held w₀ → Chained Target (sheetIn w₀) w₀ → Beside w₀ w → i < k → Searched (sheetIn w₀) goal i k w → Held w × (Chained Target (sheetIn w) w × ((i < k) × Searched (sheetIn w) goal i k w))
-look-asks {w₀} {w} {goal} {i} {k} h c b g p = (beside-held h b, beside-own (λ (s : Sheet). Chained Target s w × ((i < k) × Searched s goal i k w)) h b (chain-here h c b, (g, p)))
+pub look-asks : {w₀ w : List ℕ} {goal i k : ℕ} → Held w₀ → Chained Target (sheetIn w₀) w₀ → Outside w₀ w → i < k → Searched (sheetIn w₀) goal i k w → Held w × (Chained Target (sheetIn w) w × ((i < k) × Searched (sheetIn w) goal i k w))
+look-asks {w₀} {w} {goal} {i} {k} h c b g p = (outside-held h b, outside-own (λ (s : Sheet). Chained Target s w × ((i < k) × Searched s goal i k w)) h b (chain-here h c b, (g, p)))
 
-pub look-back : {w₀ w w′ : List ℕ} {goal i : ℕ} {r : Spread} → Held w₀ → Beside w₀ w → r ≡ Back → SpreadIs (sheetIn w) goal i w′ r → true ≡ onCircle (sheetIn w₀) goal
-look-back {w₀} {w} {w′} {goal} {i} {r} h b e p = sym (beside-from (λ (s : Sheet). onCircle s goal ≡ true) h b (p .back e))
+pub look-back : {w₀ w w′ : List ℕ} {goal i : ℕ} {r : Spread} → Held w₀ → Outside w₀ w → r ≡ Back → SpreadIs (sheetIn w) goal i w′ r → true ≡ onCircle (sheetIn w₀) goal
+look-back {w₀} {w} {w′} {goal} {i} {r} h b e p = sym (outside-from (λ (s : Sheet). onCircle s goal ≡ true) h b (p .back e))
 
-pub look-on : {w₀ w w′ : List ℕ} {goal i k : ℕ} {r : Spread} → Held w₀ → Beside w₀ w → r ≡ On k → SpreadIs (sheetIn w) goal i w′ r → Searched (sheetIn w₀) goal i k w′
-look-on {w₀} {w} {w′} {goal} {i} {k} {r} h b e p = beside-from (λ (s : Sheet). Searched s goal i k w′) h b (p .on k e)
+pub look-on : {w₀ w w′ : List ℕ} {goal i k : ℕ} {r : Spread} → Held w₀ → Outside w₀ w → r ≡ On k → SpreadIs (sheetIn w) goal i w′ r → Searched (sheetIn w₀) goal i k w′
+look-on {w₀} {w} {w′} {goal} {i} {k} {r} h b e p = outside-from (λ (s : Sheet). Searched s goal i k w′) h b (p .on k e)
 
 pub spread-is-back : {s : Sheet} {goal i : ℕ} {w : List ℕ} → onCircle s goal ≡ true → SpreadIs s goal i w Back
 spread-is-back e = record { back = λ q. e; on = λ k q. let z : _≡_ {A = ℕ} 0 1 = cc in absurd (omega arith) }
@@ -311,17 +311,17 @@ pub look-is : {s : Sheet} {goal i j : ℕ} {w′ : List ℕ} {r : Spread} → j 
 look-is {s} {goal} {i} {j} {w′} {r} e p = subst (λ (x : ℕ). SpreadIs s goal (x + 1) w′ r) e p
 
 -- the lowest task on a circle
-pub find-asks : {w₀ w : List ℕ} {t : ℕ} → Held w₀ → Chained Target (sheetIn w₀) w₀ → Beside w₀ w → t < taskCount (sheetIn w₀) → Held w × (Chained Target (sheetIn w) w × (t < taskCount (sheetIn w)))
-find-asks {w₀} {w} {t} h c b g = (beside-held h b, beside-own (λ (s : Sheet). Chained Target s w × (t < taskCount s)) h b (chain-here h c b, g))
+pub find-asks : {w₀ w : List ℕ} {t : ℕ} → Held w₀ → Chained Target (sheetIn w₀) w₀ → Outside w₀ w → t < taskCount (sheetIn w₀) → Held w × (Chained Target (sheetIn w) w × (t < taskCount (sheetIn w)))
+find-asks {w₀} {w} {t} h c b g = (outside-held h b, outside-own (λ (s : Sheet). Chained Target s w × (t < taskCount s)) h b (chain-here h c b, g))
 
-pub find-hit : {w₀ w : List ℕ} (t : ℕ) {r : Bool} → Held w₀ → Beside w₀ w → t < taskCount (sheetIn w₀) → first t (onCircle (sheetIn w₀)) ≡ none → r ≡ onCircle (sheetIn w) t → r ≡ true → some t ≡ circle (sheetIn w₀)
+pub find-hit : {w₀ w : List ℕ} (t : ℕ) {r : Bool} → Held w₀ → Outside w₀ w → t < taskCount (sheetIn w₀) → first t (onCircle (sheetIn w₀)) ≡ none → r ≡ onCircle (sheetIn w) t → r ≡ true → some t ≡ circle (sheetIn w₀)
 unfolding circle
 find-hit {w₀} {w} t {r} h b g f e q =
-    let on : onCircle (sheetIn w₀) t ≡ true = beside-from (λ (s : Sheet). onCircle s t ≡ true) h b (sym e ∙ q) in
+    let on : onCircle (sheetIn w₀) t ≡ true = outside-from (λ (s : Sheet). onCircle s t ≡ true) h b (sym e ∙ q) in
     sym (first-found (taskCount (sheetIn w₀)) (onCircle (sheetIn w₀)) t (first-none t (onCircle (sheetIn w₀)) f) on g)
 
-pub find-miss : {w₀ w : List ℕ} (t : ℕ) {r : Bool} → Held w₀ → Beside w₀ w → first t (onCircle (sheetIn w₀)) ≡ none → r ≡ onCircle (sheetIn w) t → r ≡ false → first (t + 1) (onCircle (sheetIn w₀)) ≡ none
-find-miss {w₀} {w} t {r} h b f e q = first-passed t (onCircle (sheetIn w₀)) f (beside-from (λ (s : Sheet). onCircle s t ≡ false) h b (sym e ∙ q))
+pub find-miss : {w₀ w : List ℕ} (t : ℕ) {r : Bool} → Held w₀ → Outside w₀ w → first t (onCircle (sheetIn w₀)) ≡ none → r ≡ onCircle (sheetIn w) t → r ≡ false → first (t + 1) (onCircle (sheetIn w₀)) ≡ none
+find-miss {w₀} {w} t {r} h b f e q = first-passed t (onCircle (sheetIn w₀)) f (outside-from (λ (s : Sheet). onCircle s t ≡ false) h b (sym e ∙ q))
 
 pub find-done : (s : Sheet) (t : ℕ) → first t (onCircle s) ≡ none → t ≡ taskCount s → none ≡ circle s
 unfolding circle

@@ -11,8 +11,8 @@ use Rattle.sheet.specs.Sheet.{Sheet, taskCount}
 use Rattle.sheet.specs.Tables.{sheetIn}
 use Rattle.graph.specs.Graph.{onCircle, circle, level}
 use Rattle.chains.specs.Chains.{Chained}
+use Rattle.chains.specs.Frames.{Only}
 use Rattle.chains.specs.declared.End.the-variants.{Target}
-use Rattle.peeling.specs.Words.{Kept}
 use Rattle.peeling.specs.Peeling.{Searched}
 use Rattle.levelling.specs.declared.search.Spread.{Spread}
 use Rattle.levelling.specs.declared.search.Spread.the-variants.{Back, On}
@@ -26,7 +26,7 @@ pub record Levelled (s : Sheet) (w : List ℕ) : Type 0 where
 pub record LevelsAre (w w′ : List ℕ) (r : Found) : Type 0 where
   pub answer : foundOf r ≡ circle (sheetIn w)
   pub levels : circle (sheetIn w) ≡ none → Levelled (sheetIn w) w′
-  pub kept : Kept w w′
+  pub kept : Only 2320 4624 w w′
 
 -- after the links into one more task of the search, of which i are looked at
 pub record SpreadIs (s : Sheet) (goal i : ℕ) (w : List ℕ) (r : Spread) : Type 0 where

@@ -7,7 +7,7 @@ ghost use Rattle.sheet.specs.Tables.{sheetIn};
 ghost use Rattle.graph.specs.Graph.{onCircle, circle};
 ghost use Rattle.chains.specs.Chains.{Chained};
 ghost use Rattle.chains.specs.declared.End.the-variants.{Target};
-ghost use Rattle.peeling.specs.Words.{Held, Beside, Queued};
+ghost use Rattle.peeling.specs.Words.{Held, Outside, Queued};
 ghost use Rattle.peeling.specs.Peeling.{Emptied, Noted, Searched, Spreading};
 ghost use Rattle.words.specs.Found.{foundOf};
 ghost use Rattle.levelling.specs.Found.{SpreadIs};
@@ -27,7 +27,7 @@ fn note(w: &mut [u32], k: usize, u: usize) -> usize
     requires { ⌜ Held (now w) ⌝ }
     requires { ⌜ u < taskCount (sheetIn (now w)) ⌝ }
     requires { ⌜ Queued (taskCount (sheetIn (now w))) k (now w) ⌝ }
-    ensures { λ r. ⌜ Beside (now (w .entry)) (now (w .exit)) × Noted (taskCount (sheetIn (now (w .entry)))) k u r (now (w .entry)) (now (w .exit)) ⌝ }
+    ensures { λ r. ⌜ Outside (now (w .entry)) (now (w .exit)) × Noted (taskCount (sheetIn (now (w .entry)))) k u r (now (w .entry)) (now (w .exit)) ⌝ }
 {
     if workspace::word(w, 4368 + u) < 256 {
         return k;
@@ -41,7 +41,7 @@ fn walk_into(w: &mut [u32], goal: usize, k: usize, v: usize) -> Spread
     requires { ⌜ Held (now w) ⌝ }
     requires { ⌜ Chained Target (sheetIn (now w)) (now w) ⌝ }
     requires { ⌜ Spreading (sheetIn (now w)) goal (getD (now w) (4368 + v) 0) k 0 v (now w) ⌝ }
-    ensures { λ r. ⌜ Beside (now (w .entry)) (now (w .exit)) × SpreadIs (sheetIn (now (w .entry))) goal (getD (now (w .entry)) (4368 + v) 0 + 1) (now (w .exit)) r ⌝ }
+    ensures { λ r. ⌜ Outside (now (w .entry)) (now (w .exit)) × SpreadIs (sheetIn (now (w .entry))) goal (getD (now (w .entry)) (4368 + v) 0 + 1) (now (w .exit)) r ⌝ }
 {
     let m = tables::links(w);
     let mut q = k;
@@ -63,7 +63,7 @@ fn look(w: &mut [u32], goal: usize, i: usize, k: usize) -> Spread
     requires { ⌜ Chained Target (sheetIn (now w)) (now w) ⌝ }
     requires { ⌜ i < k ⌝ }
     requires { ⌜ Searched (sheetIn (now w)) goal i k (now w) ⌝ }
-    ensures { λ r. ⌜ Beside (now (w .entry)) (now (w .exit)) × SpreadIs (sheetIn (now (w .entry))) goal (i + 1) (now (w .exit)) r ⌝ }
+    ensures { λ r. ⌜ Outside (now (w .entry)) (now (w .exit)) × SpreadIs (sheetIn (now (w .entry))) goal (i + 1) (now (w .exit)) r ⌝ }
 {
     let v = workspace::word(w, 4112 + i);
     walk_into(w, goal, k, v)
@@ -75,7 +75,7 @@ fn look_all(w: &mut [u32], goal: usize) -> bool
     requires { ⌜ Chained Target (sheetIn (now w)) (now w) ⌝ }
     requires { ⌜ goal < taskCount (sheetIn (now w)) ⌝ }
     requires { ⌜ Searched (sheetIn (now w)) goal 0 1 (now w) ⌝ }
-    ensures { λ r. ⌜ Beside (now (w .entry)) (now (w .exit)) × (r ≡ onCircle (sheetIn (now (w .entry))) goal) ⌝ }
+    ensures { λ r. ⌜ Outside (now (w .entry)) (now (w .exit)) × (r ≡ onCircle (sheetIn (now (w .entry))) goal) ⌝ }
 {
     let mut k: usize = 1;
     let mut i: usize = 0;
@@ -95,7 +95,7 @@ fn look_all(w: &mut [u32], goal: usize) -> bool
 
 fn empty(w: &mut [u32])
     requires { ⌜ Held (now w) ⌝ }
-    ensures { λ _. ⌜ Beside (now (w .entry)) (now (w .exit)) × Emptied (taskCount (sheetIn (now (w .entry)))) (now (w .exit)) ⌝ }
+    ensures { λ _. ⌜ Outside (now (w .entry)) (now (w .exit)) × Emptied (taskCount (sheetIn (now (w .entry)))) (now (w .exit)) ⌝ }
 {
     let n = tables::tasks(w);
     let mut t: usize = 0;
@@ -110,7 +110,7 @@ fn on_circle(w: &mut [u32], goal: usize) -> bool
     requires { ⌜ Held (now w) ⌝ }
     requires { ⌜ Chained Target (sheetIn (now w)) (now w) ⌝ }
     requires { ⌜ goal < taskCount (sheetIn (now w)) ⌝ }
-    ensures { λ r. ⌜ Beside (now (w .entry)) (now (w .exit)) × (r ≡ onCircle (sheetIn (now (w .entry))) goal) ⌝ }
+    ensures { λ r. ⌜ Outside (now (w .entry)) (now (w .exit)) × (r ≡ onCircle (sheetIn (now (w .entry))) goal) ⌝ }
 {
     empty(w);
     queue::push(w, 0, goal);
@@ -120,7 +120,7 @@ fn on_circle(w: &mut [u32], goal: usize) -> bool
 pub fn find(w: &mut [u32]) -> Found
     requires { ⌜ Held (now w) ⌝ }
     requires { ⌜ Chained Target (sheetIn (now w)) (now w) ⌝ }
-    ensures { λ r. ⌜ Beside (now (w .entry)) (now (w .exit)) × (foundOf r ≡ circle (sheetIn (now (w .entry)))) ⌝ }
+    ensures { λ r. ⌜ Outside (now (w .entry)) (now (w .exit)) × (foundOf r ≡ circle (sheetIn (now (w .entry)))) ⌝ }
 {
     let n = tables::tasks(w);
     let mut t: usize = 0;

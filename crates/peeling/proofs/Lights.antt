@@ -19,7 +19,7 @@ use Rattle.graph.specs.Graph.{levelBy}
 use Rattle.peeling.specs.Words.{Queued, inQueue, pushed}
 use Rattle.peeling.specs.Peeling.{dueBy, gaveBy, levelIn, Peel}
 use Rattle.graph.proofs.Reaches.{Declared}
-use Rattle.peeling.proofs.Pushes.{queued-few, queued-room, queued-push, push-here, push-else, push-low}
+use Rattle.peeling.proofs.Pushes.{queued-few, queued-room, queued-push, apart, push-here, push-else, push-low}
 
 -- a link by what it says of t
 module _ (s : Sheet) (c : ℕ → Bool) (t l : ℕ) where
@@ -145,7 +145,7 @@ module _ (s : Sheet) (w : List ℕ) (declared : Declared s) (few : taskCount s �
         go (no h) = omega arith
 
     not-u : (t : ℕ) → getD w (4368 + t) 0 < 256 → t ≢ u
-    not-u t h e = let x : getD w (4368 + t) 0 ≡ getD w (4368 + u) 0 = ap (λ (z : ℕ). getD w (4368 + z) 0) e in absurd (omega (arith, light-free))
+    not-u t h = apart w t u h light-free
 
     few-gone : i ≤ 256
     few-gone = omega (arith, p .early, queued-few (p .queued))
@@ -254,11 +254,8 @@ module _ (s : Sheet) (w : List ℕ) (declared : Declared s) (few : taskCount s �
     low-words : (j : ℕ) → j < 4112 → getD queue-words j 0 ≡ getD w j 0
     low-words = push-low (taskCount s) k u w few long u-in free (p .queued)
 
-    other-task : (t : ℕ) → getD w (4368 + t) 0 < 256 → t ≢ u
-    other-task t h q = let x : getD w (4368 + t) 0 ≡ getD w (4368 + u) 0 = ap (λ (z : ℕ). getD w (4368 + z) 0) q in absurd (omega arith)
-
     old-place : (t : ℕ) → getD w (4368 + t) 0 < 256 → getD queue-words (4368 + t) 0 ≡ getD w (4368 + t) 0
-    old-place t h = else-place t (other-task t h)
+    old-place t h = else-place t (apart w t u h free)
 
     new-place : (t : ℕ) → getD queue-words (4368 + t) 0 < i → (t ≢ u) × (getD w (4368 + t) 0 < i)
     new-place t h = go (ℕ-discrete t u)

@@ -11,10 +11,11 @@ use lib.Seq.{getD-set-same, getD-set-other}
 use lib.Dec.{ltb}
 use Rattle.workspace.specs.Area.{fixed}
 use Rattle.folds.specs.Folds.{bit}
+use Rattle.folds.proofs.Tests.{bit-le}
 use Rattle.folds.proofs.Laws.{sum-le, sum-point}
-use Rattle.peeling.specs.Words.{Beside, inQueue, Queued, pushed}
-use Rattle.graph.proofs.Reaches.{sum-less, bit-le}
-use Rattle.peeling.proofs.Frames.{beside-none, beside-set}
+use Rattle.peeling.specs.Words.{Outside, inQueue, Queued, pushed}
+use Rattle.graph.proofs.Reaches.{sum-less}
+use Rattle.peeling.proofs.Frames.{outside-none, outside-set}
 
 pub in-queue : (w : List ℕ) (t : ℕ) → getD w (4368 + t) 0 < 256 → inQueue w t ≡ 1
 unfolding inQueue
@@ -23,6 +24,10 @@ in-queue w t h = rw (lt-ltb (getD w (4368 + t) 0) 256 h)
 pub off-queue : (w : List ℕ) (t : ℕ) → 256 ≤ getD w (4368 + t) 0 → inQueue w t ≡ 0
 unfolding inQueue
 off-queue w t h = rw (le-ltb (getD w (4368 + t) 0) 256 h)
+
+-- a task of the queue is not one beside it
+pub apart : (w : List ℕ) (t u : ℕ) → getD w (4368 + t) 0 < 256 → 256 ≤ getD w (4368 + u) 0 → t ≢ u
+apart w t u h g e = let x : getD w (4368 + t) 0 ≡ getD w (4368 + u) 0 = ap (λ (z : ℕ). getD w (4368 + z) 0) e in absurd (omega arith)
 
 in-queue-le : (w : List ℕ) (t : ℕ) → inQueue w t ≤ 1
 unfolding inQueue
@@ -64,9 +69,6 @@ module _ (n k u : ℕ) (w : List ℕ) (few : n ≤ 256) (long : fixed ≤ length
   place-else : (t : ℕ) → t ≢ u → getD new (4368 + t) 0 ≡ getD w (4368 + t) 0
   place-else t h = let r = room in getD-set-other (set w (4112 + k) u) (4368 + u) (4368 + t) k 0 (λ x. h (omega arith)) ∙ getD-set-other w (4112 + k) (4368 + t) u 0 (omega arith)
 
-  not-u : (t : ℕ) → getD w (4368 + t) 0 < 256 → t ≢ u
-  not-u t h e = let x : getD w (4368 + t) 0 ≡ getD w (4368 + u) 0 = ap (λ (y : ℕ). getD w (4368 + y) 0) e in absurd (omega arith)
-
   task′ : (j : ℕ) → j < k + 1 → Dec (j ≡ k) → getD new (4112 + j) 0 < n
   task′ j h (yes e) = rw (e, queue-here) u-in
   task′ j h (no e) = rw (queue-else j (omega arith)) (q .task j (omega arith))
@@ -76,7 +78,7 @@ module _ (n k u : ℕ) (w : List ℕ) (few : n ≤ 256) (long : fixed ≤ length
   place′ j h (no e) =
       let r = room in
       let old : getD w (4368 + getD w (4112 + j) 0) 0 ≡ j = q .place j (omega arith) in
-      ap (λ (x : ℕ). getD new (4368 + x) 0) (queue-else j (omega arith)) ∙ place-else (getD w (4112 + j) 0) (not-u (getD w (4112 + j) 0) (omega arith)) ∙ old
+      ap (λ (x : ℕ). getD new (4368 + x) 0) (queue-else j (omega arith)) ∙ place-else (getD w (4112 + j) 0) (apart w (getD w (4112 + j) 0) u (omega arith) free) ∙ old
 
   few′ : (t : ℕ) → t < n → getD new (4368 + t) 0 < 256 → Dec (t ≡ u) → getD new (4368 + t) 0 < k + 1
   few′ t h l (yes e) = rw (e, place-here) (omega arith)
@@ -122,6 +124,6 @@ module _ (n k u : ℕ) (w : List ℕ) (few : n ≤ 256) (long : fixed ≤ length
   unfolding pushed
   push-low i h = getD-set-other (set w (4112 + k) u) (4368 + u) i k 0 (omega arith) ∙ getD-set-other w (4112 + k) i u 0 (omega arith)
 
-  pub push-beside : Beside w (pushed w k u)
+  pub push-outside : Outside w (pushed w k u)
   unfolding pushed
-  push-beside = let r = room in beside-set (4368 + u) k (omega arith) (omega arith) (beside-set (4112 + k) u (omega arith) (omega arith) (beside-none w))
+  push-outside = let r = room in outside-set (4368 + u) k (omega arith) (omega arith) (outside-set (4112 + k) u (omega arith) (omega arith) (outside-none w))

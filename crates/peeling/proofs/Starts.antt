@@ -1,6 +1,6 @@
 -- The beginning of peeling: blank tables, the links counted at their sources, and the tasks without links in the queue.
-use Prim.Native.Nat.{ℕ, _+_, _-_, _≤_, _<_}
-use mathlib.Core.Bool.{Bool, true, false, not, true≢false}
+use Prim.Native.Nat.{ℕ, _+_, _≤_, _<_}
+use mathlib.Core.Bool.{Bool, false, not, true≢false}
 use mathlib.Core.Path.{_≡_, refl, ap, sym, _∙_, subst}
 use mathlib.Core.Logic.{_≢_}
 use mathlib.Core.List.{List}
@@ -12,15 +12,16 @@ use lib.Seq.{getD-set-same, getD-set-other}
 use lib.Dec.{eqb}
 use Rattle.workspace.specs.Area.{fixed}
 use Rattle.folds.specs.Folds.{both, sum}
+use Rattle.folds.proofs.Tests.{bit-le}
 use Rattle.folds.proofs.Loops.{sum-zero, sum-one}
 use Rattle.folds.proofs.Laws.{sum-le, sum-cong, sum-zeros, greatest-le}
 use Rattle.sheet.specs.Sheet.{Sheet, taskCount, linkCount, sourceOf, targetOf}
 use Rattle.sheet.specs.Tables.{sheetIn}
-use Rattle.peeling.specs.Words.{Held, Beside, Queued, inQueue, pushed, doneBy}
+use Rattle.peeling.specs.Words.{Held, Outside, Queued, inQueue, pushed, doneBy}
 use Rattle.peeling.specs.Peeling.{dueBy, gaveBy, never, Peeled, Counted, Filled}
-use Rattle.graph.proofs.Reaches.{Declared, bit-le}
-use Rattle.peeling.proofs.Frames.{beside-none, beside-trans, beside-level, beside-set, beside-held, beside-own, beside-from}
-use Rattle.peeling.proofs.Pushes.{off-queue, queued-room, push-else, push-beside}
+use Rattle.graph.proofs.Reaches.{Declared}
+use Rattle.peeling.proofs.Frames.{outside-none, outside-trans, outside-level, outside-set, outside-held, outside-own, outside-from}
+use Rattle.peeling.proofs.Pushes.{off-queue, queued-room, push-else, push-outside}
 use Rattle.peeling.proofs.Lights.{due-unlit, due-other, due-cong, gave-unlit, peel-same, peel-push}
 
 -- blank tables
@@ -45,8 +46,8 @@ blank-more {s} {w} t h long d = record { level = λ u k. level u k (ℕ-discrete
     place u k (yes e) = rw e (getD-set-same (set (set w (2320 + t) 0) (3856 + t) 0) (4368 + t) 256 0 (simp length-set (omega arith)))
     place u k (no e) = getD-set-other (set (set w (2320 + t) 0) (3856 + t) 0) (4368 + t) (4368 + u) 256 0 (λ x. e (omega arith)) ∙ getD-set-other (set w (2320 + t) 0) (3856 + t) (4368 + u) 0 0 (omega arith) ∙ getD-set-other w (2320 + t) (4368 + u) 0 0 (omega arith) ∙ d .place u (omega arith)
 
-pub blank-beside : {w₀ w : List ℕ} (t : ℕ) → t < 256 → Beside w₀ w → Beside w₀ (set (set (set w (2320 + t) 0) (3856 + t) 0) (4368 + t) 256)
-blank-beside t h b = beside-set (4368 + t) 256 (omega arith) (omega arith) (beside-set (3856 + t) 0 (omega arith) (omega arith) (beside-level t 0 h b))
+pub blank-outside : {w₀ w : List ℕ} (t : ℕ) → t < 256 → Outside w₀ w → Outside w₀ (set (set (set w (2320 + t) 0) (3856 + t) 0) (4368 + t) 256)
+blank-outside t h b = outside-set (4368 + t) 256 (omega arith) (omega arith) (outside-set (3856 + t) 0 (omega arith) (omega arith) (outside-level t 0 h b))
 
 pub counted-at : {s : Sheet} {n n′ l l′ : ℕ} {w : List ℕ} → Counted s n l w → n ≡ n′ → l ≡ l′ → Counted s n′ l′ w
 counted-at {s} {n} {n′} {l} {l′} {w} d e f = subst (λ (x : ℕ). Counted s n′ x w) f (subst (λ (x : ℕ). Counted s x l w) e d)
@@ -66,13 +67,13 @@ module _ (s : Sheet) (w : List ℕ) (l : ℕ) (declared : Declared s) (few : tas
       let e : getD w (3856 + u) 0 ≡ getD w (3856 + sourceOf s l) 0 = ap (λ (z : ℕ). getD w (3856 + z) 0) eu in
       omega (arith, p .degree (sourceOf s l) (declared .source l l-in), sum-le l 1 (dueBy s never (sourceOf s l)) (λ j h. due-le s never (sourceOf s l) j))
 
-  pub counted : {u d e : ℕ} (w′ : List ℕ) → u ≡ sourceOf s l → d ≡ getD w (3856 + u) 0 → e ≡ d + 1 → w′ ≡ set w (3856 + u) e → Beside w w′ × Counted s (taskCount s) (l + 1) w′
+  pub counted : {u d e : ℕ} (w′ : List ℕ) → u ≡ sourceOf s l → d ≡ getD w (3856 + u) 0 → e ≡ d + 1 → w′ ≡ set w (3856 + u) e → Outside w w′ × Counted s (taskCount s) (l + 1) w′
   counted {u} {d} {e} w′ eu ed ee ew =
       let h = declared .source l l-in in
       let new : w′ ≡ set w (3856 + sourceOf s l) e = ew ∙ ap (λ (z : ℕ). set w (3856 + z) e) eu in
       let e-is : e ≡ getD w (3856 + sourceOf s l) 0 + 1 = ee ∙ ap (λ (z : ℕ). z + 1) (ed ∙ ap (λ (z : ℕ). getD w (3856 + z) 0) eu) in
-      subst (λ (x : List ℕ). Beside w x × Counted s (taskCount s) (l + 1) x) (sym new) (
-        beside-set (3856 + sourceOf s l) e (omega arith) (omega arith) (beside-none w),
+      subst (λ (x : List ℕ). Outside w x × Counted s (taskCount s) (l + 1) x) (sym new) (
+        outside-set (3856 + sourceOf s l) e (omega arith) (omega arith) (outside-none w),
         record {
           level = λ t k. getD-set-other w (3856 + sourceOf s l) (2320 + t) e 0 (omega arith) ∙ p .level t k;
           degree = λ t k. at t k e-is (ℕ-discrete t (sourceOf s l));
@@ -128,10 +129,10 @@ module _ (s : Sheet) (w : List ℕ) (k t : ℕ) (declared : Declared s) (few : t
   pub offer-room : k < 256
   offer-room = omega (arith, queued-room t (p .peeled .peel .queued) t-in (p .rest t (omega arith) t-in))
 
-  pub offer-stays : {d : ℕ} → d ≡ getD w (3856 + t) 0 → (d ≡ 0 → ⊥) → Beside w w × Filled s k (t + 1) w
+  pub offer-stays : {d : ℕ} → d ≡ getD w (3856 + t) 0 → (d ≡ 0 → ⊥) → Outside w w × Filled s k (t + 1) w
   offer-stays {d} e n =
       let q = p .peeled .peel in (
-        beside-none w,
+        outside-none w,
         record {
           peeled = record { peel = record { queued = q .queued; early = q .early; lit = q .lit; degree = q .degree; gathered = q .gathered; ready = q .ready; waits = λ u h x g. wait u h x g (ℕ-discrete u t); falls = q .falls; solved = q .solved; bounded = q .bounded } };
           rest = λ u a h. p .rest u (omega arith) h;
@@ -142,12 +143,12 @@ module _ (s : Sheet) (w : List ℕ) (k t : ℕ) (declared : Declared s) (few : t
       wait u h x g (yes q) = absurd (n (e ∙ ap (λ (z : ℕ). getD w (3856 + z) 0) (sym q) ∙ g))
       wait u h x g (no q) = p .peeled .peel .waits u h (λ a b. x (omega arith) b) g
 
-  pub offer-goes : {d : ℕ} (w′ : List ℕ) → d ≡ getD w (3856 + t) 0 → d ≡ 0 → w′ ≡ pushed w k t → Beside w w′ × Filled s (k + 1) (t + 1) w′
+  pub offer-goes : {d : ℕ} (w′ : List ℕ) → d ≡ getD w (3856 + t) 0 → d ≡ 0 → w′ ≡ pushed w k t → Outside w w′ × Filled s (k + 1) (t + 1) w′
   offer-goes {d} w′ e n ew =
       let q = p .peeled .peel in
       let free : 256 ≤ getD w (4368 + t) 0 = p .rest t (omega arith) t-in in
-      subst (λ (x : List ℕ). Beside w x × Filled s (k + 1) (t + 1) x) (sym ew) (
-        push-beside (taskCount s) k t w few long t-in free (q .queued),
+      subst (λ (x : List ℕ). Outside w x × Filled s (k + 1) (t + 1) x) (sym ew) (
+        push-outside (taskCount s) k t w few long t-in free (q .queued),
         record {
           peeled = record {
             peel = peel-same (doneBy s 0 w) (doneBy s 0 (pushed w k t)) (λ l h. done-none s w l ∙ sym (done-none s (pushed w k t) l))
@@ -163,14 +164,14 @@ filled-done p h =
     record { peel = record { queued = q .queued; early = q .early; lit = q .lit; degree = q .degree; gathered = q .gathered; ready = q .ready; waits = λ u a x g. q .waits u a (λ b c. absurd (omega arith)) g; falls = q .falls; solved = q .solved; bounded = q .bounded } }
 
 -- the same, for the sheet that stands in a work area
-pub count-asks : {w₀ w : List ℕ} {l : ℕ} → Held w₀ → Beside w₀ w → l < linkCount (sheetIn w₀) → Counted (sheetIn w₀) (taskCount (sheetIn w₀)) l w → Held w × ((l < linkCount (sheetIn w)) × Counted (sheetIn w) (taskCount (sheetIn w)) l w)
-count-asks {w₀} {w} {l} h b g d = (beside-held h b, beside-own (λ (s : Sheet). (l < linkCount s) × Counted s (taskCount s) l w) h b (g, d))
+pub count-asks : {w₀ w : List ℕ} {l : ℕ} → Held w₀ → Outside w₀ w → l < linkCount (sheetIn w₀) → Counted (sheetIn w₀) (taskCount (sheetIn w₀)) l w → Held w × ((l < linkCount (sheetIn w)) × Counted (sheetIn w) (taskCount (sheetIn w)) l w)
+count-asks {w₀} {w} {l} h b g d = (outside-held h b, outside-own (λ (s : Sheet). (l < linkCount s) × Counted s (taskCount s) l w) h b (g, d))
 
-pub count-turns : {w₀ w w′ : List ℕ} {l : ℕ} → Held w₀ → Beside w₀ w → Beside w w′ × Counted (sheetIn w) (taskCount (sheetIn w)) l w′ → Beside w₀ w′ × Counted (sheetIn w₀) (taskCount (sheetIn w₀)) l w′
-count-turns {w₀} {w} {w′} {l} h b d = (beside-trans b (d .0), beside-from (λ (s : Sheet). Counted s (taskCount s) l w′) h b (d .1))
+pub count-turns : {w₀ w w′ : List ℕ} {l : ℕ} → Held w₀ → Outside w₀ w → Outside w w′ × Counted (sheetIn w) (taskCount (sheetIn w)) l w′ → Outside w₀ w′ × Counted (sheetIn w₀) (taskCount (sheetIn w₀)) l w′
+count-turns {w₀} {w} {w′} {l} h b d = (outside-trans b (d .0), outside-from (λ (s : Sheet). Counted s (taskCount s) l w′) h b (d .1))
 
-pub fill-asks : {w₀ w : List ℕ} {k t : ℕ} → Held w₀ → Beside w₀ w → t < taskCount (sheetIn w₀) → Filled (sheetIn w₀) k t w → Held w × ((t < taskCount (sheetIn w)) × Filled (sheetIn w) k t w)
-fill-asks {w₀} {w} {k} {t} h b g d = (beside-held h b, beside-own (λ (s : Sheet). (t < taskCount s) × Filled s k t w) h b (g, d))
+pub fill-asks : {w₀ w : List ℕ} {k t : ℕ} → Held w₀ → Outside w₀ w → t < taskCount (sheetIn w₀) → Filled (sheetIn w₀) k t w → Held w × ((t < taskCount (sheetIn w)) × Filled (sheetIn w) k t w)
+fill-asks {w₀} {w} {k} {t} h b g d = (outside-held h b, outside-own (λ (s : Sheet). (t < taskCount s) × Filled s k t w) h b (g, d))
 
-pub fill-turns : {w₀ w w′ : List ℕ} {k t : ℕ} → Held w₀ → Beside w₀ w → Beside w w′ × Filled (sheetIn w) k t w′ → Beside w₀ w′ × Filled (sheetIn w₀) k t w′
-fill-turns {w₀} {w} {w′} {k} {t} h b d = (beside-trans b (d .0), beside-from (λ (s : Sheet). Filled s k t w′) h b (d .1))
+pub fill-turns : {w₀ w w′ : List ℕ} {k t : ℕ} → Held w₀ → Outside w₀ w → Outside w w′ × Filled (sheetIn w) k t w′ → Outside w₀ w′ × Filled (sheetIn w₀) k t w′
+fill-turns {w₀} {w} {w′} {k} {t} h b d = (outside-trans b (d .0), outside-from (λ (s : Sheet). Filled s k t w′) h b (d .1))

@@ -1,6 +1,6 @@
 -- Walking the links into a task that is taken off: which links are counted off before, at and behind each of them.
 use Prim.Native.Nat.{ℕ, _+_, _*_, _-_, _≤_, _<_, max}
-use mathlib.Core.Bool.{Bool, true, false}
+use mathlib.Core.Bool.{true, false}
 use mathlib.Core.Path.{_≡_, refl, ap, ap₂, sym, _∙_, subst}
 use mathlib.Core.Logic.{_≢_}
 use mathlib.Core.List.{List}
@@ -12,26 +12,22 @@ use lib.Seq.{getD-set-same}
 use lib.Dec.{eqb, ltb}
 use Rattle.workspace.specs.Area.{fixed}
 use Rattle.folds.specs.Folds.{both, either}
-use Rattle.folds.proofs.Tests.{both-false, either-true}
+use Rattle.folds.proofs.Tests.{both-false, either-true, either-false}
 use Rattle.sheet.specs.Sheet.{Sheet, taskCount, linkCount, workOf, sourceOf, targetOf, costOf}
 use Rattle.chains.specs.Chains.{Chained}
 use Rattle.chains.specs.declared.End.the-variants.{Target}
-use Rattle.peeling.specs.Words.{Beside, pushed, doneBy, doneUpTo}
+use Rattle.peeling.specs.Words.{Outside, pushed, doneBy, doneUpTo}
 use Rattle.peeling.specs.Peeling.{Peeled, Walking}
 use Rattle.graph.proofs.Reaches.{Declared}
-use Rattle.peeling.proofs.Frames.{beside-none, beside-trans, beside-level, beside-set}
-use Rattle.peeling.proofs.Pushes.{queued-few, queued-room, push-here, push-else, push-low, push-beside}
+use Rattle.peeling.proofs.Frames.{outside-none, outside-trans, outside-level, outside-set}
+use Rattle.peeling.proofs.Pushes.{queued-few, queued-room, push-here, push-else, push-low, push-outside}
 use Rattle.peeling.proofs.Lights.{peel-same, light-some, light-free, light-high, light-level, peel-light, peel-push, pop-place, pop-own, pop-same, peel-pop}
-
-either-none : (b : Bool) → either b false ≡ b
-either-none true = refl
-either-none false = refl
 
 module _ (s : Sheet) (i v l : ℕ) where
   -- none of the links into v
   pub up-none : (w : List ℕ) → doneBy s i w l ≡ doneUpTo s i 0 v w l
   unfolding doneBy doneUpTo
-  up-none w = rw (le-ltb l 0 (omega arith), both-false (eqb (targetOf s l) v), either-none (ltb (getD w (4368 + targetOf s l) 0) i))
+  up-none w = rw (le-ltb l 0 (omega arith), both-false (eqb (targetOf s l) v), either-false (ltb (getD w (4368 + targetOf s l) 0) i))
 
   -- no link into v from j up to j′
   pub up-hop : (w : List ℕ) (j j′ : ℕ) → j ≤ j′ → (j ≤ l → l < j′ → targetOf s l ≢ v) → doneUpTo s i j v w l ≡ doneUpTo s i j′ v w l
@@ -128,8 +124,8 @@ module _ (s : Sheet) (w : List ℕ) (declared : Declared s) (few : taskCount s �
             own = rw level-v (p .own);
           }
 
-      beside-lit : Beside w lw
-      beside-lit = let h = declared .source l l-in in beside-set (3856 + u) d (omega arith) (omega arith) (beside-level u y (omega arith) (beside-none w))
+      outside-lit : Outside w lw
+      outside-lit = let h = declared .source l l-in in outside-set (3856 + u) d (omega arith) (omega arith) (outside-level u y (omega arith) (outside-none w))
 
       degree-lit : getD lw (3856 + u) 0 ≡ d
       degree-lit = let h = declared .source l l-in in getD-set-same (set w (2320 + u) y) (3856 + u) d 0 (simp length-set (omega arith))
@@ -145,7 +141,7 @@ module _ (s : Sheet) (w : List ℕ) (declared : Declared s) (few : taskCount s �
           wait q t a c (no e) = q .peel .waits t a (λ x y. e (omega arith)) c
 
       -- the source is ready
-      goes : d ≡ 0 → Beside lw (pushed lw k u) × Walking s i (k + 1) (l + 1) v 0 0 (pushed lw k u)
+      goes : d ≡ 0 → Outside lw (pushed lw k u) × Walking s i (k + 1) (l + 1) v 0 0 (pushed lw k u)
       goes h =
           let q = lighted in
           let lw-long : fixed ≤ length lw = simp length-set long in
@@ -154,7 +150,7 @@ module _ (s : Sheet) (w : List ℕ) (declared : Declared s) (few : taskCount s �
           let f = few-i in
           let there : getD (pushed lw k u) (4368 + u) 0 ≡ k = push-here (taskCount s) k u lw few lw-long u-in u-free (q .peel .queued) in
           let else : (t : ℕ) → t ≢ u → getD (pushed lw k u) (4368 + t) 0 ≡ getD lw (4368 + t) 0 = push-else (taskCount s) k u lw few lw-long u-in u-free (q .peel .queued) in (
-            push-beside (taskCount s) k u lw few lw-long u-in u-free (q .peel .queued),
+            push-outside (taskCount s) k u lw few lw-long u-in u-free (q .peel .queued),
             record {
               peel = peel-same (doneUpTo s i (l + 1) v lw) (doneUpTo s i (l + 1) v (pushed lw k u)) (λ j a. same j (ℕ-discrete (targetOf s j) u) there else u-free (q .peel .early))
                   (peel-push s lw declared few lw-long (doneUpTo s i (l + 1) v lw) (i + 1) k u (u + 1) 0 0 u (q .peel) u-in u-free (degree-lit ∙ h) (λ t a b c d. a (omega arith)));
@@ -197,15 +193,15 @@ module _ (s : Sheet) (w : List ℕ) (declared : Declared s) (few : taskCount s �
       words : (w′ : List ℕ) → w′ ≡ set (set w (2320 + u) z′) (3856 + u) e → w′ ≡ set (set w (2320 + sourceOf s l) z′) (3856 + sourceOf s l) e
       words w′ h = h ∙ ap (λ (i : ℕ). set (set w (2320 + i) z′) (3856 + i) e) eu
 
-      pub visit-stays : (w′ : List ℕ) → w′ ≡ set (set w (2320 + u) z′) (3856 + u) e → (d ≡ 1 → ⊥) → Beside w w′ × Walking s i k (l + 1) v 0 0 w′
+      pub visit-stays : (w′ : List ℕ) → w′ ≡ set (set w (2320 + u) z′) (3856 + u) e → (d ≡ 1 → ⊥) → Outside w w′ × Walking s i k (l + 1) v 0 0 w′
       visit-stays w′ h n =
           let f = visit-degree eu ed in
-          subst (λ (x : List ℕ). Beside w x × Walking s i k (l + 1) v 0 0 x) (sym (words w′ h)) (beside-lit z′ e z-is e-is, stays z′ e z-is e-is (λ q. n (omega arith)))
+          subst (λ (x : List ℕ). Outside w x × Walking s i k (l + 1) v 0 0 x) (sym (words w′ h)) (outside-lit z′ e z-is e-is, stays z′ e z-is e-is (λ q. n (omega arith)))
 
-      pub visit-goes : (w′ w″ : List ℕ) → w′ ≡ set (set w (2320 + u) z′) (3856 + u) e → w″ ≡ pushed w′ k u → d ≡ 1 → Beside w w″ × Walking s i (k + 1) (l + 1) v 0 0 w″
+      pub visit-goes : (w′ w″ : List ℕ) → w′ ≡ set (set w (2320 + u) z′) (3856 + u) e → w″ ≡ pushed w′ k u → d ≡ 1 → Outside w w″ × Walking s i (k + 1) (l + 1) v 0 0 w″
       visit-goes w′ w″ h g n =
           let q = goes z′ e z-is e-is (omega arith) in
-          subst (λ (x : List ℕ). Beside w x × Walking s i (k + 1) (l + 1) v 0 0 x) (sym (g ∙ ap₂ (λ (x : List ℕ) (i : ℕ). pushed x k i) (words w′ h) eu)) (beside-trans (beside-lit z′ e z-is e-is) (q .0), q .1)
+          subst (λ (x : List ℕ). Outside w x × Walking s i (k + 1) (l + 1) v 0 0 x) (sym (g ∙ ap₂ (λ (x : List ℕ) (i : ℕ). pushed x k i) (words w′ h) eu)) (outside-trans (outside-lit z′ e z-is e-is) (q .0), q .1)
 
   -- from one link into v to the next
   walking-hop : (i k j j′ v : ℕ) → Walking s i k j v 0 0 w → j ≤ j′ → ((l : ℕ) → l < linkCount s → j ≤ l → l < j′ → targetOf s l ≢ v) → Walking s i k j′ v 0 0 w
@@ -248,7 +244,7 @@ module _ (s : Sheet) (w : List ℕ) (declared : Declared s) (few : taskCount s �
     pub take-fits : {b : ℕ} → b ≡ getD w (2320 + v) 0 → b ≤ 131070 * 256
     take-fits e = omega (arith, p .peel .bounded v take-in, queued-few (p .peel .queued))
 
-    pub taken : {a b z : ℕ} (w′ : List ℕ) → a ≡ workOf s v → b ≡ getD w (2320 + v) 0 → z ≡ a + b → a ≤ 65535 → w′ ≡ set w (2320 + v) z → Beside w w′ × Walking s (getD w′ (4368 + v) 0) k 0 v 0 0 w′ × (getD w′ (4368 + v) 0 ≡ i)
+    pub taken : {a b z : ℕ} (w′ : List ℕ) → a ≡ workOf s v → b ≡ getD w (2320 + v) 0 → z ≡ a + b → a ≤ 65535 → w′ ≡ set w (2320 + v) z → Outside w w′ × Walking s (getD w′ (4368 + v) 0) k 0 v 0 0 w′ × (getD w′ (4368 + v) 0 ≡ i)
     taken {a} {b} {z} w′ ea eb ez short e =
         let z-is : z ≡ workOf s v + getD w (2320 + v) 0 = ez ∙ ap₂ _+_ ea eb in
         let short′ : workOf s v ≤ 65535 = omega arith in
@@ -262,5 +258,5 @@ module _ (s : Sheet) (w : List ℕ) (declared : Declared s) (few : taskCount s �
           here = here;
           own = pop-own s w declared few long (doneBy s i w) i k v z (p .peel) left v-is z-is short′;
         } in
-        subst (λ (x : List ℕ). Beside w x × Walking s (getD x (4368 + v) 0) k 0 v 0 0 x × (getD x (4368 + v) 0 ≡ i)) (sym e)
-        (beside-level v z (let h = take-in in omega arith) (beside-none w), subst (λ (j : ℕ). Walking s j k 0 v 0 0 new) (sym here) walking, here)
+        subst (λ (x : List ℕ). Outside w x × Walking s (getD x (4368 + v) 0) k 0 v 0 0 x × (getD x (4368 + v) 0 ≡ i)) (sym e)
+        (outside-level v z (let h = take-in in omega arith) (outside-none w), subst (λ (j : ℕ). Walking s j k 0 v 0 0 new) (sym here) walking, here)

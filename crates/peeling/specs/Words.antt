@@ -14,6 +14,7 @@ use Rattle.workspace.specs.Area.{fixed}
 use Rattle.folds.specs.Folds.{bit, both, either, sum}
 use Rattle.sheet.specs.Sheet.{Sheet, taskCount, linkCount, targetOf}
 use Rattle.sheet.specs.Tables.{sheetIn, Loaded}
+use Rattle.chains.specs.Frames.{Only}
 
 -- an area that holds a sheet, with what the code asks of it most
 pub record Held (w : List ℕ) : Type 0 where
@@ -22,15 +23,9 @@ pub record Held (w : List ℕ) : Type 0 where
   pub few-tasks : taskCount (sheetIn w) ≤ 256
   pub few-links : linkCount (sheetIn w) ≤ 1024
 
--- all but the words of the search is as it was
-pub record Kept (w w′ : List ℕ) : Type 0 where
-  pub long : length w′ ≡ length w
-  pub low : (i : ℕ) → i < 2320 → getD w′ i 0 ≡ getD w i 0
-  pub high : (i : ℕ) → 4624 ≤ i → getD w′ i 0 ≡ getD w i 0
-
--- the chains are as they were too
-pub record Beside (w w′ : List ℕ) : Type 0 where
-  pub kept : Kept w w′
+-- outside the words of the search, and in the chains, all is as it was
+pub record Outside (w w′ : List ℕ) : Type 0 where
+  pub kept : Only 2320 4624 w w′
   pub chains : (i : ℕ) → 2576 ≤ i → i < 3856 → getD w′ i 0 ≡ getD w i 0
 
 -- the queue holds k tasks below n, each once

@@ -7,7 +7,7 @@ ghost use Rattle.sheet.specs.Sheet.{taskCount, linkCount, targetOf};
 ghost use Rattle.sheet.specs.Tables.{sheetIn};
 ghost use Rattle.chains.specs.Chains.{Chained};
 ghost use Rattle.chains.specs.declared.End.the-variants.{Target};
-ghost use Rattle.peeling.specs.Words.{Held, Beside};
+ghost use Rattle.peeling.specs.Words.{Held, Outside};
 ghost use Rattle.peeling.specs.Peeling.{Peeled, Walking, Counted, Filled};
 use crate::queue;
 use chains::End;
@@ -19,7 +19,7 @@ fn visit(w: &mut [u32], k: usize, v: usize, l: usize) -> usize
     requires { ⌜ Held (now w) ⌝ }
     requires { ⌜ (l < linkCount (sheetIn (now w))) × (targetOf (sheetIn (now w)) l ≡ v) ⌝ }
     requires { ⌜ Walking (sheetIn (now w)) (getD (now w) (4368 + v) 0) k l v 0 0 (now w) ⌝ }
-    ensures { λ r. ⌜ Beside (now (w .entry)) (now (w .exit)) × Walking (sheetIn (now (w .entry))) (getD (now (w .entry)) (4368 + v) 0) r (l + 1) v 0 0 (now (w .exit)) ⌝ }
+    ensures { λ r. ⌜ Outside (now (w .entry)) (now (w .exit)) × Walking (sheetIn (now (w .entry))) (getD (now (w .entry)) (4368 + v) 0) r (l + 1) v 0 0 (now (w .exit)) ⌝ }
 {
     let u = tables::source(w, l);
     let c = tables::cost(w, l);
@@ -41,7 +41,7 @@ fn walk(w: &mut [u32], k: usize, v: usize) -> usize
     requires { ⌜ Held (now w) ⌝ }
     requires { ⌜ Chained Target (sheetIn (now w)) (now w) ⌝ }
     requires { ⌜ Walking (sheetIn (now w)) (getD (now w) (4368 + v) 0) k 0 v 0 0 (now w) ⌝ }
-    ensures { λ r. ⌜ Beside (now (w .entry)) (now (w .exit)) × Peeled (sheetIn (now (w .entry))) (getD (now (w .entry)) (4368 + v) 0 + 1) r 0 0 (now (w .exit)) ⌝ }
+    ensures { λ r. ⌜ Outside (now (w .entry)) (now (w .exit)) × Peeled (sheetIn (now (w .entry))) (getD (now (w .entry)) (4368 + v) 0 + 1) r 0 0 (now (w .exit)) ⌝ }
 {
     let m = tables::links(w);
     let mut q = k;
@@ -59,7 +59,7 @@ fn take(w: &mut [u32], i: usize, k: usize) -> usize
     requires { ⌜ Chained Target (sheetIn (now w)) (now w) ⌝ }
     requires { ⌜ i < k ⌝ }
     requires { ⌜ Peeled (sheetIn (now w)) i k 0 0 (now w) ⌝ }
-    ensures { λ r. ⌜ Beside (now (w .entry)) (now (w .exit)) × Peeled (sheetIn (now (w .entry))) (i + 1) r 0 0 (now (w .exit)) ⌝ }
+    ensures { λ r. ⌜ Outside (now (w .entry)) (now (w .exit)) × Peeled (sheetIn (now (w .entry))) (i + 1) r 0 0 (now (w .exit)) ⌝ }
 {
     let v = workspace::word(w, 4112 + i);
     let a = tables::work(w, v);
@@ -73,7 +73,7 @@ fn take_all(w: &mut [u32], k: usize) -> usize
     requires { ⌜ Held (now w) ⌝ }
     requires { ⌜ Chained Target (sheetIn (now w)) (now w) ⌝ }
     requires { ⌜ Peeled (sheetIn (now w)) 0 k 0 0 (now w) ⌝ }
-    ensures { λ r. ⌜ Beside (now (w .entry)) (now (w .exit)) × Peeled (sheetIn (now (w .entry))) r r 0 0 (now (w .exit)) ⌝ }
+    ensures { λ r. ⌜ Outside (now (w .entry)) (now (w .exit)) × Peeled (sheetIn (now (w .entry))) r r 0 0 (now (w .exit)) ⌝ }
 {
     let mut q = k;
     let mut i: usize = 0;
@@ -89,7 +89,7 @@ fn offer(w: &mut [u32], k: usize, t: usize) -> usize
     requires { ⌜ Held (now w) ⌝ }
     requires { ⌜ t < taskCount (sheetIn (now w)) ⌝ }
     requires { ⌜ Filled (sheetIn (now w)) k t (now w) ⌝ }
-    ensures { λ r. ⌜ Beside (now (w .entry)) (now (w .exit)) × Filled (sheetIn (now (w .entry))) r (t + 1) (now (w .exit)) ⌝ }
+    ensures { λ r. ⌜ Outside (now (w .entry)) (now (w .exit)) × Filled (sheetIn (now (w .entry))) r (t + 1) (now (w .exit)) ⌝ }
 {
     if workspace::word(w, 3856 + t) == 0 {
         queue::push(w, k, t);
@@ -102,7 +102,7 @@ fn offer(w: &mut [u32], k: usize, t: usize) -> usize
 fn fill(w: &mut [u32]) -> usize
     requires { ⌜ Held (now w) ⌝ }
     requires { ⌜ Filled (sheetIn (now w)) 0 0 (now w) ⌝ }
-    ensures { λ r. ⌜ Beside (now (w .entry)) (now (w .exit)) × Peeled (sheetIn (now (w .entry))) 0 r 0 0 (now (w .exit)) ⌝ }
+    ensures { λ r. ⌜ Outside (now (w .entry)) (now (w .exit)) × Peeled (sheetIn (now (w .entry))) 0 r 0 0 (now (w .exit)) ⌝ }
 {
     let n = tables::tasks(w);
     let mut k: usize = 0;
@@ -117,7 +117,7 @@ fn fill(w: &mut [u32]) -> usize
 // No level, no link, and nothing in the queue.
 fn blank(w: &mut [u32])
     requires { ⌜ Held (now w) ⌝ }
-    ensures { λ _. ⌜ Beside (now (w .entry)) (now (w .exit)) × Counted (sheetIn (now (w .entry))) (taskCount (sheetIn (now (w .entry)))) 0 (now (w .exit)) ⌝ }
+    ensures { λ _. ⌜ Outside (now (w .entry)) (now (w .exit)) × Counted (sheetIn (now (w .entry))) (taskCount (sheetIn (now (w .entry)))) 0 (now (w .exit)) ⌝ }
 {
     let n = tables::tasks(w);
     let mut t: usize = 0;
@@ -134,7 +134,7 @@ fn count_one(w: &mut [u32], l: usize)
     requires { ⌜ Held (now w) ⌝ }
     requires { ⌜ l < linkCount (sheetIn (now w)) ⌝ }
     requires { ⌜ Counted (sheetIn (now w)) (taskCount (sheetIn (now w))) l (now w) ⌝ }
-    ensures { λ _. ⌜ Beside (now (w .entry)) (now (w .exit)) × Counted (sheetIn (now (w .entry))) (taskCount (sheetIn (now (w .entry)))) (l + 1) (now (w .exit)) ⌝ }
+    ensures { λ _. ⌜ Outside (now (w .entry)) (now (w .exit)) × Counted (sheetIn (now (w .entry))) (taskCount (sheetIn (now (w .entry)))) (l + 1) (now (w .exit)) ⌝ }
 {
     let u = tables::source(w, l);
     let d = workspace::word(w, 3856 + u);
@@ -145,7 +145,7 @@ fn count_one(w: &mut [u32], l: usize)
 fn count(w: &mut [u32])
     requires { ⌜ Held (now w) ⌝ }
     requires { ⌜ Counted (sheetIn (now w)) (taskCount (sheetIn (now w))) 0 (now w) ⌝ }
-    ensures { λ _. ⌜ Beside (now (w .entry)) (now (w .exit)) × Filled (sheetIn (now (w .entry))) 0 0 (now (w .exit)) ⌝ }
+    ensures { λ _. ⌜ Outside (now (w .entry)) (now (w .exit)) × Filled (sheetIn (now (w .entry))) 0 0 (now (w .exit)) ⌝ }
 {
     let m = tables::links(w);
     let mut l: usize = 0;
@@ -159,7 +159,7 @@ fn count(w: &mut [u32])
 pub fn peel(w: &mut [u32]) -> usize
     requires { ⌜ Held (now w) ⌝ }
     requires { ⌜ Chained Target (sheetIn (now w)) (now w) ⌝ }
-    ensures { λ r. ⌜ Beside (now (w .entry)) (now (w .exit)) × Peeled (sheetIn (now (w .entry))) r r 0 0 (now (w .exit)) ⌝ }
+    ensures { λ r. ⌜ Outside (now (w .entry)) (now (w .exit)) × Peeled (sheetIn (now (w .entry))) r r 0 0 (now (w .exit)) ⌝ }
 {
     blank(w);
     count(w);

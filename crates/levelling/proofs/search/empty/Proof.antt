@@ -1,22 +1,22 @@
 -- `empty` (src/search.rt) keeps its contract.
-use Rattle.peeling.specs.Words.{Beside}
+use Rattle.peeling.specs.Words.{Outside}
 use Rattle.peeling.specs.Peeling.{Emptied}
 use Prim.Native.Nat.{_-_, _≤_}
 use native.Mathlib.Omega.{arith}
-use Rattle.peeling.proofs.Frames.{beside-none, beside-set}
+use Rattle.peeling.proofs.Frames.{outside-none, outside-set}
 use Rattle.levelling.proofs.Spreads.{emptied-at, emptied-more, emptied-none}
 use borrow.Author.Needs.{needs}
 use Rattle.levelling.proofs.search.empty.Statement.{statement}
 use Rattle.levelling.proofs.search.empty.Tie as tie
 
 abbrev Inv-loop : tie.InvT-loop
-Inv-loop w₀ n t₀ w t = (t ≤ n) × Beside w₀ w × Emptied t w
+Inv-loop w₀ n t₀ w t = (t ≤ n) × Outside w₀ w × Emptied t w
 
 abbrev μ-loop : tie.MeasureT-loop
 μ-loop w₀ n t₀ w t = n - t
 
 loop-holds : tie.Need-loop-holds Inv-loop μ-loop
-loop-holds c = (omega arith, beside-none _, emptied-none _)
+loop-holds c = (omega arith, outside-none _, emptied-none _)
 
 slice-write-w : tie.Need-slice-write-w Inv-loop μ-loop
 slice-write-w c = omega (arith, c .before .loop .inv .1 .kept .long)
@@ -25,7 +25,7 @@ loop-less : tie.Need-loop-less Inv-loop μ-loop
 loop-less c = omega (arith, c .loop-test .taken)
 
 loop-again : tie.Need-loop-again Inv-loop μ-loop
-loop-again c = let v = c .before .loop .inv in (omega (arith, c .loop-test .taken), beside-set _ _ (omega arith) (omega (arith, c .loop-test .taken, c .before .before .tasks .ensures)) (v .1), emptied-more (c .before .loop .t) (omega (arith, c .loop-test .taken, c .before .before .tasks .ensures, v .1 .kept .long, c .before .before .before .before .before .pre .long)) (v .2))
+loop-again c = let v = c .before .loop .inv in (omega (arith, c .loop-test .taken), outside-set _ _ (omega arith) (omega (arith, c .loop-test .taken, c .before .before .tasks .ensures)) (v .1), emptied-more (c .before .loop .t) (omega (arith, c .loop-test .taken, c .before .before .tasks .ensures, v .1 .kept .long, c .before .before .before .before .before .pre .long)) (v .2))
 
 same-length : tie.Need-same-length Inv-loop μ-loop
 same-length c = c .before .loop .inv .1 .kept .long

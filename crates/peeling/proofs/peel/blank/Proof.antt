@@ -1,10 +1,10 @@
 -- `blank` (src/peel.rt) keeps its contract.
-use Rattle.peeling.specs.Words.{Beside}
+use Rattle.peeling.specs.Words.{Outside}
 use Rattle.peeling.specs.Peeling.{Counted}
 use Prim.Native.Nat.{_-_, _≤_}
 use native.Mathlib.Omega.{arith}
-use Rattle.peeling.proofs.Frames.{beside-none}
-use Rattle.peeling.proofs.Starts.{blank-beside, blank-more, blank-none, counted-at}
+use Rattle.peeling.proofs.Frames.{outside-none}
+use Rattle.peeling.proofs.Starts.{blank-outside, blank-more, blank-none, counted-at}
 use lib.ListN.{length-set}
 use borrow.Author.Needs.{needs}
 use mathlib.Core.Path.{refl}
@@ -13,13 +13,13 @@ use Rattle.peeling.proofs.peel.blank.Statement.{statement}
 use Rattle.peeling.proofs.peel.blank.Tie as tie
 
 abbrev Inv-loop : tie.InvT-loop
-Inv-loop w₀ n t₀ w t = (t ≤ n) × Beside w₀ w × Counted (sheetIn w₀) t 0 w
+Inv-loop w₀ n t₀ w t = (t ≤ n) × Outside w₀ w × Counted (sheetIn w₀) t 0 w
 
 abbrev μ-loop : tie.MeasureT-loop
 μ-loop w₀ n t₀ w t = n - t
 
 loop-holds : tie.Need-loop-holds Inv-loop μ-loop
-loop-holds c = (omega arith, beside-none _, blank-none _ _)
+loop-holds c = (omega arith, outside-none _, blank-none _ _)
 
 slice-write-w : tie.Need-slice-write-w Inv-loop μ-loop
 slice-write-w c = omega (arith, c .before .loop .inv .1 .kept .long)
@@ -34,7 +34,7 @@ loop-less : tie.Need-loop-less Inv-loop μ-loop
 loop-less c = omega (arith, c .loop-test .taken)
 
 loop-again : tie.Need-loop-again Inv-loop μ-loop
-loop-again c = let v = c .before .loop .inv in (omega (arith, c .loop-test .taken), blank-beside (c .before .loop .t) (omega (arith, c .loop-test .taken, c .before .before .tasks .ensures)) (v .1), blank-more (c .before .loop .t) (omega (arith, c .loop-test .taken, c .before .before .tasks .ensures)) (omega (arith, v .1 .kept .long, c .before .before .before .before .before .pre .long)) (v .2))
+loop-again c = let v = c .before .loop .inv in (omega (arith, c .loop-test .taken), blank-outside (c .before .loop .t) (omega (arith, c .loop-test .taken, c .before .before .tasks .ensures)) (v .1), blank-more (c .before .loop .t) (omega (arith, c .loop-test .taken, c .before .before .tasks .ensures)) (omega (arith, v .1 .kept .long, c .before .before .before .before .before .pre .long)) (v .2))
 
 same-length : tie.Need-same-length Inv-loop μ-loop
 same-length c = c .before .loop .inv .1 .kept .long

@@ -1,9 +1,9 @@
 -- `count` (src/peel.rt) keeps its contract.
-use Rattle.peeling.specs.Words.{Beside}
+use Rattle.peeling.specs.Words.{Outside}
 use Rattle.peeling.specs.Peeling.{Counted}
 use Prim.Native.Nat.{_-_, _≤_}
 use native.Mathlib.Omega.{arith}
-use Rattle.peeling.proofs.Frames.{beside-none, loaded-declared}
+use Rattle.peeling.proofs.Frames.{outside-none, loaded-declared}
 use Rattle.peeling.proofs.Starts.{count-asks, count-turns, counted-at, filled-none}
 use borrow.Author.Needs.{needs}
 use mathlib.Core.Path.{refl}
@@ -13,13 +13,13 @@ use Rattle.peeling.proofs.peel.count.Statement.{statement}
 use Rattle.peeling.proofs.peel.count.Tie as tie
 
 abbrev Inv-loop : tie.InvT-loop
-Inv-loop w₀ m l₀ w l = (l ≤ m) × Beside w₀ w × Counted (sheetIn w₀) (taskCount (sheetIn w₀)) l w
+Inv-loop w₀ m l₀ w l = (l ≤ m) × Outside w₀ w × Counted (sheetIn w₀) (taskCount (sheetIn w₀)) l w
 
 abbrev μ-loop : tie.MeasureT-loop
 μ-loop w₀ m l₀ w l = m - l
 
 loop-holds : tie.Need-loop-holds Inv-loop μ-loop
-loop-holds c = (omega arith, beside-none _, c .before .before .before .pre .1)
+loop-holds c = (omega arith, outside-none _, c .before .before .before .pre .1)
 
 count-one-requires : tie.Need-count-one-requires Inv-loop μ-loop
 count-one-requires c κs = let v = c .before .before .loop .inv in count-asks (c .before .before .before .before .before .before .pre .0) (v .1) (omega (arith, c .before .loop-test .taken, c .before .before .before .links .ensures .0)) (v .2)

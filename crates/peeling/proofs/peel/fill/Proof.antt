@@ -1,9 +1,9 @@
 -- `fill` (src/peel.rt) keeps its contract.
-use Rattle.peeling.specs.Words.{Beside}
+use Rattle.peeling.specs.Words.{Outside}
 use Rattle.peeling.specs.Peeling.{Filled}
 use Prim.Native.Nat.{_-_, _≤_}
 use native.Mathlib.Omega.{arith}
-use Rattle.peeling.proofs.Frames.{beside-none}
+use Rattle.peeling.proofs.Frames.{outside-none}
 use Rattle.peeling.proofs.Starts.{fill-asks, fill-turns, filled-done}
 use borrow.Author.Needs.{needs}
 use Rattle.sheet.specs.Tables.{sheetIn}
@@ -11,13 +11,13 @@ use Rattle.peeling.proofs.peel.fill.Statement.{statement}
 use Rattle.peeling.proofs.peel.fill.Tie as tie
 
 abbrev Inv-loop : tie.InvT-loop
-Inv-loop w₀ n k₀ t₀ w k t = (t ≤ n) × Beside w₀ w × Filled (sheetIn w₀) k t w
+Inv-loop w₀ n k₀ t₀ w k t = (t ≤ n) × Outside w₀ w × Filled (sheetIn w₀) k t w
 
 abbrev μ-loop : tie.MeasureT-loop
 μ-loop w₀ n k₀ t₀ w k t = n - t
 
 loop-holds : tie.Need-loop-holds Inv-loop μ-loop
-loop-holds c = (omega arith, beside-none _, c .before .before .before .pre .1)
+loop-holds c = (omega arith, outside-none _, c .before .before .before .pre .1)
 
 offer-requires : tie.Need-offer-requires Inv-loop μ-loop
 offer-requires c κs = let v = c .before .before .loop .inv in fill-asks (c .before .before .before .before .before .before .pre .0) (v .1) (omega (arith, c .before .loop-test .taken, c .before .before .before .tasks .ensures .0)) (v .2)

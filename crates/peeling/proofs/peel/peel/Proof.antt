@@ -1,5 +1,5 @@
 -- `peel` (src/peel.rt) keeps its contract.
-use Rattle.peeling.proofs.Frames.{beside-trans}
+use Rattle.peeling.proofs.Frames.{outside-trans}
 use Rattle.peeling.proofs.Starts.{fill-turns}
 use borrow.Author.Needs.{needs}
 use Rattle.peeling.proofs.Turns.{peel-counts, peel-fills, peel-takes, take-turns}
@@ -13,10 +13,10 @@ fill-requires : tie.Need-fill-requires
 fill-requires c κs = peel-fills (c .before .before .before .before .before .before .before .before .before .before .pre .0) (fill-turns (c .before .before .before .before .before .before .before .before .before .before .pre .0) (c .before .before .before .before .before .before .before .blank .ensures .0) (c .before .before .before .count .ensures))
 
 take-all-requires : tie.Need-take-all-requires
-take-all-requires c κs = let a = c .before .before .before .before .before .before .before .before .before .before .before .before .before .before in peel-takes (a .pre .0) (a .pre .1) (take-turns (a .pre .0) (beside-trans (c .before .before .before .before .before .before .before .before .before .before .before .blank .ensures .0) (c .before .before .before .before .before .before .before .count .ensures .0)) (c .before .before .before .fill .ensures))
+take-all-requires c κs = let a = c .before .before .before .before .before .before .before .before .before .before .before .before .before .before in peel-takes (a .pre .0) (a .pre .1) (take-turns (a .pre .0) (outside-trans (c .before .before .before .before .before .before .before .before .before .before .before .blank .ensures .0) (c .before .before .before .before .before .before .before .count .ensures .0)) (c .before .before .before .fill .ensures))
 
 returns : tie.Need-returns
-returns c = let a = c .before .before .before .before .before .before .before .before .before .before .before .before .before .before .before .before .before in take-turns (a .pre .0) (beside-trans (beside-trans (c .before .before .before .before .before .before .before .before .before .before .before .before .before .before .blank .ensures .0) (c .before .before .before .before .before .before .before .before .before .before .count .ensures .0)) (c .before .before .before .before .before .before .fill .ensures .0)) (c .before .before .take-all .ensures)
+returns c = let a = c .before .before .before .before .before .before .before .before .before .before .before .before .before .before .before .before .before in take-turns (a .pre .0) (outside-trans (outside-trans (c .before .before .before .before .before .before .before .before .before .before .before .before .before .before .blank .ensures .0) (c .before .before .before .before .before .before .before .before .before .before .count .ensures .0)) (c .before .before .before .before .before .before .fill .ensures .0)) (c .before .before .take-all .ensures)
 
 pub peel-spec : {M : Type 1} → statement M
 peel-spec =

@@ -1,9 +1,9 @@
 -- `take_all` (src/peel.rt) keeps its contract.
-use Rattle.peeling.specs.Words.{Beside}
+use Rattle.peeling.specs.Words.{Outside}
 use Rattle.peeling.specs.Peeling.{Peeled}
 use Prim.Native.Nat.{_-_}
 use native.Mathlib.Omega.{arith}
-use Rattle.peeling.proofs.Frames.{beside-none}
+use Rattle.peeling.proofs.Frames.{outside-none}
 use Rattle.peeling.proofs.Turns.{peeled-few, take-asks, take-ends, take-turns}
 use Rattle.sheet.specs.Tables.{sheetIn}
 use Rattle.sheet.specs.Sheet.{taskCount}
@@ -11,13 +11,13 @@ use Rattle.peeling.proofs.peel.take_all.Statement.{statement}
 use Rattle.peeling.proofs.peel.take_all.Tie as tie
 
 abbrev Inv-loop : tie.InvT-loop
-Inv-loop w₀ k q₀ i₀ w q i = Beside w₀ w × Peeled (sheetIn w₀) i q 0 0 w
+Inv-loop w₀ k q₀ i₀ w q i = Outside w₀ w × Peeled (sheetIn w₀) i q 0 0 w
 
 abbrev μ-loop : tie.MeasureT-loop
 μ-loop w₀ k q₀ i₀ w q i = taskCount (sheetIn w₀) - i
 
 loop-holds : tie.Need-loop-holds Inv-loop μ-loop
-loop-holds c = (beside-none _, c .before .pre .1 .1)
+loop-holds c = (outside-none _, c .before .pre .1 .1)
 
 take-requires : tie.Need-take-requires Inv-loop μ-loop
 take-requires c κs = let v = c .before .before .loop .inv in take-asks (c .before .before .before .before .pre .0) (c .before .before .before .before .pre .1 .0) (v .0) (c .before .loop-test .taken) (v .1)

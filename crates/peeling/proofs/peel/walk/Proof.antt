@@ -2,7 +2,7 @@
 use Rattle.peeling.proofs.Turns.{WalkTo, next-asks, walk-asks, walk-ends, walk-less, walk-starts, walk-turns}
 use Prim.Native.Nat.{_-_}
 use native.Mathlib.Omega.{arith}
-use Rattle.peeling.proofs.Frames.{beside-trans}
+use Rattle.peeling.proofs.Frames.{outside-trans}
 use borrow.Author.Needs.{needs}
 use denote.Ref.{now}
 use Rattle.peeling.proofs.peel.walk.Statement.{statement}
@@ -24,7 +24,7 @@ visit-requires : tie.Need-visit-requires Inv-loop μ-loop
 visit-requires c κs = walk-asks (c .before .before .before .before .before .before .before .before .pre .0) (c .before .before .loop .inv) (omega (arith, c .before .loop-test .taken, c .before .before .before .before .before .links .ensures .0))
 
 next-requires : tie.Need-next-requires Inv-loop μ-loop
-next-requires c κs = next-asks (c .before .before .before .before .before .before .before .before .before .before .before .before .pre .0) (c .before .before .before .before .before .before .before .before .before .before .before .before .pre .1 .0) (beside-trans (c .before .before .before .before .before .before .loop .inv .beside) (c .before .before .before .visit .ensures .0)) (omega (arith, c .before .before .before .before .before .loop-test .taken, c .before .before .before .before .before .before .before .before .before .links .ensures .0))
+next-requires c κs = next-asks (c .before .before .before .before .before .before .before .before .before .before .before .before .pre .0) (c .before .before .before .before .before .before .before .before .before .before .before .before .pre .1 .0) (outside-trans (c .before .before .before .before .before .before .loop .inv .outside) (c .before .before .before .visit .ensures .0)) (omega (arith, c .before .before .before .before .before .loop-test .taken, c .before .before .before .before .before .before .before .before .before .links .ensures .0))
 
 loop-less : tie.Need-loop-less Inv-loop μ-loop
 loop-less c = omega (arith, c .before .before .before .before .before .before .loop-test .taken, c .next .ensures, walk-less (c .before .before .before .before .before .before .before .before .before .before .before .before .before .pre .0) (c .before .before .before .before .before .before .before .before .before .before .before .before .before .pre .1 .0) (c .before .before .before .before .before .before .before .loop .inv) (omega (arith, c .before .before .before .before .before .before .loop-test .taken, c .before .before .before .before .before .before .before .before .before .before .links .ensures .0)) (c .before .before .before .before .visit .ensures .0) (c .next .ensures .0))
@@ -33,7 +33,7 @@ loop-again : tie.Need-loop-again Inv-loop μ-loop
 loop-again c = walk-turns (c .before .before .before .before .before .before .before .before .before .before .before .before .before .pre .0) (c .before .before .before .before .before .before .before .before .before .before .before .before .before .pre .1 .0) (c .before .before .before .before .before .before .before .loop .inv) (omega (arith, c .before .before .before .before .before .before .loop-test .taken, c .before .before .before .before .before .before .before .before .before .before .links .ensures .0)) (c .before .before .before .before .visit .ensures) (c .next .ensures .0)
 
 same-length : tie.Need-same-length Inv-loop μ-loop
-same-length c = c .before .loop .inv .beside .kept .long
+same-length c = c .before .loop .inv .outside .kept .long
 
 returns : tie.Need-returns Inv-loop μ-loop
 returns c = walk-ends (c .before .before .before .before .before .before .before .pre .0) (c .before .loop .inv) (omega (arith, c .loop-test .left, c .before .before .before .before .links .ensures .0))
