@@ -1,5 +1,5 @@
 -- The leading one of several is the one with the greatest key.
-use Prim.Native.Nat.{ℕ, zero, suc, _-_, _≤_, _<_, max}
+use Prim.Native.Nat.{ℕ, zero, suc, _-_, _%_, _≤_, _<_, max}
 use mathlib.Core.Bool.{Bool, true, false}
 use mathlib.Core.Option.{Option, none, some}
 use mathlib.Core.Path.{_≡_, refl, ap, _∙_}
@@ -8,6 +8,11 @@ use native.Mathlib.Decide.{decLt}
 use borrow.Author.Tests.{lt-ltb, le-ltb}
 use lib.Dec.{ltb}
 use Rattle.folds.specs.Folds.{pick, greatest, prefer, leading}
+use Rattle.keys.specs.Keys.{indexOf}
+
+pub index-more : (n x : ℕ) → 0 < x → indexOf n x ≡ some (n - 1 - x % n)
+index-more n zero h = absurd (omega arith)
+index-more n (suc x) h = refl
 
 -- of the indices below n with p, `before` is the order of their keys, none of which is 0
 module _ (n : ℕ) (p : ℕ → Bool) (before : ℕ → ℕ → Bool) (key : ℕ → ℕ) (agrees : (a b : ℕ) → b < a → a < n → before a b ≡ ltb (key b) (key a)) (some-key : (i : ℕ) → i < n → 0 < key i) where

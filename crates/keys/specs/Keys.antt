@@ -1,5 +1,6 @@
--- A table of 512 keys. Word 512 + b is the greatest of the sixteen keys from 16 b on.
-use Prim.Native.Nat.{ℕ, _+_, _*_, _<_}
+-- Whose a key is; and a table of 512 keys. Word 512 + b is the greatest of the sixteen keys from 16 b on.
+use Prim.Native.Nat.{ℕ, zero, suc, _+_, _*_, _-_, _%_, _<_}
+use mathlib.Core.Option.{Option, none, some}
 use mathlib.Core.Path.{_≡_}
 use mathlib.Core.Logic.{_≢_}
 use mathlib.Core.List.{List}
@@ -9,6 +10,11 @@ use Rattle.folds.specs.Folds.{greatest}
 -- the i-th key from `at` on
 unfoldable pub keyBy : List ℕ → ℕ → ℕ → ℕ
 keyBy q at i = getD q (at + i) 0
+
+-- the lowest digit of a key in base n, counted down from n - 1, says whose it is; the key 0 is nobody's
+abbrev pub indexOf : ℕ → ℕ → Option ℕ
+indexOf n zero = none
+indexOf n (suc x) = some (n - 1 - suc x % n)
 
 pub record Blocked (q : List ℕ) : Type 0 where
   pub long : length q ≡ 544

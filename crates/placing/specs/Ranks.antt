@@ -1,11 +1,12 @@
 -- A processor's key in a placing step says in one number how good it is: by its value, then by the lower number.
-use Prim.Native.Nat.{ℕ, zero, suc, _+_, _*_, _-_, _%_}
-use mathlib.Core.Option.{Option, none, some}
+use Prim.Native.Nat.{ℕ, _+_, _*_, _-_}
+use mathlib.Core.Option.{Option}
 use mathlib.Core.Bool.{Bool}
 use mathlib.Core.List.{List}
 use lib.ListN.{getD}
 use lib.Dec.{leb}
 use Rattle.folds.specs.Folds.{pick, both}
+use Rattle.keys.specs.Keys.{indexOf}
 use Rattle.sheet.specs.Sheet.{Sheet}
 use Rattle.planner.specs.Schedule.{Schedule}
 use Rattle.planner.specs.Placing.{endOf, startOn, fits, barred}
@@ -21,8 +22,7 @@ highKey value k = (value + 1) * 16 + (15 - k)
 
 -- the processor of a key, and none of 0
 abbrev pub processorOf : ℕ → Option ℕ
-processorOf zero = none
-processorOf (suc x) = some (15 - suc x % 16)
+processorOf x = indexOf 16 x
 
 -- the key of k for t in each step, 0 where the step may not take k
 module _ (s : Sheet) (σ : Schedule) (t : ℕ) where

@@ -1,5 +1,5 @@
 -- The task with the greatest key is the one that goes first.
-use Prim.Native.Nat.{ℕ, zero, suc, _+_, _*_, _-_, _%_, _≤_, _<_}
+use Prim.Native.Nat.{ℕ, zero, suc, _+_, _*_, _-_, _≤_, _<_}
 use mathlib.Core.Bool.{Bool}
 use mathlib.Core.Option.{some}
 use mathlib.Core.Path.{_≡_, refl, ap, sym, _∙_}
@@ -14,7 +14,7 @@ use Rattle.folds.proofs.Tests.{pick-le}
 use Rattle.folds.proofs.Laws.{greatest-le, greatest-cong, greatest-skip}
 use Rattle.keys.specs.Keys.{keyBy}
 use Rattle.keys.proofs.Blocks.{most-of-half}
-use Rattle.keys.proofs.Leading.{leader}
+use Rattle.keys.proofs.Leading.{index-more, leader}
 use Rattle.sheet.specs.Sheet.{Sheet, taskCount, linkCount, sourceOf, targetOf, costOf}
 use Rattle.sheet.specs.Tables.{Ranged}
 use Rattle.graph.specs.Graph.{levelBy, levelWithin, level}
@@ -25,10 +25,6 @@ use Rattle.words.specs.Found.{foundOf, Below}
 use Rattle.words.specs.declared.Found.{Found}
 use Rattle.words.specs.declared.Found.the-variants.{At, Nothing}
 use Rattle.readiness.specs.Keyed.{keyOf, readyKey, partlyKey, taskOf, Early, Keyed}
-
-pub task-of-more : (x : ℕ) → 0 < x → taskOf x ≡ some (255 - x % 256)
-task-of-more zero h = absurd (omega arith)
-task-of-more (suc x) h = refl
 
 module _ (s : Sheet) (ranged : Ranged s) where
   -- a level is at most a work and a cost for each round
@@ -74,7 +70,7 @@ module _ (s : Sheet) (ranged : Ranged s) where
     -- the task of a key
     task-key : (t : ℕ) → t < taskCount s → taskOf (keyOf s σ t) ≡ some t
     unfolding keyOf
-    task-key t h = task-of-more (keyOf s σ t) (omega arith) ∙ ap some (omega (arith, ranged .few-tasks))
+    task-key t h = index-more 256 (keyOf s σ t) (omega arith) ∙ ap some (omega (arith, ranged .few-tasks))
 
     key-more : (t : ℕ) → 0 < keyOf s σ t
     unfolding keyOf

@@ -1,13 +1,13 @@
 -- The key of a task says in one number who goes first: by priority, then by level, then by the lower task number.
 -- The table of keys holds, for each task, the key that it has while it is ready, and 256 behind the one that it has while it is partly ready.
-use Prim.Native.Nat.{ℕ, zero, suc, _+_, _*_, _-_, _%_, _≤_, _<_}
+use Prim.Native.Nat.{ℕ, _+_, _*_, _-_, _≤_, _<_}
 use mathlib.Core.Path.{_≡_}
 use mathlib.Core.Logic.{_≢_}
-use mathlib.Core.Option.{Option, none, some}
+use mathlib.Core.Option.{Option}
 use mathlib.Core.List.{List}
 use lib.ListN.{getD}
 use Rattle.folds.specs.Folds.{pick}
-use Rattle.keys.specs.Keys.{Blocked}
+use Rattle.keys.specs.Keys.{indexOf, Blocked}
 use Rattle.sheet.specs.Sheet.{Sheet, taskCount, linkCount, sourceOf, targetOf}
 use Rattle.graph.specs.Graph.{level}
 use Rattle.planner.specs.Schedule.{Schedule, finishOf}
@@ -24,8 +24,7 @@ partlyKey s σ t = pick (partlyReady s σ t) (keyOf s σ t) 0
 
 -- the task of a key, and none of 0
 abbrev pub taskOf : ℕ → Option ℕ
-taskOf zero = none
-taskOf (suc x) = some (255 - suc x % 256)
+taskOf x = indexOf 256 x
 
 -- no finish is past what 256 turns of a cost and a work come to, so that a key fits 64 bits
 pub record Early (σ : Schedule) : Type 0 where
