@@ -7,9 +7,10 @@ use native.Mathlib.Numerals.{add-one, add-two}
 use native.Mathlib.Decide.{decLt}
 use lib.ListN.{length, getD, drop, set, length-append, drop-of-length-le}
 use lib.Seq.{drop-cons}
-use Rattle.folds.specs.Answers.{value}
+use Rattle.folds.specs.Answers.{value, written}
 use Rattle.numbers.specs.Number.{numberBytes, stored}
 use Rattle.numbers.proofs.Laws.{length-stored, stored-one, stored-then, stored-none}
+use Rattle.numbers.proofs.Puts.{front}
 use Rattle.sheet.specs.Sheet.{Sheet}
 use Rattle.bundle.specs.Bundle.{Command, run, send, receive, Bundle}
 use Rattle.bundle.specs.Format.{kindOf, readBundle}
@@ -141,14 +142,11 @@ module _ {vs : List ℕ} {claim : ℕ} {old out : List ℕ} {at i : ℕ} (g : Pu
 
   pub putting-ends : (last : List ℕ) → length vs ≤ i → last ≡ stored (set out at 0x5A) (at + 1) (numberBytes 4 claim)
       → last ≡ valueBytes vs claim ++ drop (length (valueBytes vs claim)) old
-  unfolding stored
+  unfolding written
   putting-ends last h e =
       let q = putting-last h in
       let a = stored-one out at 0x5A (omega arith) in
       let b = stored-then out (set out at 0x5A) last at (at + 1) (0x5A ∷ []) (numberBytes 4 claim) a e refl (omega arith) in
       let c = stored-then old out last 0 at (g .done) (claimBytes claim) (g .here) b (omega (arith, g .size)) (omega arith) in
       let w : g .done ++ claimBytes claim ≡ valueBytes vs claim = ap (λ (x : List ℕ). g .done ++ x) (sym (values-end vs claim i h)) ∙ g .whole in
-      c ∙ ap (stored old 0) w ∙ front (valueBytes vs claim)
-    where
-      front : (v : List ℕ) → stored old 0 v ≡ v ++ drop (length v) old
-      front v = let k : 0 + length v ≡ length v = omega arith in ap (λ (n : ℕ). v ++ drop n old) k
+      c ∙ ap (stored old 0) w ∙ front old (valueBytes vs claim)

@@ -3,11 +3,11 @@ use Prim.Native.Nat.{ℕ, _-_, _≤_}
 use mathlib.Core.Path.{_≡_, sym, ap, ap₂, _∙_}
 use mathlib.Core.List.{List, _++_}
 use native.Mathlib.Omega.{arith}
-use borrow.Author.Tests.{le-ltb}
 use borrow.Rule.Slice.PartMut.{midOf}
 use lib.ListN.{length, take, drop, length-drop, length-append}
 use lib.Seq.{take-all, take-append-seam}
-use Rattle.folds.specs.Answers.{value, fitting, written}
+use Rattle.folds.specs.Answers.{written}
+use Rattle.numbers.proofs.Puts.{fits-well}
 use Rattle.listing.specs.Listing.{listing}
 use Rattle.lines.specs.Listed.{listedOf, FitIs}
 use Rattle.lines.specs.declared.Listed.{Listed}
@@ -47,11 +47,8 @@ pub input-bytes : {room : ℕ} (n : ℕ) → n ≤ room → InputIs room (input.
 input-bytes n h = record { within = λ m e. let s : n ≡ m = cc in omega arith }
 
 -- an output of 21,551 bytes is long enough
-enough : (v out : List ℕ) → length v ≤ 21551 → 21551 ≤ length out → fitting (length out) v ≡ value v
-enough v out h e = rw (le-ltb (length out) (length v) (omega arith))
-
 pub whole : {v out out′ : List ℕ} {r : Listed} → FitIs v out out′ r → 21551 ≤ length out → Whole r
-whole {v} {out} h e = record { size = length v; long = h .answer ∙ ap listedOf (enough v out (h .short) e); short = h .short }
+whole {v} {out} h e = record { size = length v; long = h .answer ∙ ap listedOf (fits-well (length out) v (omega (arith, h .short))); short = h .short }
 
 pub whole-long : {r : Listed} (n : ℕ) → Whole r → r ≡ Long n → (r ≡ Long n) × (n ≤ 21551)
 whole-long n w e = let x = sym (w .long) ∙ e in let s : w .size ≡ n = cc in (e, omega (arith, w .short))
@@ -63,7 +60,7 @@ pub put : (sheet out out′ : List ℕ) {r : Listed} (n : ℕ) → FitIs (listin
 unfolding written
 put sheet out out′ n h e q =
     let v = listing sheet in
-    let f = enough v out (h .short) e in
+    let f = fits-well (length out) v (omega (arith, h .short)) in
     let x : Long (length v) ≡ Long n = sym (h .answer ∙ ap listedOf f) ∙ q in
     let s : length v ≡ n = cc in
     let front : out′ ≡ v ++ drop (length v) out = h .output ∙ ap (written out) f in
