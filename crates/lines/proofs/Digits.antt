@@ -34,14 +34,18 @@ within-more (suc f) n h = go (decLt n 10) (within-more f (n / 10) (div-lt-iff-lt
     go (no l) e =
         within-large (suc f) n (omega arith) ∙ ap (λ (v : List ℕ). v ++ digit (n % 10) ∷ []) e ∙ sym (within-large (suc (suc f)) n (omega arith))
 
+-- one digit more
+within-grows : (f n m : ℕ) → length (decimalWithin f (n / 10)) ≤ m → length (decimalWithin (suc f) n) ≤ suc m
+within-grows f n m h = go (decLt n 10)
+  where
+    go : Dec (n < 10) → length (decimalWithin (suc f) n) ≤ suc m
+    go (yes l) = omega (arith, ap length (within-small f n l))
+    go (no l) = omega (arith, ap length (within-large f n (omega arith)), length-append (decimalWithin f (n / 10)) (digit (n % 10) ∷ []))
+
 within-length : (f n : ℕ) → length (decimalWithin f n) ≤ f
 unfolding decimalWithin
 within-length zero n = omega arith
-within-length (suc f) n = go (decLt n 10) (within-length f (n / 10))
-  where
-    go : Dec (n < 10) → length (decimalWithin f (n / 10)) ≤ f → length (decimalWithin (suc f) n) ≤ suc f
-    go (yes l) h = omega (arith, ap length (within-small f n l))
-    go (no l) h = omega (arith, ap length (within-large f n (omega arith)), length-append (decimalWithin f (n / 10)) (digit (n % 10) ∷ []))
+within-length (suc f) n = within-grows f n f (within-length f (n / 10))
 
 pub decimal-small : (n : ℕ) → n < 10 → decimal n ≡ digit n ∷ []
 unfolding decimal
@@ -105,11 +109,7 @@ within-short : (d f n : ℕ) → n < 10 ^ suc d → length (decimalWithin f n) �
 unfolding decimalWithin
 within-short d zero n h = omega arith
 within-short zero (suc f) n h = omega (arith, ap length (within-small f n h))
-within-short (suc d) (suc f) n h = go (decLt n 10) (within-short d f (n / 10) (div-lt-iff-lt-mul (lit< tt) .1 (rw pow-suc at h)))
-  where
-    go : Dec (n < 10) → length (decimalWithin f (n / 10)) ≤ suc d → length (decimalWithin (suc f) n) ≤ suc (suc d)
-    go (yes l) k = omega (arith, ap length (within-small f n l))
-    go (no l) k = omega (arith, ap length (within-large f n (omega arith)), length-append (decimalWithin f (n / 10)) (digit (n % 10) ∷ []))
+within-short (suc d) (suc f) n h = within-grows f n (suc d) (within-short d f (n / 10) (div-lt-iff-lt-mul (lit< tt) .1 (rw pow-suc at h)))
 
 pub decimal-short : (d n : ℕ) → n < 10 ^ suc d → length (decimal n) ≤ suc d
 unfolding decimal

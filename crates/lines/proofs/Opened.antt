@@ -19,8 +19,6 @@ use Rattle.planner.specs.Placing.{barred}
 use Rattle.planner.specs.Planner.{planned}
 use Rattle.planner.proofs.Schedules.{plan-of, planned-build, empty-fair}
 use Rattle.schedule.specs.Layout.{scheduleIn}
-use Rattle.arrivals.specs.Kept.{Single}
-use Rattle.arrivals.proofs.Singles.{read-single}
 use Rattle.turns.specs.Turns.{answerOf, Afterwards}
 use Rattle.turns.specs.declared.Planned.{Planned}
 use Rattle.turns.specs.declared.Planned.the-variants as planning
@@ -70,9 +68,6 @@ module _ (b : List ℕ) {work mid : List ℕ} {o : Reading} (h : OpenIs (readShe
       }
 
   module _ (q : o ≡ Read) where
-    pub open-single : Single (sheetIn mid)
-    open-single = read-single b (sheetIn mid) (open-value h q)
-
     pub open-stands : Stands (sheetIn mid)
     open-stands = planned-standing (proper b (sheetIn mid) (open-value h q))
 

@@ -7,6 +7,7 @@ use lib.Dec.{eqb}
 use lib.ListN.{length, getD}
 use Rattle.folds.specs.Folds.{bit, sum}
 use Rattle.folds.specs.Answers.{Answer, value, refused, andThen, fitting}
+use Rattle.folds.proofs.Laws.{sum-front}
 use Rattle.sheet.specs.Sheet.{Sheet, taskCount}
 use Rattle.sheet.specs.Tables.{sheetIn}
 use Rattle.sheet_reader.specs.declared.Reading.{Reading}
@@ -25,12 +26,9 @@ use Rattle.planner.specs.Placing.{barred}
 use Rattle.planner.specs.Planner.{planned, bundleOf, plan}
 use Rattle.planner.proofs.Schedules.{Built, built, placing, tally, Plan, Completed, plan-of, empty-free, empty-fair, planned-build}
 use Rattle.schedule.specs.Layout.{scheduleIn}
-use Rattle.arrivals.specs.Kept.{Single}
-use Rattle.arrivals.proofs.Singles.{read-single}
 use Rattle.turns.specs.Turns.{Afterwards}
 use Rattle.programmes.specs.Scheduled.{Scheduled}
 use Rattle.programmes.specs.Written.{bundleFor, planFor, WriteIs, PlanIs}
-use Rattle.programmes.proofs.Sums.{sum-front}
 use Rattle.programmes.proofs.Writes.{write-refused}
 
 -- the planner's answer is the plan, where the output has room for it
@@ -99,9 +97,6 @@ module _ (b : List ℕ) {work mid : List ℕ} {o : Reading} (h : OpenIs (readShe
       }
 
   module _ (e : o ≡ readings.Read) where
-    pub open-single : Single (sheetIn mid)
-    open-single = read-single b (sheetIn mid) (open-value h e)
-
     module _ {last : List ℕ} (a : Afterwards mid last) where
       -- the answer goes by the sheet in the tables
       here : (n : ℕ) → planFor n b ≡ andThen (planned (sheetIn mid)) (bundleFor n (sheetIn mid))

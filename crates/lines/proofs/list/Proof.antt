@@ -1,7 +1,8 @@
 -- `lines::list` meets its contract.
 use denote.Ref.{now}
-use Rattle.levelling.proofs.Opens.{open-loaded, open-levelled}
-use Rattle.lines.proofs.Opened.{list-refused, list-read, open-single, open-stands}
+use Rattle.levelling.proofs.Opens.{open-loaded, open-value, open-levelled}
+use Rattle.arrivals.proofs.Singles.{read-single}
+use Rattle.lines.proofs.Opened.{list-refused, list-read, open-stands}
 use borrow.Author.Needs.{needs}
 use Rattle.lines.proofs.list.Statement.{statement}
 use Rattle.lines.proofs.list.Tie as tie
@@ -11,7 +12,7 @@ list-planned-requires c κs =
     let b = now (c .before .before .before .before .before .before .before .before .before .before .before .args .sheet) in
     let h = c .before .before .before .before .before .before .read .ensures in
     let q = c .before .before .enum-told .given .1 in
-    (open-loaded h q, (open-levelled h q, (open-single b h q, open-stands b h q)))
+    (open-loaded h q, (open-levelled h q, (read-single b _ (open-value h q), open-stands b h q)))
 
 returns : tie.Need-returns
 returns c = list-refused (now (c .before .before .before .before .before .before .before .before .before .before .before .before .before .before .before .args .sheet)) (c .before .before .before .before .before .before .before .before .before .before .read .ensures) _ _ _ (c .before .before .before .before .before .before .r .given .1) (c .before .before .before .before .wide .ensures .0) (c .before .before .list-refusal .ensures)

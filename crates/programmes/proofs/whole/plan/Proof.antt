@@ -4,8 +4,9 @@ use mathlib.Core.Path.{_∙_, ap, sym}
 use Rattle.turns.specs.Turns.{answerOf}
 use borrow.Author.Needs.{needs}
 use denote.Ref.{now}
-use Rattle.levelling.proofs.Opens.{open-levelled, open-loaded}
-use Rattle.programmes.proofs.Plans.{open-single, plan-done, plan-none, plan-refused, plan-scheduled}
+use Rattle.levelling.proofs.Opens.{open-levelled, open-loaded, open-value}
+use Rattle.arrivals.proofs.Singles.{read-single}
+use Rattle.programmes.proofs.Plans.{plan-done, plan-none, plan-refused, plan-scheduled}
 use Rattle.schedule.specs.Layout.{scheduleIn}
 use Rattle.programmes.proofs.whole.plan.Statement.{statement}
 use Rattle.programmes.proofs.whole.plan.Tie as tie
@@ -14,7 +15,7 @@ schedule-requires : tie.Need-schedule-requires
 schedule-requires c κs =
     let h = c .before .before .before .before .before .read .ensures in
     let e = c .before .enum-told .given .1 in
-    (open-loaded h e, (open-levelled h e, open-single (now (c .before .before .before .before .before .before .before .before .before .before .args .sheet)) h e))
+    (open-loaded h e, (open-levelled h e, read-single (now (c .before .before .before .before .before .before .before .before .before .before .args .sheet)) _ (open-value h e)))
 
 write-requires : tie.Need-write-requires
 write-requires c κs =
