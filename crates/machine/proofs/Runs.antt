@@ -1,9 +1,8 @@
 -- Runs: what every list of choices keeps, and what is done and left of the programmes.
 use Prim.Native.Nat.{ℕ, suc, _+_}
 use native.Mathlib.Omega.{arith}
-use mathlib.Core.Bool.{Bool}
 use mathlib.Core.Option.{Option, none, some}
-use mathlib.Core.Path.{_≡_, refl, sym, ap, _∙_}
+use mathlib.Core.Path.{_≡_, refl, sym, _∙_}
 use mathlib.Core.Logic.{⊎-elim}
 use mathlib.Core.List.{List, [], _∷_}
 use lib.ListN.{drop, length-replicate}
@@ -15,8 +14,8 @@ use Rattle.messages.specs.Counting.{weigh, wholeOf, whole, each, is}
 use Rattle.messages.specs.Messages.{Published}
 use Rattle.messages.proofs.Weights.{programme-or, weigh-split, weigh-each, weigh-none}
 use Rattle.messages.proofs.Messages.{messages}
-use Rattle.machine.specs.Machine.{State, freshProcessor, freshState, processorOf, stampOf, step, canStep}
-use Rattle.machine.specs.Runs.{Run, took, choose, runFrom, answers, doneOf, leftOf, done, left}
+use Rattle.machine.specs.Machine.{State, freshProcessor, freshState, processorOf, stampOf, step}
+use Rattle.machine.specs.Runs.{Run, took, choose, runFrom, doneOf, leftOf, done, left}
 use Rattle.machine.proofs.Steps.{Sound, sound-step}
 
 -- steps lead from one state to another
@@ -43,26 +42,6 @@ module _ (s : Sheet) (b : Bundle) where
       go : (o : Option State) → step s b (r .state) k ≡ o → P (took r o)
       go none e = p
       go (some τ) e = h r k τ p e
-
-  -- a machine that keeps the state and answers rightly at each call does so along every list
-  module _
-      {A : Type 0} (held : A → State) (call : A → ℕ → A) (told : A → ℕ → Bool)
-      (keeps-state : (a : A) (r : Run) (k : ℕ) → held a ≡ r .state → held (call a k) ≡ choose s b r k .state)
-      (tells : (a : A) (k : ℕ) → told a k ≡ canStep s b (held a) k) where
-    abbrev pub calls : A → List ℕ → A
-    calls a [] = a
-    calls a (k ∷ ks) = calls (call a k) ks
-
-    abbrev pub tolds : A → List ℕ → List Bool
-    tolds a [] = []
-    tolds a (k ∷ ks) = told a k ∷ tolds (call a k) ks
-
-    pub agrees : (a : A) (r : Run) → held a ≡ r .state → (ks : List ℕ) → (held (calls a ks) ≡ runFrom s b r ks .state) × (tolds a ks ≡ answers s b r ks)
-    unfolding runFrom answers
-    agrees a r e [] = (e, refl)
-    agrees a r e (k ∷ ks) =
-        let i = agrees (call a k) (choose s b r k) (keeps-state a r k e) ks in
-        (i .0, cc (tells a k, ap (λ σ. canStep s b σ k) e, i .1))
 
   pub done-left : (σ : State) (f : Command → ℕ) → done b σ f + left b σ f ≡ whole b f
   unfolding done left whole doneOf leftOf wholeOf

@@ -1,5 +1,5 @@
 -- A sheet that is written and read: the length of its bytes, that what is read from them is that sheet, and that a proper sheet is read back.
-use Prim.Native.Nat.{ℕ, zero, suc, _+_, _*_, _/_, _%_, _<_, _≤_}
+use Prim.Native.Nat.{ℕ, _+_, _*_, _/_, _%_, _<_, _≤_}
 use mathlib.Core.Path.{_≡_, refl, sym, ap, ap₂, subst, _∙_}
 use mathlib.Core.Bool.{Bool, true, false, not}
 use mathlib.Core.Option.{Option, none, some}
@@ -8,7 +8,7 @@ use native.Mathlib.Omega.{arith}
 use native.Mathlib.Decide.{ℕ-discrete}
 use borrow.Author.Tests.{eq-eqb, ne-eqb, eqb-true, le-leb, lt-leb}
 use lib.ListN.{length, getD, length-append, List·getD-append}
-use lib.Seq.{ext-getD, getD-at, append-snoc}
+use lib.Seq.{getD-at, append-snoc}
 use lib.Dec.{eqb, leb}
 use Rattle.folds.specs.Folds.{pick, both, any, listed}
 use Rattle.folds.specs.Answers.{Answer, value}
@@ -22,7 +22,7 @@ use Rattle.commands.specs.Reading.{Going}
 use Rattle.commands.proofs.Going.{starts, goes, refuses, ends}
 use Rattle.sheet.specs.Sheet.{Sheet, Task, Link, noTask, noLink, taskCount, linkCount, workOf, storeOf, sourceOf, targetOf, costOf, bytesOf}
 use Rattle.sheet.specs.Format.{Kind, board, task, link, end, Progress, fresh, taskFrom, linkFrom, ended, joins, joinsBy, sheetFormat, readForm}
-use Rattle.sheet.specs.Writing.{boardBytes, taskBytes, linkBytes, sheetBytes, taskValue, linkValue, sheetOfValues, linkValueBytes, taskValueBytes, valueBytes, taskValues, linkValues}
+use Rattle.sheet.specs.Writing.{boardBytes, taskBytes, linkBytes, sheetBytes, taskValue, linkValue, sheetOfValues, linkValueBytes, taskValueBytes, valueBytes}
 use Rattle.sheet.specs.Faults.{begun, taskFault, linkFault}
 use Rattle.sheet_reader.proofs.Given.{judge-task, judge-link, cut-task, cut-link, at-end, opening, taskTail, linkTail}
 use Rattle.sheet.proofs.Rounds.{task-bytes-length, ended-value, Proper, TaskFits, LinkFits, read-shaped, proper}
@@ -60,53 +60,6 @@ module _ (p l : ℕ) (tv lv : List ℕ) where
 
     pub written-length : length (valueBytes p l tv lv) ≡ 7 + 5 * (length tv / 2) + 7 * (length lv / 4)
     written-length = ap length values-bytes ∙ sheet-length (sheetOfValues p l tv lv) ∙ ap₂ (λ (n m : ℕ). 7 + 5 * n + 7 * m) values-tasks values-links
-
--- a sheet is the sheet of its values, and its bytes are those of its values
-pub task-values-length : (ts : List Task) → length (taskValues ts) ≡ 2 * length ts
-task-values-length [] = refl
-task-values-length (t ∷ ts) = omega (arith, task-values-length ts)
-
-pub link-values-length : (ls : List Link) → length (linkValues ls) ≡ 4 * length ls
-link-values-length [] = refl
-link-values-length (l ∷ ls) = omega (arith, link-values-length ls)
-
-task-value-at : (ts : List Task) (i : ℕ) → i < length ts → taskValue (taskValues ts) i ≡ getD ts i noTask
-task-value-at [] i h = absurd (omega arith)
-task-value-at (t ∷ ts) zero h = refl
-task-value-at (t ∷ ts) (suc i) h =
-    let v : List ℕ = taskValues (t ∷ ts) in
-    let a : 2 * suc i ≡ suc (suc (2 * i)) = omega arith in
-    let b : 2 * suc i + 1 ≡ suc (suc (2 * i + 1)) = omega arith in
-    ap₂ (λ (x y : ℕ). record { work = getD v x 0; store = getD v y 0 }) a b ∙ task-value-at ts i (omega arith)
-
-link-value-at : (ls : List Link) (i : ℕ) → i < length ls → linkValue (linkValues ls) i ≡ getD ls i noLink
-link-value-at [] i h = absurd (omega arith)
-link-value-at (l ∷ ls) zero h = refl
-link-value-at (l ∷ ls) (suc i) h =
-    let v : List ℕ = linkValues (l ∷ ls) in
-    let a : 4 * suc i ≡ suc (suc (suc (suc (4 * i)))) = omega arith in
-    let b : 4 * suc i + 1 ≡ suc (suc (suc (suc (4 * i + 1)))) = omega arith in
-    let c : 4 * suc i + 2 ≡ suc (suc (suc (suc (4 * i + 2)))) = omega arith in
-    let d : 4 * suc i + 3 ≡ suc (suc (suc (suc (4 * i + 3)))) = omega arith in
-    (λ x. record { source = getD v (a x) 0; target = getD v (b x) 0; cost = getD v (c x) 0; bytes = getD v (d x) 0 }) ∙ link-value-at ls i (omega arith)
-
--- a list by its elements
-listed-is : {X : Type 0} (xs : List X) (f : ℕ → X) (n : ℕ) (d : X) → n ≡ length xs → ((i : ℕ) → i < length xs → f i ≡ getD xs i d) → listed n f ≡ xs
-listed-is xs f n d e h =
-    ext-getD d (listed n f) xs (length-listed n f ∙ e) (λ i k. let l : i < n = rw (length-listed n f) at k in getD-listed n f i d l ∙ h i (omega arith))
-
-module _ (s : Sheet) where
-  pub sheet-of-values : sheetOfValues (s .processors) (s .limit) (taskValues (s .tasks)) (linkValues (s .links)) ≡ s
-  unfolding sheetOfValues
-  sheet-of-values =
-      let ts = listed-is (s .tasks) (taskValue (taskValues (s .tasks))) (length (taskValues (s .tasks)) / 2) noTask (omega (arith, task-values-length (s .tasks))) (task-value-at (s .tasks)) in
-      let ls = listed-is (s .links) (linkValue (linkValues (s .links))) (length (linkValues (s .links)) / 4) noLink (omega (arith, link-values-length (s .links))) (link-value-at (s .links)) in
-      λ x. record { processors = s .processors; limit = s .limit; tasks = ts x; links = ls x }
-
-  pub bytes-of-values : valueBytes (s .processors) (s .limit) (taskValues (s .tasks)) (linkValues (s .links)) ≡ sheetBytes s
-  bytes-of-values =
-      values-bytes (s .processors) (s .limit) (taskValues (s .tasks)) (linkValues (s .links)) (omega (arith, task-values-length (s .tasks))) (omega (arith, link-values-length (s .links)))
-      ∙ ap sheetBytes sheet-of-values
 
 -- a task and a link, read from their bytes
 task-back : (t : Task) (X : List ℕ) → TaskFits t → taskFrom (numberBytes 2 (t .work) ++ (numberBytes 2 (t .store) ++ X)) ≡ t
