@@ -7,6 +7,7 @@ ghost use Rattle.stepping.specs.Advance.{Roomy};
 ghost use Rattle.checker.specs.Settling.{AdvanceIs};
 use stepping::place;
 use stepping::processors::Processor;
+use words::pair;
 
 // Processor k after n commands, at the offset `at` with this clock and store, in its words: n.
 fn put_back(w: &mut [u32], k: usize, n: usize, at: usize, clock: usize, store: usize) -> usize
@@ -42,18 +43,14 @@ fn advance_from(sheet: &[u8], bundle: &[u8], w: &mut [u32], k: usize) -> usize
         let c = words::byte(bundle, at);
         if c == 0x52 {
             let t = words::byte(bundle, at + 1);
-            clock = (clock + words::pair(sheet, 7 + 5 * t)) % 4294967296;
-            store = (store + words::pair(sheet, 9 + 5 * t)) % 4294967296;
+            clock = (clock + pair(sheet, 7 + 5 * t)) % 4294967296;
+            store = (store + pair(sheet, 9 + 5 * t)) % 4294967296;
             at = (at + 2) % 4294967296;
             n += 1;
         } else {
-            let l = words::pair(bundle, at + 1);
+            let l = pair(bundle, at + 1);
             if c == 0x53 {
-                words::put(
-                    w,
-                    96 + l,
-                    clock + words::pair(sheet, 9 + 5 * tasks + 7 * l) + 1,
-                );
+                words::put(w, 96 + l, clock + pair(sheet, 9 + 5 * tasks + 7 * l) + 1);
                 at = (at + 3) % 4294967296;
                 n += 1;
             } else {
@@ -62,7 +59,7 @@ fn advance_from(sheet: &[u8], bundle: &[u8], w: &mut [u32], k: usize) -> usize
                     return put_back(w, k, n, at, clock, store);
                 }
                 clock = words::later(clock, stamp - 1);
-                store = (store + words::pair(sheet, 11 + 5 * tasks + 7 * l)) % 4294967296;
+                store = (store + pair(sheet, 11 + 5 * tasks + 7 * l)) % 4294967296;
                 at = (at + 3) % 4294967296;
                 n += 1;
             }

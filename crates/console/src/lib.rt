@@ -1,11 +1,10 @@
-// What the programs share: they read standard input into a lent buffer and print listings on standard output. A write that fails is named on
-// standard error, since a program has no exit status to say so; a read that fails is the caller's to name there.
+// What the programs share: they read standard input into a lent buffer and put listings into another. What is printed, and that a read or a
+// write failed, is theirs to say: a contract has no words for standard output.
 ghost use mathlib.Core.Path.{_≡_};
 ghost use Prim.Native.Nat.{_≤_, _-_};
 ghost use lib.ListN.{length};
 ghost use Rattle.console.specs.Pieces.{GotIs, InputIs, Whole, PutIs};
 use libc::STDIN_FILENO;
-use libc::STDOUT_FILENO;
 use lines::Listed;
 
 // What a read brought.
@@ -70,26 +69,10 @@ fn length_of(r: Listed) -> usize
     }
 }
 
-// Puts the listing of these bytes at the front of `out`, and answers its length.
-fn put_listing(sheet: &[u8], out: &mut [u8]) -> usize
-    requires { ⌜ 21551 ≤ length (now out) ⌝ }
+// Puts the listing of these bytes, which is never longer, at the front of `out`, and answers its length.
+pub fn put_listing(sheet: &[u8], out: &mut [u8; 21551]) -> usize
     ensures { λ n. ⌜ PutIs (now (sheet .entry)) (now (out .exit)) n ⌝ }
 {
     let mut work = [0u32; 8816];
     length_of(lines::list(sheet, &mut work, out))
-}
-
-// Writes these bytes.
-pub fn write(bytes: &[u8]) {
-    let is_written = io::write_all(STDOUT_FILENO, bytes);
-    if !is_written {
-        os::fail(b"standard output");
-    }
-}
-
-// Writes the listing of these bytes. No listing is longer than `out`.
-pub fn print(sheet: &[u8]) {
-    let mut out = [0u8; 21551];
-    let n = put_listing(sheet, &mut out);
-    write(&out[..n]);
 }

@@ -2,6 +2,7 @@
 pub mod Ranks
 pub mod Starts
 pub mod Spent
+pub mod Due
 pub mod Guards
 pub mod Steps
 pub mod Joins

@@ -1,5 +1,5 @@
 -- The idle test by counts: a processor is spent for t if as many links from it wait as lead from it to successors of t.
-use Prim.Native.Nat.{ℕ, _+_, _*_, _/_, _%_, _^_, _≤_, _<_}
+use Prim.Native.Nat.{ℕ, zero, suc, _+_, _*_, _/_, _%_, _^_, _≤_, _<_}
 use mathlib.Core.Bool.{Bool, true, false, not, true≢false}
 use mathlib.Core.Path.{_≡_, refl, ap, sym, _∙_, subst}
 use mathlib.Core.Logic.{_≢_}
@@ -18,15 +18,16 @@ use Rattle.planner.specs.Schedule.{Schedule, placed, stands}
 use Rattle.planner.specs.Placing.{followsBy, follows, spentBy, spent}
 use Rattle.planner.proofs.Ready.{ready-free}
 use Rattle.schedule.specs.Layout.{scheduleIn}
-use Rattle.arrivals.specs.Kept.{countedBy, into, intoFrom, waits, oneBy, known, Single, Closed, Counted}
+use Rattle.arrivals.specs.Kept.{countedBy, into, intoFrom, waits, oneBy, known, fourOf, Single, Closed, Counted}
 use Rattle.arrivals.proofs.Counts.{sum-single, counts-from-le}
 use Rattle.arrivals.proofs.Placing.{stands-placed}
 use Rattle.arrivals.proofs.Few.{few-from}
-use Rattle.arrivals.proofs.Fours.{four-byte}
+use Rattle.arrivals.proofs.Fours.{four-byte, four-zero}
 use Rattle.arrivals.proofs.Links.{few-counted}
-use Rattle.placing.specs.Choosing.{Choosing, knownInto, dueBy, OnBoard}
+use Rattle.placing.specs.Choosing.{Choosing, knownInto, dueBy, OnBoard, fourIn, Dues}
+use Rattle.placing.specs.declared.Counts.{Counts}
 use Rattle.placing.specs.declared.Senders.{Senders}
-use Rattle.placing.specs.declared.Senders.the-variants.{One, All}
+use Rattle.placing.specs.declared.Senders.the-variants.{One, All, Four}
 
 module _ (s : Sheet) (σ : Schedule) (t k : ℕ) (k-in : k < 16) (free : placed σ t ≡ false) (closed : Closed s σ) (single : Single s) where
   abbrev part : ℕ → ℕ → ℕ
@@ -123,10 +124,6 @@ module _ (s : Sheet) (σ : Schedule) (t k : ℕ) (k-in : k < 16) (free : placed 
   unfolding spent
   spent-is = rw due-is (all-eqb (linkCount s) followed waiting (spentBy s σ t k) less each)
 
-  -- where nothing waits, nothing is due
-  due-none : sum (linkCount s) waiting ≡ 0 → sum (linkCount s) (dueBy s σ t (One k)) ≡ 0
-  due-none e = omega (arith, due-is, sum-mono (linkCount s) followed waiting less)
-
 -- no processor has more due than all
 one-le-all : (s : Sheet) (σ : Schedule) (t k i : ℕ) → dueBy s σ t (One k) i ≤ dueBy s σ t All i
 unfolding dueBy knownInto countedBy
@@ -156,11 +153,6 @@ module _ (w : List ℕ) (t k : ℕ) (c : Choosing w t) (k-in : k < 16) {p : ℕ}
       let e : sum (linkCount s) (dueBy s σ t (One k)) ≢ p = λ x. absurd (omega (arith, sum-mono (linkCount s) (dueBy s σ t (One k)) (dueBy s σ t All) (λ i h. one-le-all s σ t k i), x)) in
       sym (ne-eqb (sum (linkCount s) (dueBy s σ t (One k))) p e) ∙ spent-kept refl
 
-  pub spent-none : p ≡ 0 → true ≡ spent s σ t k
-  spent-none e =
-      let d = due-none s σ t k k-in (ready-free s σ t (c .isReady)) (c .kept .caches .closed) (c .kept .single) (sym waiting-is ∙ e) in
-      sym (eq-eqb (sum (linkCount s) (dueBy s σ t (One k))) p (d ∙ sym e)) ∙ spent-kept refl
-
 -- a link that does not lead from t counts nothing
 pub due-else : (s : Sheet) (σ : Schedule) (t : ℕ) (from : Senders) (l : ℕ) → sourceOf s l ≢ t → dueBy s σ t from l ≡ 0
 unfolding dueBy
@@ -181,7 +173,7 @@ target-free {w} {t} c l h own ev = ap (placed (scheduleIn w)) ev ∙ go (placed 
 -- the known links into v stand in its words
 module _ {s : Sheet} {σ : Schedule} {w : List ℕ} (ranged : Ranged s) (d : Counted s σ (known s σ) w) (v : ℕ) (h : v < taskCount s) where
   pub known-one : Single s → placed σ v ≡ false → {from : Senders} {k x : ℕ} → from ≡ One k → OnBoard from → x ≡ getD w (7792 + (4 * v + k / 4)) 0
-      → (x / 2 ^ (8 * (k % 4)) % 256 ≡ knownInto s σ v from) × (x / 2 ^ (8 * (k % 4)) % 256 ≤ 1024)
+      → (x / 2 ^ (8 * (k % 4)) % 256 ≡ knownInto s σ v from) × (x / 2 ^ (8 * (k % 4)) % 256 < 4294967296)
   unfolding knownInto
   known-one single free {from} {k} {x} e on ex =
       let k-in : k < 16 = subst OnBoard e on in
@@ -193,9 +185,40 @@ module _ {s : Sheet} {σ : Schedule} {w : List ℕ} (ranged : Ranged s) (d : Cou
         omega arith,
       )
 
-  pub known-all : {from : Senders} {x : ℕ} → from ≡ All → x ≡ getD w (6688 + v) 0 → (x ≡ knownInto s σ v from) × (x ≤ 1024)
+  pub known-all : {from : Senders} {x : ℕ} → from ≡ All → x ≡ getD w (6688 + v) 0 → (x ≡ knownInto s σ v from) × (x < 4294967296)
   unfolding knownInto
   known-all {from} e ex = (ex ∙ d .seen v h ∙ ap (knownInto s σ v) (sym e), omega (arith, ex, few-counted ranged d v 0 h (omega arith) .seen))
 
+  pub known-four : {from : Senders} {j x : ℕ} → from ≡ Four j → OnBoard from → x ≡ getD w (7792 + (4 * v + j)) 0 → x < 4294967296 → (x ≡ knownInto s σ v from) × (x < 4294967296)
+  unfolding knownInto
+  known-four {from} {j} e on ex few = (ex ∙ d .packed v j h (subst OnBoard e on) ∙ ap (knownInto s σ v) (sym e), few)
+
+-- four counts in one number: what is due from each of four processors
+module _ (s : Sheet) (σ : Schedule) (t : ℕ) where
+  four-due : (j l : ℕ) → dueBy s σ t (Four j) l ≡ fourOf (λ i. dueBy s σ t (One (4 * j + i)) l)
+  unfolding dueBy knownInto
+  four-due j l = go (eqb (sourceOf s l) t) (λ i. sum (linkCount s) (countedBy (intoFrom s σ (targetOf s l) (4 * j + i)) oneBy (known s σ)))
+    where
+      go : (b : Bool) (f : ℕ → ℕ) → pick b (fourOf f) 0 ≡ fourOf (λ i. pick b (f i) 0)
+      go true f = refl
+      go false f = sym (four-zero (λ i. 0) (λ i h. refl))
+
+  four-sum : (n : ℕ) (f : ℕ → ℕ) (g : ℕ → ℕ → ℕ) → ((l : ℕ) → f l ≡ fourOf (λ i. g i l)) → sum n f ≡ fourOf (λ i. sum n (g i))
+  unfolding sum fourOf
+  four-sum zero f g e = refl
+  four-sum (suc n) f g e = omega (arith, four-sum n f g e, e n)
+
+  pub due-byte : {d : ℕ} {x : Counts} → Dues s σ t d x → d < 256 → (k : ℕ) → k < 16 → {y : ℕ} → y ≡ fourIn x (k / 4) → y / 2 ^ (8 * (k % 4)) % 256 ≡ sum (linkCount s) (dueBy s σ t (One k))
+  due-byte {d} {x} h few k k-in {y} e =
+      let q : 4 * (k / 4) + k % 4 ≡ k = omega arith in
+      let counts : ℕ → ℕ = λ i. sum (linkCount s) (dueBy s σ t (One (4 * (k / 4) + i))) in
+      let packed : y ≡ fourOf counts = e ∙ h .four .each (k / 4) (omega arith) ∙ four-sum (linkCount s) (dueBy s σ t (Four (k / 4))) (λ i. dueBy s σ t (One (4 * (k / 4) + i))) (four-due (k / 4)) in
+      ap (λ (z : ℕ). z / 2 ^ (8 * (k % 4)) % 256) packed
+      ∙ four-byte counts (k % 4) (omega arith) (λ i g. omega (arith, h .all, sum-mono (linkCount s) (dueBy s σ t (One (4 * (k / 4) + i))) (dueBy s σ t All) (λ l p. one-le-all s σ t (4 * (k / 4) + i) l)))
+      ∙ ap (λ (z : ℕ). sum (linkCount s) (dueBy s σ t (One z))) q
+
 pub on-board : {from : Senders} {k : ℕ} → from ≡ One k → OnBoard from → k < 16
 on-board e on = subst OnBoard e on
+
+pub on-four : {from : Senders} {j : ℕ} → from ≡ Four j → OnBoard from → j < 4
+on-four e on = subst OnBoard e on

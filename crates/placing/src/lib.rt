@@ -16,7 +16,7 @@ ghost use Rattle.schedule.specs.Layout.{scheduleIn};
 ghost use Rattle.arrivals.specs.Kept.{Kept};
 ghost use Rattle.words.specs.Found.{foundOf, Below};
 ghost use Rattle.readiness.specs.Keyed.{Keyed};
-ghost use Rattle.placing.specs.Choosing.{Choosing, knownInto, dueBy, OnBoard};
+ghost use Rattle.placing.specs.Choosing.{Choosing, knownInto, dueBy, fourIn, Small, MoreDue, DuesTo, Dues, OnBoard};
 ghost use Rattle.placing.specs.Ranks.{lowKey, highKey, processorOf, joinKey, idleKey, mayBeIdle};
 ghost use Rattle.placing.specs.Guards.{BarsFor, Bars};
 use chains::End;
@@ -76,21 +76,23 @@ fn fits_on(w: &[u32], t: usize, k: usize) -> bool
     x + y + z <= tables::limit(w) + v
 }
 
-// From where links are counted: from one processor, or from all.
+// From where links are counted: from one processor, from all, or from processors 4 j to 4 j + 3, a byte for each.
 pub enum Senders {
     One(usize),
     All,
+    Four(usize),
 }
 
 // The known links into v, which is not placed.
 fn known_into(w: &[u32], v: usize, from: Senders) -> usize
     requires { ⌜ Kept (now w) ⌝ }
     requires { ⌜ (v < taskCount (sheetIn (now w))) × (placed (scheduleIn (now w)) v ≡ false) × OnBoard from ⌝ }
-    ensures { λ r. ⌜ (r ≡ knownInto (sheetIn (now (w .entry))) (scheduleIn (now (w .entry))) v from) × (r ≤ 1024) ⌝ }
+    ensures { λ r. ⌜ (r ≡ knownInto (sheetIn (now (w .entry))) (scheduleIn (now (w .entry))) v from) × (r < 4294967296) ⌝ }
 {
     match from {
         Senders::One(k) => (workspace::word(w, 7792 + (4 * v + k / 4)) >> (8 * (k % 4))) % 256,
         Senders::All => workspace::word(w, 6688 + v),
+        Senders::Four(j) => workspace::word(w, 7792 + (4 * v + j)),
     }
 }
 
@@ -110,6 +112,68 @@ fn due_from(w: &[u32], t: usize, from: Senders) -> usize
     due
 }
 
+// Sixteen counts, four in each number, a byte for each.
+pub struct Counts {
+    pub a: usize,
+    pub b: usize,
+    pub c: usize,
+    pub d: usize,
+}
+
+// The number with the counts of processors 4 j to 4 j + 3.
+fn four_of(x: Counts, j: usize) -> usize
+    ensures { λ r. ⌜ r ≡ fourIn x j ⌝ }
+{
+    if j == 0 {
+        return x.a;
+    }
+    if j == 1 {
+        return x.b;
+    }
+    if j == 2 {
+        return x.c;
+    }
+    x.d
+}
+
+// The known links into v besides.
+fn more_due(w: &[u32], x: Counts, v: usize) -> Counts
+    requires { ⌜ Kept (now w) ⌝ }
+    requires { ⌜ (v < taskCount (sheetIn (now w))) × (placed (scheduleIn (now w)) v ≡ false) × Small x ⌝ }
+    ensures { λ r. ⌜ MoreDue (sheetIn (now (w .entry))) (scheduleIn (now (w .entry))) v x r ⌝ }
+{
+    let a = known_into(w, v, Senders::Four(0));
+    let b = known_into(w, v, Senders::Four(1));
+    let c = known_into(w, v, Senders::Four(2));
+    let d = known_into(w, v, Senders::Four(3));
+    Counts {
+        a: x.a + a,
+        b: x.b + b,
+        c: x.c + c,
+        d: x.d + d,
+    }
+}
+
+// The known links into the successors of t by the processor that they come from, in one walk.
+fn dues_of(w: &[u32], t: usize) -> Counts
+    requires { ⌜ Choosing (now w) t ⌝ }
+    ensures { λ r. ⌜ DuesTo (sheetIn (now (w .entry))) (scheduleIn (now (w .entry))) t (linkCount (sheetIn (now (w .entry)))) r ⌝ }
+{
+    let m = tables::links(w);
+    let mut l = chains::first(w, End::Source, t);
+    let mut x = Counts {
+        a: 0,
+        b: 0,
+        c: 0,
+        d: 0,
+    };
+    while l < m {
+        x = more_due(w, x, tables::target(w, l));
+        l = chains::next(w, End::Source, l);
+    }
+    x
+}
+
 // Both hold; without a branch, since neither can be foretold.
 fn are_both(a: bool, b: bool) -> bool
     ensures { λ r. ⌜ r ≡ both a b ⌝ }
@@ -117,17 +181,25 @@ fn are_both(a: bool, b: bool) -> bool
     if a { b } else { false }
 }
 
-// Each successor of each task on k is placed or is a successor of t: no other link from k waits than the p that are due.
-fn is_spent(w: &[u32], t: usize, k: usize, p: usize) -> bool
+// The known links from k into the successors of t, of which d are known from all: a byte holds them, if it holds d.
+fn due_of(w: &[u32], t: usize, d: usize, dues: Counts, k: usize) -> usize
     requires { ⌜ Choosing (now w) t ⌝ }
-    requires { ⌜ (k < 16) × (p ≡ getD (now w) (7744 + k) 0) ⌝ }
+    requires { ⌜ Dues (sheetIn (now w)) (scheduleIn (now w)) t d dues × (k < 16) ⌝ }
+    ensures { λ r. ⌜ r ≡ sum (linkCount (sheetIn (now (w .entry)))) (dueBy (sheetIn (now (w .entry))) (scheduleIn (now (w .entry))) t (Senders.One k)) ⌝ }
+{
+    if d < 256 {
+        return (four_of(dues, k / 4) >> (8 * (k % 4))) % 256;
+    }
+    due_from(w, t, Senders::One(k))
+}
+
+// Each successor of each task on k is placed or is a successor of t: no other link from k waits than the p that are due.
+fn is_spent(w: &[u32], t: usize, d: usize, dues: Counts, k: usize, p: usize) -> bool
+    requires { ⌜ Choosing (now w) t ⌝ }
+    requires { ⌜ Dues (sheetIn (now w)) (scheduleIn (now w)) t d dues × (k < 16) × (p ≡ getD (now w) (7744 + k) 0) ⌝ }
     ensures { λ r. ⌜ r ≡ spent (sheetIn (now (w .entry))) (scheduleIn (now (w .entry))) t k ⌝ }
 {
-    if p == 0 {
-        true
-    } else {
-        due_from(w, t, Senders::One(k)) == p
-    }
+    due_of(w, t, d, dues, k) == p
 }
 
 // The key of k by the least value, then by the lowest number; 0 where the test fails.
@@ -230,10 +302,10 @@ fn join_on(w: &[u32], t: usize, bars: usize, a: usize) -> Found
 
 // The key of k in step 2; a is t's arrival. Where more links from k wait than are due from all processors (d), which is
 // mostly so, nothing else is looked at.
-fn idle_key(w: &[u32], t: usize, a: usize, d: usize, k: usize) -> usize
+fn idle_key(w: &[u32], t: usize, a: usize, d: usize, dues: Counts, k: usize) -> usize
     requires { ⌜ Choosing (now w) t ⌝ }
     requires { ⌜ (a ≡ arrival (sheetIn (now w)) (scheduleIn (now w)) t) × (k < 16) ⌝ }
-    requires { ⌜ d ≡ sum (linkCount (sheetIn (now w))) (dueBy (sheetIn (now w)) (scheduleIn (now w)) t Senders.All) ⌝ }
+    requires { ⌜ Dues (sheetIn (now w)) (scheduleIn (now w)) t d dues ⌝ }
     ensures { λ r. ⌜ r ≡ idleKey (sheetIn (now (w .entry))) (scheduleIn (now (w .entry))) t k ⌝ }
 {
     let p = workspace::word(w, 7744 + k);
@@ -242,7 +314,7 @@ fn idle_key(w: &[u32], t: usize, a: usize, d: usize, k: usize) -> usize
     }
     let e = end_of(w, k);
     if e <= a {
-        if is_spent(w, t, k, p) {
+        if is_spent(w, t, d, dues, k, p) {
             if fits_on(w, t, k) {
                 return high_key(e, k);
             }
@@ -275,17 +347,17 @@ fn may_be_idle(w: &[u32], n: usize, a: usize, d: usize) -> bool
 }
 
 // Step 2 over all open processors; d is what is due from all of them.
-fn idle_among(w: &[u32], t: usize, a: usize, d: usize) -> Found
+fn idle_among(w: &[u32], t: usize, a: usize, d: usize, dues: Counts) -> Found
     requires { ⌜ Choosing (now w) t ⌝ }
     requires { ⌜ a ≡ arrival (sheetIn (now w)) (scheduleIn (now w)) t ⌝ }
-    requires { ⌜ d ≡ sum (linkCount (sheetIn (now w))) (dueBy (sheetIn (now w)) (scheduleIn (now w)) t Senders.All) ⌝ }
+    requires { ⌜ Dues (sheetIn (now w)) (scheduleIn (now w)) t d dues ⌝ }
     ensures { λ r. ⌜ (foundOf r ≡ idle (sheetIn (now (w .entry))) (barred (sheetIn (now (w .entry)))) (scheduleIn (now (w .entry))) t) × Below 16 r ⌝ }
 {
     let n = schedule::opened(w);
     let mut best: usize = 0;
     let mut k: usize = 0;
     while k < n {
-        best = words::later(best, idle_key(w, t, a, d, k));
+        best = words::later(best, idle_key(w, t, a, d, dues, k));
         k += 1;
     }
     processor_of(best)
@@ -299,7 +371,7 @@ fn idle_on(w: &[u32], t: usize, a: usize) -> Found
 {
     let d = due_from(w, t, Senders::All);
     if may_be_idle(w, schedule::opened(w), a, d) {
-        return idle_among(w, t, a, d);
+        return idle_among(w, t, a, d, dues_of(w, t));
     }
     Found::Nothing
 }

@@ -15,7 +15,7 @@ use Rattle.planner.specs.Placing.{arrival, firstReady, endOf, startOn, f
 
 -- The guard is a parameter, so that the trial sheets can say what it changes.
 module _ (s : Sheet) (guard : Schedule → ℕ → ℕ → Bool) where
-  -- 1. "Join: open k that hold a predecessor of t, fit, are not barred, and start t before A. Least start, then lowest number"
+  -- 1. "Join: open k that hold a predecessor of t, fit, are not barred, and start t before A. Least start, then the lowest numbered of the admissible processors"
   unfoldable pub mayJoin : Schedule → ℕ → ℕ → Bool
   mayJoin σ t k =
       both (both (holdsPredecessor s σ t k) (fits s σ t k)) (both (not (guard σ t k)) (ltb (startOn s σ t k) (arrival s σ t)))

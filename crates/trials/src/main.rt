@@ -5,6 +5,7 @@ ghost use Prim.Native.Nat.{_<_};
 ghost use lib.ListN.{length};
 ghost use Rattle.trials.specs.Records.{recordAt};
 use console::Input;
+use libc::STDOUT_FILENO;
 
 // A record of the input, by the ends of its name and of its sheet.
 enum Record {
@@ -34,15 +35,29 @@ fn record_at(input: &[u8], at: usize) -> Record
     Record::Whole(name_end, sheet_end)
 }
 
+// Prints these bytes.
+fn print(bytes: &[u8]) {
+    if !io::write_all(STDOUT_FILENO, bytes) {
+        os::fail(b"standard output");
+    }
+}
+
+// Prints the listing of these bytes.
+fn print_listing(sheet: &[u8]) {
+    let mut out = [0u8; 21551];
+    let n = console::put_listing(sheet, &mut out);
+    print(&out[..n]);
+}
+
 // Prints the name and the listing of the record at `at`.
 fn print_record(input: &[u8], at: usize, name_end: usize, sheet_end: usize)
     requires { ⌜ recordAt (now input) at ≡ Record.Whole «name_end» «sheet_end» ⌝ }
 {
     let name = at + 1;
     let sheet = name_end + 2;
-    console::write(&input[name..name_end]);
-    console::write(b"\n");
-    console::print(&input[sheet..sheet_end]);
+    print(&input[name..name_end]);
+    print(b"\n");
+    print_listing(&input[sheet..sheet_end]);
 }
 
 // Prints each record of the input, up to one that is cut.

@@ -1,4 +1,4 @@
-// Bytes and words at any index: 0 past the end, and a store there changes nothing. Nothing is asked of a caller, so that code over them is safe on any lent memory.
+// Bytes and words at any index: 0 past the end, and a store there changes nothing. Nothing is asked of the memory, so that code over them is safe on any that is lent.
 ghost use mathlib.Core.Path.{_≡_};
 ghost use Prim.Native.Nat.{_-_, _%_, _<_, max, min};
 ghost use lib.ListN.{getD, set};
@@ -22,9 +22,10 @@ pub fn byte(b: &[u8], i: usize) -> usize
 
 // The two bytes at i, lowest first; one test where both are there.
 pub fn pair(b: &[u8], i: usize) -> usize
+    requires { ⌜ i < 1099511627776 ⌝ }
     ensures { λ r. ⌜ (r ≡ numberAt 2 (now (b .entry)) i) × (r < 65536) ⌝ }
 {
-    if i < minus(b.len(), 1) {
+    if i + 1 < b.len() {
         return numbers::get16(b, i) as usize;
     }
     byte(b, i)

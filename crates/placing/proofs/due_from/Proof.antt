@@ -15,7 +15,7 @@ use Rattle.placing.proofs.due_from.Statement.{statement}
 use Rattle.placing.proofs.due_from.Tie as tie
 
 abbrev Inv-loop : tie.InvT-loop
-Inv-loop w t from m l₀ due₀ l due = (l ≤ m) × (l < linkCount (sheetIn w) → sourceOf (sheetIn w) l ≡ t) × (due ≡ sum l (dueBy (sheetIn w) (scheduleIn w) t from)) × (due ≤ 1024 * l)
+Inv-loop w t from m l₀ due₀ l due = (l ≤ m) × (l < linkCount (sheetIn w) → sourceOf (sheetIn w) l ≡ t) × (due ≡ sum l (dueBy (sheetIn w) (scheduleIn w) t from)) × (due ≤ 4294967295 * l)
 
 abbrev μ-loop : tie.MeasureT-loop
 μ-loop w t from m l₀ due₀ l due = m - l

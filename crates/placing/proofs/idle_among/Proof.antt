@@ -13,10 +13,10 @@ use Rattle.placing.proofs.idle_among.Statement.{statement}
 use Rattle.placing.proofs.idle_among.Tie as tie
 
 abbrev Inv-loop : tie.InvT-loop
-Inv-loop w t a d n best₀ k₀ best k = (k ≤ n) × (best ≡ greatest k (idleKey (sheetIn w) (scheduleIn w) t))
+Inv-loop w t a d dues n best₀ k₀ best k = (k ≤ n) × (best ≡ greatest k (idleKey (sheetIn w) (scheduleIn w) t))
 
 abbrev μ-loop : tie.MeasureT-loop
-μ-loop w t a d n best₀ k₀ best k = n - k
+μ-loop w t a d dues n best₀ k₀ best k = n - k
 
 loop-holds : tie.Need-loop-holds Inv-loop μ-loop
 loop-holds c = (omega arith, sym (greatest-zero _))

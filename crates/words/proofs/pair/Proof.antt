@@ -8,7 +8,7 @@ use Rattle.words.proofs.pair.Tie as tie
 
 returns-2 : tie.Need-returns-2
 returns-2 c =
-    (last-byte (now (c .before .before .before .before .args .b)) (c .before .before .before .before .args .i) _ (omega (arith, c .before .if1 .left, c .before .before .minus .ensures)) (c .byte .ensures .0), omega (arith, c .byte .ensures .1))
+    (last-byte (now (c .before .before .before .args .b)) (c .before .before .before .args .i) _ (c .before .if1 .left) (c .byte .ensures .0), omega (arith, c .byte .ensures .1))
 
 pub pair-spec : {M : Type 1} → statement M
-pair-spec = tie.close (tie.spec (λ c κs. search needs) (λ c κs. search needs) (λ c. search needs) (λ c. search needs) (λ c κs. search needs) returns-2)
+pair-spec = tie.close (tie.spec (λ c. search needs) (λ c κs. search needs) (λ c. search needs) (λ c. search needs) (λ c κs. search needs) returns-2)
