@@ -1,7 +1,7 @@
 -- A list of choices: one more, and all of them.
 use Prim.Native.Nat.{ℕ, _+_, _<_, _≤_}
 use mathlib.Core.Path.{_≡_, refl, sym, ap, _∙_, subst}
-use mathlib.Core.Bool.{Bool, true, false}
+use mathlib.Core.Bool.{Bool}
 use mathlib.Core.Option.{Option, none, some}
 use mathlib.Core.List.{List, [], _∷_, _++_}
 use native.Mathlib.Omega.{arith}
@@ -33,10 +33,6 @@ module _ (s : Sheet) (b : Bundle) where
       by : (o : Option State) → step s b (r .state) k ≡ o → (choose s b r k .state ≡ chosen (r .state) (step s b (r .state) k)) × (choose s b r k .stepped ≡ r .stepped + bit (canStep s b (r .state) k))
       by none e = (rw e, rw e (omega arith))
       by (some τ) e = (rw e, rw e (omega arith))
-
-pub bit-le : (f : Bool) → bit f ≤ 1
-bit-le true = omega arith
-bit-le false = omega arith
 
 pub run-none : (sheet bundle choices w : List ℕ) → RunIs sheet bundle (take 0 choices) w w 0
 unfolding runFrom

@@ -2,7 +2,8 @@
 use Rattle.state.specs.Keeps.{RunIs}
 use Prim.Native.Nat.{_-_, _≤_}
 use native.Mathlib.Omega.{arith}
-use Rattle.stepping.proofs.Lists.{bit-le, run-all, run-more, run-none}
+use Rattle.folds.proofs.Tests.{bit-le}
+use Rattle.stepping.proofs.Lists.{run-all, run-more, run-none}
 use lib.ListN.{length, take}
 use borrow.Author.Needs.{needs}
 use denote.Ref.{now}
