@@ -4,9 +4,8 @@ use mathlib.Core.Bool.{Bool, true, false, not, true≢false}
 use mathlib.Core.Path.{_≡_, refl, sym, _∙_}
 use mathlib.Core.Logic.{_≢_}
 use native.Mathlib.Omega.{arith}
-use native.Mathlib.Decide.{decLt}
 use Rattle.folds.specs.Folds.{pick, both, either, any, sum, greatest}
-use Rattle.folds.proofs.Laws.{none-any, sum-mono, sum-point, greatest-point, greatest-le, greatest-mono, term-le-greatest}
+use Rattle.folds.proofs.Laws.{none-any, sum-mono, sum-point, greatest-point, greatest-mono}
 use Rattle.arrivals.specs.Kept.{countedBy}
 
 module _ (q : ℕ → Bool) (x : ℕ → ℕ) (c c′ : ℕ → Bool) (i : ℕ) (was : c i ≡ false) (now : c′ i ≡ true) where
@@ -74,25 +73,16 @@ sum-single (suc n) p h = go (p n) refl (sum-single n p (λ i j a b. h i j (omega
         last true q = omega arith
         last false q = omega arith
 
--- a longer sum is no smaller
-pub sum-longer : (b a : ℕ) (f : ℕ → ℕ) → a ≤ b → sum a f ≤ sum b f
-unfolding sum
-sum-longer zero a f h = let e : a ≡ 0 = omega arith in rw e (omega arith)
-sum-longer (suc b) a f h = go (decLt b a) (sum-longer b a f)
-  where
-    go : Dec (b < a) → (a ≤ b → sum a f ≤ sum b f) → sum a f ≤ sum b f + f b
-    go (yes p) ih = let e : a ≡ suc b = omega arith in rw e (omega arith)
-    go (no p) ih = omega (arith, ih (omega arith))
+-- what two tests ask for is no more than what one does
+part : (a b d : Bool) (y : ℕ) → pick (both (both a b) d) y 0 ≤ pick (both a d) y 0
+part true true d y = omega arith
+part true false d y = omega arith
+part false b d y = omega arith
 
 -- no more of the counted ones are asked for by two tests than by one
 pub counts-from-le : (n : ℕ) (q p c : ℕ → Bool) (x : ℕ → ℕ) → sum n (countedBy (λ l. both (q l) (p l)) x c) ≤ sum n (countedBy q x c)
 unfolding countedBy
 counts-from-le n q p c x = sum-mono n _ _ (λ l h. part (q l) (p l) (c l) (x l))
-  where
-    part : (a b d : Bool) (y : ℕ) → pick (both (both a b) d) y 0 ≤ pick (both a d) y 0
-    part true true d y = omega arith
-    part true false d y = omega arith
-    part false b d y = omega arith
 
 -- The two greatest: from those links that p marks, and from the others.
 module _ (n : ℕ) (q : ℕ → Bool) (x : ℕ → ℕ) (c : ℕ → Bool) where
@@ -105,31 +95,13 @@ module _ (n : ℕ) (q : ℕ → Bool) (x : ℕ → ℕ) (c : ℕ → Bool) where
   abbrev pub whole : ℕ
   whole = greatest n (countedBy q x c)
 
-  term : (a p b : Bool) (y : ℕ) → pick (both (both a p) b) y 0 ≤ pick (both a b) y 0
-  term true true b y = omega arith
-  term true false b y = omega arith
-  term false p b y = omega arith
-
   pub from-le : (p : ℕ → Bool) → from p ≤ whole
   unfolding countedBy
-  from-le p = greatest-mono n _ _ (λ i h. term (q i) (p i) (c i) (x i))
+  from-le p = greatest-mono n _ _ (λ i h. part (q i) (p i) (c i) (x i))
 
   pub off-le : (p : ℕ → Bool) → off p ≤ whole
   unfolding countedBy
-  off-le p = greatest-mono n _ _ (λ i h. term (q i) (not (p i)) (c i) (x i))
-
-  halves : (a p b : Bool) (y u v : ℕ) → pick (both (both a p) b) y 0 ≤ u → pick (both (both a (not p)) b) y 0 ≤ v → pick (both a b) y 0 ≤ max u v
-  halves true true b y u v h k = omega arith
-  halves true false b y u v h k = omega arith
-  halves false p b y u v h k = omega arith
-
-  -- the whole is the greater of the two
-  pub whole-is : (p : ℕ → Bool) → whole ≡ max (from p) (off p)
-  unfolding countedBy
-  whole-is p = let a = from-le p in let b = off-le p in let d = le in omega arith
-    where
-      le : whole ≤ max (from p) (off p)
-      le = greatest-le n _ _ (λ i h. halves (q i) (p i) (c i) (x i) (from p) (off p) (term-le-greatest n _ i h) (term-le-greatest n _ i h))
+  off-le p = greatest-mono n _ _ (λ i h. part (q i) (not (p i)) (c i) (x i))
 
   apart : (a p r b : Bool) (y : ℕ) → both p r ≡ false → pick (both (both a p) b) y 0 ≤ pick (both (both a (not r)) b) y 0
   apart a true true b y e = absurd (true≢false e)

@@ -9,13 +9,13 @@ use native.Mathlib.Decide.{decLt}
 use borrow.Author.Tests.{eq-eqb, ne-eqb}
 use lib.ListN.{getD}
 use Rattle.folds.specs.Folds.{sum}
+use Rattle.folds.proofs.Laws.{sum-rises}
 use Rattle.folds.proofs.Loops.{sum-one}
 use Rattle.sheet.specs.Sheet.{Sheet, taskCount, linkCount, targetOf}
 use Rattle.chains.specs.Chains.{Chained}
 use Rattle.chains.specs.declared.End.the-variants.{Target}
 use Rattle.chains.proofs.Walks.{own-first, own-next, sum-first, sum-next}
 use Rattle.arrivals.specs.Kept.{countedBy, into, oneBy, Gathered}
-use Rattle.arrivals.proofs.Counts.{sum-longer}
 
 -- the walk, at link l, after i links
 pub record Walking (s : Sheet) (t i l : ℕ) : Type 0 where
@@ -65,5 +65,5 @@ module _ {s : Sheet} {w : List ℕ} (chained : Chained Target s w) (gathered : G
       where
         go : Dec (l < linkCount s) → l ≡ linkCount s
         go (yes p) =
-            absurd (omega (arith, g .walked, gathered .number t t-in, sum-one l leads, leads-own l (g .own p), sum-longer (linkCount s) (l + 1) leads (omega arith)))
+            absurd (omega (arith, g .walked, gathered .number t t-in, sum-one l leads, leads-own l (g .own p), sum-rises (l + 1) (linkCount s) leads (omega arith)))
         go (no p) = omega (arith, g .here)
