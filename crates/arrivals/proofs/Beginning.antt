@@ -10,8 +10,8 @@ use Rattle.folds.specs.Folds.{pick, both, sum, greatest}
 use Rattle.folds.proofs.Laws.{sum-zeros, greatest-le}
 use Rattle.sheet.specs.Sheet.{Sheet, taskCount, linkCount, sourceOf, targetOf}
 use Rattle.planner.specs.Schedule.{Schedule, placed, stands, placeOf}
-use Rattle.planner.specs.Placing.{endBy, endOf, storeBy, bytesBy, storeOn}
-use Rattle.arrivals.specs.Kept.{countedBy, into, intoFrom, intoOff, waits, reachBy, oneBy, known, Counted, Ends, Closed}
+use Rattle.planner.specs.Placing.{reachBy, endBy, endOf, storeBy, bytesBy, storeOn}
+use Rattle.arrivals.specs.Kept.{countedBy, into, intoFrom, intoOff, waits, oneBy, known, Counted, Ends, Closed}
 use Rattle.arrivals.specs.Steps.{Zero, Blank}
 use Rattle.arrivals.proofs.Fours.{four-zero}
 use Rattle.arrivals.proofs.Clearing.{blank-word}

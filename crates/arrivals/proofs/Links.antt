@@ -15,7 +15,8 @@ use Rattle.folds.proofs.Tests.{both-parts}
 use Rattle.sheet.specs.Sheet.{Sheet, taskCount, linkCount, sourceOf, targetOf, costOf}
 use Rattle.sheet.specs.Tables.{Ranged}
 use Rattle.planner.specs.Schedule.{Schedule, placed, stands, placeOf, finishOf}
-use Rattle.arrivals.specs.Kept.{countedBy, into, intoFrom, intoOff, waits, reachBy, oneBy, fourOf, Single, Counted}
+use Rattle.planner.specs.Placing.{reachBy}
+use Rattle.arrivals.specs.Kept.{countedBy, into, intoFrom, intoOff, waits, oneBy, fourOf, Single, Counted}
 use Rattle.arrivals.specs.Reach.{further}
 use Rattle.arrivals.specs.Steps.{countWords, upTo, Beside, Landed}
 use Rattle.arrivals.specs.declared.Reach.{Reach}

@@ -14,8 +14,8 @@ use Rattle.folds.specs.Folds.{pick, both, sum}
 use Rattle.folds.proofs.Laws.{sum-cong, greatest-cong, sum-point, greatest-point, sum-add}
 use Rattle.sheet.specs.Sheet.{Sheet, taskCount, linkCount, sourceOf, targetOf, costOf, bytesOf, storeOf}
 use Rattle.planner.specs.Schedule.{Schedule, put, nowhere, placed, stands, placeOf, finishOf}
-use Rattle.planner.specs.Placing.{endBy, endOf, storeBy, bytesBy, storeOn}
-use Rattle.arrivals.specs.Kept.{countedBy, into, intoFrom, intoOff, waits, reachBy, oneBy, known, Counted, Surveyed, Closed}
+use Rattle.planner.specs.Placing.{reachBy, endBy, endOf, storeBy, bytesBy, storeOn}
+use Rattle.arrivals.specs.Kept.{countedBy, into, intoFrom, intoOff, waits, oneBy, known, Counted, Surveyed, Closed}
 use Rattle.arrivals.specs.Steps.{upTo, Placeable, Landed, Released}
 use Rattle.arrivals.proofs.Counts.{count-agree}
 use Rattle.arrivals.proofs.Fours.{four-cong}

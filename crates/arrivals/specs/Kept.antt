@@ -6,10 +6,10 @@ use mathlib.Core.List.{List}
 use lib.ListN.{getD}
 use lib.Dec.{eqb}
 use Rattle.folds.specs.Folds.{pick, both, sum, greatest}
-use Rattle.sheet.specs.Sheet.{Sheet, taskCount, linkCount, sourceOf, targetOf, costOf, bytesOf}
+use Rattle.sheet.specs.Sheet.{Sheet, taskCount, linkCount, sourceOf, targetOf, bytesOf}
 use Rattle.sheet.specs.Tables.{sheetIn, Loaded, Ranged}
-use Rattle.planner.specs.Schedule.{Schedule, placeOf, finishOf, placed, stands}
-use Rattle.planner.specs.Placing.{endOf, storeOn}
+use Rattle.planner.specs.Schedule.{Schedule, placeOf, placed, stands}
+use Rattle.planner.specs.Placing.{reachBy, endOf, storeOn}
 use Rattle.schedule.specs.Layout.{scheduleIn}
 use Rattle.chains.specs.Chains.{Chained}
 use Rattle.chains.specs.declared.End.the-variants.{Source, Target}
@@ -36,10 +36,6 @@ waits s σ k l = both (stands σ (sourceOf s l) k) (not (placed σ (targetOf s l
 
 abbrev pub known : Sheet → Schedule → ℕ → Bool
 known s σ l = placed σ (sourceOf s l)
-
--- when the message of l would be there
-abbrev pub reachBy : Sheet → Schedule → ℕ → ℕ
-reachBy s σ l = finishOf σ (sourceOf s l) + costOf s l
 
 abbrev pub oneBy : ℕ → ℕ
 oneBy l = 1

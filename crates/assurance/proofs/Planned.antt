@@ -25,11 +25,11 @@ use Rattle.machine.proofs.Runs.{Leads, here, leads-on, fresh-processor}
 use Rattle.checker.specs.Checker.{checked}
 use Rattle.checker.proofs.Accepted.{accepted}
 use Rattle.planner.specs.Schedule.{Schedule, nowhere, empty, placeOf, finishOf, placed, stands}
-use Rattle.planner.specs.Placing.{endOf, startOn}
+use Rattle.planner.specs.Placing.{reachBy, endOf, startOn}
 use Rattle.planner.specs.Planner.{brings, takesAway, receiveOf, sendOf, blockOf, blocks, claimOf, bundleOf, plannedBy}
 use Rattle.planner.proofs.Ready.{ready-source}
 use Rattle.planner.proofs.Schedules.{Fair, place, Placing, Built, built, placing, plan-of, Whole, on-same, finish-same, finish-other, placed-same, placed-other, fair-place, empty-free, empty-fair, planned-build}
-use Rattle.planner.proofs.Times.{messageAt, end-same, end-other, starts, empty-end, claim-end}
+use Rattle.planner.proofs.Times.{end-same, end-other, starts, empty-end, claim-end}
 use Rattle.assurance.proofs.Written.{plan, programmes, programme-is, published, few, within, fits}
 use Rattle.assurance.proofs.Running.{Did, did-one, did-at, receive-all, Sent, send-all}
 
@@ -40,7 +40,7 @@ module _ (s : Sheet) (proper : Proper s) (φ : Schedule) (b : Bundle) where
     stamps : length (m .stamps) ≡ linkCount s
     rests : (k : ℕ) → k < φ .opened → drop (processorOf m k .position) (programmeOf b k) ≡ blocks s φ k ts
     clock : (k : ℕ) → k < φ .opened → processorOf m k .clock ≡ endOf s σ k
-    stamp : (l : ℕ) → l < linkCount s → placed σ (sourceOf s l) ≡ true → stands φ (targetOf s l) (placeOf φ (sourceOf s l)) ≡ false → stampOf m l ≡ some (messageAt s σ l)
+    stamp : (l : ℕ) → l < linkCount s → placed σ (sourceOf s l) ≡ true → stands φ (targetOf s l) (placeOf φ (sourceOf s l)) ≡ false → stampOf m l ≡ some (reachBy s σ l)
 
   -- steps lead from m to such a state
   abbrev Reached : State → Schedule → List ℕ → Type 0
@@ -60,7 +60,7 @@ module _ (s : Sheet) (proper : Proper s) (φ : Schedule) (b : Bundle) where
     abbrev end : ℕ
     end = startOn s σ t k + workOf s t
 
-    brought : (l : ℕ) → l < linkCount s → brings s φ k t l ≡ true → stampOf m l ≡ some (messageAt s σ l)
+    brought : (l : ℕ) → l < linkCount s → brings s φ k t l ≡ true → stampOf m l ≡ some (reachBy s σ l)
     unfolding brings stands
     brought l h x =
         let c = both-parts (eqb (targetOf s l) t) (not (stands φ (sourceOf s l) k)) x in
@@ -89,7 +89,7 @@ module _ (s : Sheet) (proper : Proper s) (φ : Schedule) (b : Bundle) where
     received : (o : State) × Did s b k m o (run t ∷ tail) (startOn s σ t k) × (o .stamps ≡ m .stamps)
     unfolding receiveOf
     received =
-        let r = receive-all s b (brings s φ k t) (messageAt s σ) (linkCount s) (run t ∷ tail) brought begun in
+        let r = receive-all s b (brings s φ k t) (reachBy s σ) (linkCount s) (run t ∷ tail) brought begun in
         (r .0, did-at s b refl (starts s proper fair p φ same) (r .1), r .2)
 
     ran : (o : State) × Did s b k m o tail end × (o .stamps ≡ m .stamps)
@@ -105,7 +105,7 @@ module _ (s : Sheet) (proper : Proper s) (φ : Schedule) (b : Bundle) where
           record { stamped = a .2 .stamped; unstamped = λ l x. a .2 .unstamped l x ∙ ap (λ (w : List (Option ℕ)). getD w l none) (r .2) },
         )
 
-    stamped : (l : ℕ) → l < linkCount s → placed τ (sourceOf s l) ≡ true → stands φ (targetOf s l) (placeOf φ (sourceOf s l)) ≡ false → stampOf (sent .0) l ≡ some (messageAt s τ l)
+    stamped : (l : ℕ) → l < linkCount s → placed τ (sourceOf s l) ≡ true → stands φ (targetOf s l) (placeOf φ (sourceOf s l)) ≡ false → stampOf (sent .0) l ≡ some (reachBy s τ l)
     unfolding takesAway
     stamped l h x y =
         ⊎-elim

@@ -17,9 +17,9 @@ use Rattle.folds.proofs.Laws.{any-found, greatest-some}
 use Rattle.sheet.specs.Sheet.{Sheet, taskCount, linkCount, workOf, sourceOf, targetOf}
 use Rattle.sheet.specs.Tables.{sheetIn}
 use Rattle.planner.specs.Schedule.{Schedule, placed, stands, placeOf}
-use Rattle.planner.specs.Placing.{arrival, priority, firstPartlyReady, endOf, startFrom, startOn, startWith, startAt, holdsBy, holdsPredecessor, bestStart, endsWith, delays, barredFor, barred}
+use Rattle.planner.specs.Placing.{reachBy, arrival, priority, firstPartlyReady, endOf, startFrom, startOn, startWith, startAt, holdsBy, holdsPredecessor, bestStart, endsWith, delays, barredFor, barred}
 use Rattle.schedule.specs.Layout.{scheduleIn}
-use Rattle.arrivals.specs.Kept.{countedBy, intoFrom, reachBy, known, Kept}
+use Rattle.arrivals.specs.Kept.{countedBy, intoFrom, known, Kept}
 use Rattle.words.specs.Found.{foundOf}
 use Rattle.words.specs.declared.Found.{Found}
 use Rattle.words.specs.declared.Found.the-variants.{At, Nothing}

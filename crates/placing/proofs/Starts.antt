@@ -14,11 +14,11 @@ use Rattle.folds.proofs.Laws.{term-le-greatest, greatest-mono, greatest-le}
 use Rattle.sheet.specs.Sheet.{Sheet, taskCount, linkCount, sourceOf, targetOf, costOf, storeOf}
 use Rattle.sheet.specs.Tables.{sheetIn, Ranged}
 use Rattle.planner.specs.Schedule.{Schedule, put, placed, stands, placeOf, finishOf}
-use Rattle.planner.specs.Placing.{comes, endBy, endOf, startBy, startFrom, startOn, fits, storeOn}
+use Rattle.planner.specs.Placing.{reachBy, comes, endBy, endOf, startBy, startFrom, startOn, fits, storeOn}
 use Rattle.planner.proofs.Ready.{ready-free, ready-source}
 use Rattle.schedule.specs.Layout.{scheduleIn}
 use Rattle.schedule.proofs.Rows.{on-long, finish-long}
-use Rattle.arrivals.specs.Kept.{countedBy, into, intoOff, reachBy, known, Caches}
+use Rattle.arrivals.specs.Kept.{countedBy, into, intoOff, known, Caches}
 use Rattle.arrivals.specs.Steps.{Placeable}
 use Rattle.arrivals.proofs.Counts.{off-le, from-le-off}
 use Rattle.arrivals.proofs.Placing.{store-put}

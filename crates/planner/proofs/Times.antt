@@ -11,18 +11,14 @@ use Rattle.folds.proofs.Laws.{term-le-greatest, greatest-le, greatest-cong, gre
 use Rattle.sheet.specs.Sheet.{Sheet, taskCount, linkCount, sourceOf, targetOf, workOf, costOf}
 use Rattle.graph.proofs.Proper.{Proper}
 use Rattle.planner.specs.Schedule.{Schedule, nowhere, empty, placeOf, finishOf, placed, stands}
-use Rattle.planner.specs.Placing.{comes, endBy, endOf, startBy, startFrom, startOn}
+use Rattle.planner.specs.Placing.{comes, reachBy, endBy, endOf, startBy, startFrom, startOn}
 use Rattle.planner.specs.Planner.{brings, claimOf}
 use Rattle.planner.proofs.Ready.{ready-source}
 use Rattle.planner.proofs.Schedules.{Fair, place, Placing, on-same, on-other, finish-same, finish-other, stands-not, stands-other, empty-stands, Whole}
 
--- when the message of l is there: its source's finish and its cost
-abbrev pub messageAt : Sheet → Schedule → ℕ → ℕ
-messageAt s σ l = finishOf σ (sourceOf s l) + costOf s l
-
 -- what l brings to t on k, where the tasks stand as on φ
 abbrev pub broughtBy : Sheet → Schedule → Schedule → ℕ → ℕ → ℕ → ℕ
-broughtBy s σ φ k t l = pick (brings s φ k t l) (messageAt s σ l) 0
+broughtBy s σ φ k t l = pick (brings s φ k t l) (reachBy s σ l) 0
 
 module _ (s : Sheet) (proper : Proper s) {σ : Schedule} (fair : Fair s σ) {t k : ℕ} (p : Placing s σ t k) where
   by-same : endBy s (place s σ t k) k t ≡ startOn s σ t k + workOf s t
@@ -56,7 +52,7 @@ module _ (s : Sheet) (proper : Proper s) {σ : Schedule} (fair : Fair s σ) {t k
   -- a predecessor on k is over by k's end, so that only messages can come later
   module _ (φ : Schedule) (same : (u : ℕ) → placed σ u ≡ true → placeOf φ u ≡ placeOf σ u) where
     past : (l : ℕ) → l < linkCount s → (x : Bool) → stands σ (sourceOf s l) k ≡ x
-        → max (endOf s σ k) (pick (not x) (messageAt s σ l) 0) ≡ max (endOf s σ k) (finishOf σ (sourceOf s l) + pick x 0 (costOf s l))
+        → max (endOf s σ k) (pick (not x) (reachBy s σ l) 0) ≡ max (endOf s σ k) (finishOf σ (sourceOf s l) + pick x 0 (costOf s l))
     unfolding endOf endBy
     past l h true q = omega (arith, term-le-greatest (taskCount s) (endBy s σ k) (sourceOf s l) (proper .form .source l h), ap (λ x. pick x (finishOf σ (sourceOf s l)) 0) q)
     past l h false q = refl

@@ -28,8 +28,12 @@ module _ (s : Sheet) where
   unfoldable pub partlyReady : Schedule → ℕ → Bool
   partlyReady σ t = both (not (placed σ t)) (both (any (linkCount s) (comes σ t)) (any (linkCount s) (lacks σ t)))
 
+  -- when the message of l is there: its source's finish and its cost
+  abbrev pub reachBy : Schedule → ℕ → ℕ
+  reachBy σ l = finishOf σ (sourceOf s l) + costOf s l
+
   unfoldable pub arrivalBy : Schedule → ℕ → ℕ → ℕ
-  arrivalBy σ t l = pick (comes σ t l) (finishOf σ (sourceOf s l) + costOf s l) 0
+  arrivalBy σ t l = pick (comes σ t l) (reachBy σ l) 0
 
   -- "the greatest of (predecessor's finish + link cost), 0 without predecessors", over the placed ones
   unfoldable pub arrival : Schedule → ℕ → ℕ
