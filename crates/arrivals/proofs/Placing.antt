@@ -8,13 +8,14 @@ use native.Mathlib.Omega.{arith}
 use native.Mathlib.Decide.{ℕ-discrete}
 use borrow.Author.Tests.{eq-eqb, ne-eqb, lt-ltb, le-ltb, eqb-true}
 use lib.ListN.{getD}
-use lib.Seq.{getD-set-same, getD-set-other}
-use lib.Dec.{eqb, ltb}
+use lib.Seq.{getD-set-same}
+use lib.Dec.{eqb}
 use Rattle.folds.specs.Folds.{pick, both, sum}
 use Rattle.folds.proofs.Laws.{sum-cong, greatest-cong, sum-point, greatest-point, sum-add}
 use Rattle.sheet.specs.Sheet.{Sheet, taskCount, linkCount, sourceOf, targetOf, costOf, bytesOf, storeOf}
 use Rattle.planner.specs.Schedule.{Schedule, put, nowhere, placed, stands, placeOf, finishOf}
 use Rattle.planner.specs.Placing.{reachBy, endBy, endOf, storeBy, bytesBy, storeOn}
+use Rattle.planner.proofs.Schedules.{on-other, finish-other, placed-other}
 use Rattle.arrivals.specs.Kept.{countedBy, into, intoFrom, intoOff, waits, oneBy, known, Counted, Surveyed, Closed}
 use Rattle.arrivals.specs.Steps.{upTo, Placeable, Landed, Released}
 use Rattle.arrivals.proofs.Counts.{count-agree}
@@ -33,17 +34,9 @@ module _ (s : Sheet) (σ : Schedule) (t k a b : ℕ) (g : Placeable s σ t k) wh
   unfolding placeOf
   place-same = getD-set-same (σ .on) t k nowhere (rw (g .on-long) (g .task))
 
-  pub place-other : (u : ℕ) → u ≢ t → placeOf σ′ u ≡ placeOf σ u
-  unfolding placeOf
-  place-other u d = getD-set-other (σ .on) t u k nowhere d
-
   pub finish-same : finishOf σ′ t ≡ b
   unfolding finishOf
   finish-same = getD-set-same (σ .finish) t b 0 (rw (g .finish-long) (g .task))
-
-  pub finish-other : (u : ℕ) → u ≢ t → finishOf σ′ u ≡ finishOf σ u
-  unfolding finishOf
-  finish-other u d = getD-set-other (σ .finish) t u b 0 d
 
   free-off : placed σ t ≡ false
   unfolding placed
@@ -53,13 +46,9 @@ module _ (s : Sheet) (σ : Schedule) (t k a b : ℕ) (g : Placeable s σ t k) wh
   unfolding placed
   now-on = let e = place-same in let h = g .on in lt-ltb (placeOf σ′ t) 16 (omega arith)
 
-  pub placed-other : (u : ℕ) → u ≢ t → placed σ′ u ≡ placed σ u
-  unfolding placed
-  placed-other u d = ap (λ (x : ℕ). ltb x 16) (place-other u d)
-
   stands-other : (u j : ℕ) → u ≢ t → stands σ′ u j ≡ stands σ u j
   unfolding stands
-  stands-other u j d = ap (λ (x : ℕ). eqb x j) (place-other u d)
+  stands-other u j d = ap (λ (x : ℕ). eqb x j) (on-other σ t k a b u d)
 
   stands-free : (j : ℕ) → j < 16 → stands σ t j ≡ false
   unfolding stands
@@ -76,7 +65,7 @@ module _ (s : Sheet) (σ : Schedule) (t k a b : ℕ) (g : Placeable s σ t k) wh
   known-first : (l : ℕ) → Dec (sourceOf s l ≡ t) → known s σ l ≡ upTo s σ′ t 0 l
   unfolding upTo
   known-first l (yes e) = rw (e, free-off, now-on, eq-eqb t t refl, le-ltb l 0 (omega arith))
-  known-first l (no e) = rw (ne-eqb (sourceOf s l) t e, placed-other (sourceOf s l) e) (both-same (placed σ (sourceOf s l)))
+  known-first l (no e) = rw (ne-eqb (sourceOf s l) t e, placed-other σ t k a b (sourceOf s l) e) (both-same (placed σ (sourceOf s l)))
     where
       both-same : (x : Bool) → x ≡ both x true
       both-same true = refl
@@ -86,7 +75,7 @@ module _ (s : Sheet) (σ : Schedule) (t k a b : ℕ) (g : Placeable s σ t k) wh
   agree q q′ x x′ h l = count-agree q q′ x x′ (known s σ) (upTo s σ′ t 0) l (known-first l (ℕ-discrete (sourceOf s l) t)) (λ e. h l (not-t (sourceOf s l) e))
 
   same-reach : (l : ℕ) → (sourceOf s l ≡ t → ⊥) → reachBy s σ l ≡ reachBy s σ′ l
-  same-reach l d = ap (λ (x : ℕ). x + costOf s l) (sym (finish-other (sourceOf s l) d))
+  same-reach l d = ap (λ (x : ℕ). x + costOf s l) (sym (finish-other σ t k a b (sourceOf s l) d))
 
   same-from : (u j l : ℕ) → (sourceOf s l ≡ t → ⊥) → intoFrom s σ u j l ≡ intoFrom s σ′ u j l
   same-from u j l d = ap (λ (x : Bool). both (eqb (targetOf s l) u) x) (sym (stands-other (sourceOf s l) j d))
@@ -95,7 +84,7 @@ module _ (s : Sheet) (σ : Schedule) (t k a b : ℕ) (g : Placeable s σ t k) wh
   same-off u j l d = ap (λ (x : Bool). both (eqb (targetOf s l) u) (not x)) (sym (stands-other (sourceOf s l) j d))
 
   same-waits : (j l : ℕ) → sourceOf s l ≢ t → targetOf s l ≢ t → waits s σ j l ≡ waits s σ′ j l
-  same-waits j l d n = rw (stands-other (sourceOf s l) j d, placed-other (targetOf s l) n)
+  same-waits j l d n = rw (stands-other (sourceOf s l) j d, placed-other σ t k a b (targetOf s l) n)
 
   none-into : (j l : ℕ) → targetOf s l ≢ t → countedBy (intoFrom s σ t j) oneBy (known s σ) l ≡ 0
   unfolding countedBy
@@ -160,7 +149,7 @@ module _ (s : Sheet) (σ : Schedule) (t k a b : ℕ) (g : Placeable s σ t k) wh
         on = now-on;
         place = place-same;
         finish = sym finish-same;
-        before = λ l h e. placed-other (targetOf s l) (not-self l h e) ∙ after-free l h e (placed σ (targetOf s l)) refl;
+        before = λ l h e. placed-other σ t k a b (targetOf s l) (not-self l h e) ∙ after-free l h e (placed σ (targetOf s l)) refl;
       }
 
   pub closed-put : Closed s σ′
@@ -168,8 +157,8 @@ module _ (s : Sheet) (σ : Schedule) (t k a b : ℕ) (g : Placeable s σ t k) wh
     where
       go : Dec (sourceOf s l ≡ t) → Dec (targetOf s l ≡ t) → placed σ′ (sourceOf s l) ≡ true
       go (yes e) d = ap (placed σ′) e ∙ now-on
-      go (no e) (yes d) = placed-other (sourceOf s l) e ∙ g .ready l h d
-      go (no e) (no d) = placed-other (sourceOf s l) e ∙ g .closed l h (sym (placed-other (targetOf s l) d) ∙ p)
+      go (no e) (yes d) = placed-other σ t k a b (sourceOf s l) e ∙ g .ready l h d
+      go (no e) (no d) = placed-other σ t k a b (sourceOf s l) e ∙ g .closed l h (sym (placed-other σ t k a b (targetOf s l) d) ∙ p)
 
   -- the end of each processor
   end-term : (j : ℕ) → j < 16 → endBy s σ′ j t ≡ max (endBy s σ j t) (pick (eqb k j) b 0)
@@ -178,7 +167,7 @@ module _ (s : Sheet) (σ : Schedule) (t k a b : ℕ) (g : Placeable s σ t k) wh
 
   end-rest : (j u : ℕ) → u ≢ t → endBy s σ′ j u ≡ endBy s σ j u
   unfolding endBy
-  end-rest j u d = rw (stands-other u j d, finish-other u d)
+  end-rest j u d = rw (stands-other u j d, finish-other σ t k a b u d)
 
   pub end-put : (j : ℕ) → j < 16 → endOf s σ′ j ≡ max (endOf s σ j) (pick (eqb k j) b 0)
   unfolding endOf

@@ -112,8 +112,8 @@ module _ (s : Sheet) (proper : Proper s) (φ : Schedule) (b : Bundle) where
         (λ q. sent .2 .stamped l h
         (parts-both (eqb (sourceOf s l) t) (not (stands φ (targetOf s l) k)) (eq-eqb (sourceOf s l) t q) (ap not (subst (λ z. stands φ (targetOf s l) z ≡ false) (ap (placeOf φ) q ∙ home) y))) ∙
         ap (λ c. some (c + costOf s l)) (sym (ap (finishOf τ) q ∙ finish-same s proper fair p)))
-        (λ d. sent .2 .unstamped l (inr (rw (ne-eqb (sourceOf s l) t d))) ∙ at .stamp l h (sym (placed-other s proper fair p (sourceOf s l) d) ∙ x) y ∙
-        ap (λ c. some (c + costOf s l)) (sym (finish-other s proper fair p (sourceOf s l) d)))
+        (λ d. sent .2 .unstamped l (inr (rw (ne-eqb (sourceOf s l) t d))) ∙ at .stamp l h (sym (placed-other σ t k _ _ (sourceOf s l) d) ∙ x) y ∙
+        ap (λ c. some (c + costOf s l)) (sym (finish-other σ t k _ _ (sourceOf s l) d)))
         (equal-or (sourceOf s l) t)
 
     after-block : Reached m τ ts

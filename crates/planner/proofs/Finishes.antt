@@ -71,7 +71,7 @@ module _ (s : Sheet) (proper : Proper s) where
     finish-le : (u : ℕ) → finishOf (place s σ t k) u ≤ bound (place s σ t k)
     finish-le u =
         ⊎-elim (λ q. omega (arith, ap (finishOf (place s σ t k)) q ∙ finish-same s proper fair p, start-le, bound-more))
-        (λ d. omega (arith, finish-other s proper fair p u d, h u, bound-more)) (equal-or u t)
+        (λ d. omega (arith, finish-other σ t k (startOn s σ t k) (startOn s σ t k + workOf s t) u d, h u, bound-more)) (equal-or u t)
 
   finishes-le : {σ φ : Schedule} {ts : List ℕ} → Fair s σ → Built s σ φ ts → ((u : ℕ) → finishOf σ u ≤ bound σ) → (u : ℕ) → finishOf φ u ≤ bound φ
   finishes-le f built h = h

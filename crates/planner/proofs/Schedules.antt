@@ -8,7 +8,7 @@ use mathlib.Core.Logic.{_≢_, ⊎-elim}
 use mathlib.Core.List.{List, [], _∷_, _++_, append-assoc, append-nil}
 use lib.ListN.{length, length-set, length-replicate}
 use lib.Seq.{getD-set-same, getD-set-other}
-use lib.Dec.{eqb}
+use lib.Dec.{eqb, ltb}
 use borrow.Author.Tests.{eq-eqb, ne-eqb, ltb-false, lt-ltb, leb-true}
 use Rattle.folds.specs.Folds.{pick, bit, sum}
 use Rattle.folds.specs.Answers.{value, andThen}
@@ -50,6 +50,20 @@ abbrev pub tally : ℕ → List ℕ → ℕ
 tally t [] = 0
 tally t (u ∷ us) = bit (eqb t u) + tally t us
 
+-- what putting t on k leaves as it was of another task
+module _ (σ : Schedule) (t k a b u : ℕ) (d : u ≢ t) where
+  pub on-other : placeOf (put σ t k a b) u ≡ placeOf σ u
+  unfolding placeOf
+  on-other = getD-set-other (σ .on) t u k nowhere d
+
+  pub finish-other : finishOf (put σ t k a b) u ≡ finishOf σ u
+  unfolding finishOf
+  finish-other = getD-set-other (σ .finish) t u b 0 d
+
+  pub placed-other : placed (put σ t k a b) u ≡ placed σ u
+  unfolding placed
+  placed-other = ap (λ x. ltb x nowhere) on-other
+
 -- what placing t on k changes
 module _ (s : Sheet) (proper : Proper s) {σ : Schedule} (fair : Fair s σ) {t k : ℕ} (p : Placing s σ t k) where
   free : placed σ t ≡ false
@@ -59,17 +73,9 @@ module _ (s : Sheet) (proper : Proper s) {σ : Schedule} (fair : Fair s σ) {t k
   unfolding placeOf
   on-same = getD-set-same (σ .on) t k nowhere (omega (arith, fair .on, p .below))
 
-  pub on-other : (u : ℕ) → u ≢ t → placeOf (place s σ t k) u ≡ placeOf σ u
-  unfolding placeOf
-  on-other u d = getD-set-other (σ .on) t u k nowhere d
-
   pub finish-same : finishOf (place s σ t k) t ≡ startOn s σ t k + workOf s t
   unfolding finishOf
   finish-same = getD-set-same (σ .finish) t _ 0 (omega (arith, fair .finish, p .below))
-
-  pub finish-other : (u : ℕ) → u ≢ t → finishOf (place s σ t k) u ≡ finishOf σ u
-  unfolding finishOf
-  finish-other u d = getD-set-other (σ .finish) t u _ 0 d
 
   pub stands-not : (j : ℕ) → j < nowhere → stands σ t j ≡ false
   unfolding stands placed
@@ -78,7 +84,7 @@ module _ (s : Sheet) (proper : Proper s) {σ : Schedule} (fair : Fair s σ) {t k
   pub stands-other : (j : ℕ) → j < nowhere → j ≢ k → (u : ℕ) → stands (place s σ t k) u j ≡ stands σ u j
   unfolding stands
   stands-other j h d u =
-      ⊎-elim (λ (e : u ≡ t). rw (e, on-same, ne-eqb k j (λ q. d (sym q)), stands-not j h)) (λ n. rw (on-other u n)) (equal-or u t)
+      ⊎-elim (λ (e : u ≡ t). rw (e, on-same, ne-eqb k j (λ q. d (sym q)), stands-not j h)) (λ n. rw (on-other σ t k _ _ u n)) (equal-or u t)
 
   store-other : (j : ℕ) → j < nowhere → j ≢ k → storeOn s (place s σ t k) j ≡ storeOn s σ j
   unfolding storeOn storeBy bytesBy
@@ -93,17 +99,13 @@ module _ (s : Sheet) (proper : Proper s) {σ : Schedule} (fair : Fair s σ) {t k
   unfolding placed
   placed-same = rw on-same (lt-ltb k nowhere (omega (arith, p .room .board, proper .form .board-few)))
 
-  pub placed-other : (u : ℕ) → u ≢ t → placed (place s σ t k) u ≡ placed σ u
-  unfolding placed
-  placed-other u d = rw (on-other u d)
-
   placed-still : (u : ℕ) → placed σ u ≡ true → u ≢ t
   placed-still u e q = true≢false (sym e ∙ ap (placed σ) q ∙ free)
 
   -- x counted for the placed tasks is counted once more, for t
   pub once-place : (x u : ℕ) → pick (placed σ u) x 0 + pick (eqb u t) x 0 ≡ pick (placed (place s σ t k) u) x 0
   once-place x u =
-      ⊎-elim (λ q. rw q (rw (free, eq-eqb t t refl, placed-same) (omega arith))) (λ d. rw (ne-eqb u t d, placed-other u d) (omega arith)) (equal-or u t)
+      ⊎-elim (λ q. rw q (rw (free, eq-eqb t t refl, placed-same) (omega arith))) (λ d. rw (ne-eqb u t d, placed-other σ t k (startOn s σ t k) (startOn s σ t k + workOf s t) u d) (omega arith)) (equal-or u t)
 
   pub fair-place : Fair s (place s σ t k)
   unfolding fits storeOn storeBy bytesBy stands placeOf
@@ -114,7 +116,7 @@ module _ (s : Sheet) (proper : Proper s) {σ : Schedule} (fair : Fair s σ) {t k
         opened = omega (arith, fair .opened, p .room .board);
         home =
             λ u e. ⊎-elim (λ q. omega (arith, ap (placeOf (place s σ t k)) q ∙ on-same))
-            (λ d. rw (on-other u d) (omega (arith, fair .home u (sym (placed-other u d) ∙ e)))) (equal-or u t);
+            (λ d. rw (on-other σ t k _ _ u d) (omega (arith, fair .home u (sym (placed-other σ t k _ _ u d) ∙ e)))) (equal-or u t);
         fit =
             λ j h. ⊎-elim (λ q. rw q (leb-true (storeOn s (place s σ t k) k) (s .limit) (p .room .fit))) (λ d. rw (store-other j h d) (fair .fit j h)) (equal-or j k);
       }
@@ -137,13 +139,13 @@ Completed s σ φ = (ts : List ℕ) × Built s σ φ ts × Whole s φ
 module _ (s : Sheet) (proper : Proper s) where
   pub plan-of : {σ φ : Schedule} {ts : List ℕ} → Fair s σ → Built s σ φ ts → Plan s σ φ ts
   plan-of {σ} f built = record { fair = f; order = sym (append-nil (σ .order)); on = λ u e. refl; finish = λ u e. refl; once = λ u. omega arith }
-  plan-of {σ} f (placing {t = t} p n) =
+  plan-of {σ} f (placing {t = t} {k = k} p n) =
       let i = plan-of (fair-place s proper f p) n in
       record {
         fair = i .fair;
         order = i .order ∙ append-assoc (σ .order) (t ∷ []) _;
-        on = λ u e. let d = placed-still s proper f p u e in i .on u (placed-other s proper f p u d ∙ e) ∙ on-other s proper f p u d;
-        finish = λ u e. let d = placed-still s proper f p u e in i .finish u (placed-other s proper f p u d ∙ e) ∙ finish-other s proper f p u d;
+        on = λ u e. let d = placed-still s proper f p u e in i .on u (placed-other σ t k _ _ u d ∙ e) ∙ on-other σ t k _ _ u d;
+        finish = λ u e. let d = placed-still s proper f p u e in i .finish u (placed-other σ t k _ _ u d ∙ e) ∙ finish-other σ t k _ _ u d;
         once = λ u. omega (arith, i .once u, once-place s proper f p 1 u);
       }
 
@@ -165,7 +167,7 @@ module _ (s : Sheet) (proper : Proper s) where
   one-less {σ} {t} {k} f p =
       omega (
         arith,
-        sum-differ (taskCount s) (missing (place s σ t k)) (missing σ) t (p .below) (λ u d. rw (placed-other s proper f p u d)),
+        sum-differ (taskCount s) (missing (place s σ t k)) (missing σ) t (p .below) (λ u d. rw (placed-other σ t k _ _ u d)),
         ap (λ x. pick {X = ℕ} x 0 1) (free s proper f p),
         ap (λ x. pick {X = ℕ} x 0 1) (placed-same s proper f p),
       )

@@ -27,7 +27,7 @@ module _ (s : Sheet) (proper : Proper s) {σ : Schedule} (fair : Fair s σ) {t k
 
   by-other : (j u : ℕ) → u ≢ t → endBy s (place s σ t k) j u ≡ endBy s σ j u
   unfolding endBy stands
-  by-other j u d = rw (on-other s proper fair p u d, finish-other s proper fair p u d)
+  by-other j u d = rw (on-other σ t k _ _ u d, finish-other σ t k _ _ u d)
 
   end-le-start : endOf s σ k ≤ startOn s σ t k
   unfolding startOn startFrom

@@ -18,10 +18,9 @@ use Rattle.sheet.specs.Sheet.{Sheet, taskCount, linkCount, sourceOf, targetOf, 
 use Rattle.sheet.specs.Tables.{Ranged}
 use Rattle.planner.specs.Schedule.{Schedule, placed, finishOf, put}
 use Rattle.planner.specs.Placing.{comes, lacks, satisfied, ready, partlyReady, arrivalBy, arrival, priority}
+use Rattle.planner.proofs.Schedules.{finish-other, placed-other}
 use Rattle.chains.specs.Chains.{Chained}
 use Rattle.chains.specs.declared.End.the-variants.{Source}
-use Rattle.arrivals.specs.Steps.{Placeable}
-use Rattle.arrivals.proofs.Placing as placing
 use Rattle.readiness.specs.Keyed.{keyOf, readyKey, partlyKey, Fresh, Blank, Renewed, Keyed, KeyedTo, Passed, KeyedPast, KeyedBeside}
 
 pub ready-key : (s : Sheet) (σ : Schedule) (t : ℕ) {r x : ℕ} {b : Bool} → r ≡ pick b x 0 → b ≡ ready s σ t → x ≡ keyOf s σ t → r ≡ readyKey s σ t
@@ -140,7 +139,7 @@ module _ {s : Sheet} {σ : Schedule} where
   walk-done h g = let k = g .keys in record { keys = record { blocked = k .blocked; fresh = λ u m. k .fresh u m (record { none-leads = λ i a b o. absurd (omega arith) }); blank = k .blank } }
 
 -- t goes on k: the keys of all tasks stay, but for those of t and of its successors
-module _ (s : Sheet) (σ : Schedule) (t k a f : ℕ) (can : Placeable s σ t k) where
+module _ (s : Sheet) (σ : Schedule) (t k a f : ℕ) where
   abbrev σ′ : Schedule
   σ′ = put σ t k a f
 
@@ -149,7 +148,7 @@ module _ (s : Sheet) (σ : Schedule) (t k a f : ℕ) (can : Placeable s σ t k) 
     source-same : (l : ℕ) → l < linkCount s → targetOf s l ≡ u → (placed σ′ (sourceOf s l) ≡ placed σ (sourceOf s l)) × (finishOf σ′ (sourceOf s l) ≡ finishOf σ (sourceOf s l))
     source-same l h e =
         let away : sourceOf s l ≢ t = λ o. p .none-leads l (omega arith) h o e in
-        (placing.placed-other s σ t k a f can (sourceOf s l) away, placing.finish-other s σ t k a f can (sourceOf s l) away)
+        (placed-other σ t k a f (sourceOf s l) away, finish-other σ t k a f (sourceOf s l) away)
 
     comes-same : (l : ℕ) → l < linkCount s → comes s σ′ u l ≡ comes s σ u l
     unfolding comes
@@ -184,7 +183,7 @@ module _ (s : Sheet) (σ : Schedule) (t k a f : ℕ) (can : Placeable s σ t k) 
         go (no e) = rw (ne-eqb (targetOf s l) u e)
 
     unplaced-same : not (placed σ′ u) ≡ not (placed σ u)
-    unplaced-same = ap not (placing.placed-other s σ t k a f can u n)
+    unplaced-same = ap not (placed-other σ t k a f u n)
 
     ready-same : ready s σ′ u ≡ ready s σ u
     unfolding ready

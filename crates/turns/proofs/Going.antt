@@ -12,6 +12,7 @@ use Rattle.sheet.specs.Tables.{sheetIn, Loaded, Ranged}
 use Rattle.sheet.proofs.Rows.{ranged}
 use Rattle.planner.specs.Schedule.{Schedule, placeOf, placed, put}
 use Rattle.planner.specs.Placing.{ready, endOf, startOn}
+use Rattle.planner.proofs.Schedules.{on-other, placed-other}
 use Rattle.levelling.specs.Found.{Levelled}
 use Rattle.schedule.specs.Layout.{scheduleIn, putWords}
 use Rattle.schedule.proofs.Rows.{schedule-frame, levelled-frame}
@@ -171,7 +172,7 @@ module _ {w w₁ : List ℕ} {j t k a f p o : ℕ} (u : Putting w j t k a f p o)
           where
             go : Dec (v ≡ t) → placeOf σ′ v < σ′ .opened
             go (yes d) = omega (arith, ap (placeOf σ′) d, placing.place-same s σ t k a f (u .can))
-            go (no d) = omega (arith, placing.place-other s σ t k a f (u .can) v d, u .going .kept .standing v (sym (placing.placed-other s σ t k a f (u .can) v d) ∙ e))
+            go (no d) = omega (arith, on-other σ t k a f v d, u .going .kept .standing v (sym (placed-other σ t k a f v d) ∙ e))
 
         pub going₄ : Going w (j + 1) w₄
         going₄ =

@@ -8,7 +8,7 @@ use Rattle.turns.proofs.place_on.Tie as tie
 renew-requires : tie.Need-renew-requires
 renew-requires c κs = let a = c .before .before .before .before .before .before .before .before in let g = c .before .before .before .before .put-on .ensures .1 in
     let h = a .pre .1 in
-    (g .kept, (g .levelled, (early (g .timely) (omega (arith, h .0 .0)), (still-task (c .before .before .before .before .put-on .last .0) (a .pre .0) (h .0 .1) (h .0 .2) (h .1 .0 .0) (h .1 .0 .1) (h .1 .1) (g .sheet) (c .before .before .before .before .put-on .ensures .0), placed-beside (c .before .before .before .before .put-on .last .0) (a .pre .0) (h .0 .1) (h .0 .2) (h .1 .0 .0) (h .1 .0 .1) (h .1 .1) (g .sheet) (c .before .before .before .before .put-on .ensures .0)))))
+    (g .kept, (g .levelled, (early (g .timely) (omega (arith, h .0 .0)), (still-task (h .0 .1) (g .sheet), placed-beside (a .args .t) (a .args .k) (h .1 .1) (g .sheet) (c .before .before .before .before .put-on .ensures .0)))))
 
 pub place-on-spec : {M : Type 1} → statement M
 place-on-spec =
