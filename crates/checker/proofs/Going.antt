@@ -2,7 +2,7 @@
 use Prim.Native.Nat.{ℕ, suc, _+_, _*_, _-_, _<_, _≤_}
 use mathlib.Core.Path.{_≡_, refl, sym, ap, _∙_, subst}
 use mathlib.Core.Bool.{Bool, true, false, false≢true}
-use mathlib.Core.Option.{Option, none, some}
+use mathlib.Core.Option.{none, some}
 use mathlib.Core.List.{List, [], _∷_, _++_}
 use native.Mathlib.Omega.{arith}
 use native.Mathlib.Decide.{decLt}
@@ -15,20 +15,15 @@ use Rattle.messages.specs.Messages.{Published}
 use Rattle.machine.specs.Machine.{State, freshState, step, canStep}
 use Rattle.machine.specs.Runs.{Run, freshRun, runFrom, runOf, left, settled}
 use Rattle.state.specs.Keeps.{Keeps, StepIs, RunIs}
-use Rattle.machine.proofs.Steps.{step-move, left-moved, step-below}
+use Rattle.machine.proofs.Steps.{step-can, step-move, left-moved, step-below}
 use Rattle.machine.proofs.Runs.{keeps}
-use Rattle.machine.proofs.Orders.{any-run}
+use Rattle.machine.proofs.Orders.{no-step, any-run}
 use Rattle.stepping.proofs.Lists.{from-then, run-none, run-more}
 use Rattle.stepping.proofs.Chosen.{no-programme}
 use Rattle.checker.specs.Settling.{Goes, Halts, AdvanceIs, RoundIs, SettleIs}
 
 cannot : (s : Sheet) (b : Bundle) (σ : State) (k : ℕ) → false ≡ canStep s b σ k → step s b σ k ≡ none
-unfolding canStep
-cannot s b σ k e = by (step s b σ k) refl
-  where
-    by : (o : Option State) → step s b σ k ≡ o → step s b σ k ≡ none
-    by none q = q
-    by (some τ) q = absurd (false≢true (rw q at e))
+cannot s b σ k e = no-step s b σ k (λ τ q. false≢true (e ∙ step-can s b σ k τ q))
 
 module _ (sheet bundle : List ℕ) where
   pub goes-none : (w : List ℕ) → Goes sheet bundle w w 0
@@ -142,24 +137,15 @@ module _ (sheet bundle : List ℕ) where
             )
 
     none-left : (w : List ℕ) (σ : State) → Keeps s b sheet bundle w σ → left b σ each ≡ 0 → (k : ℕ) → step s b σ k ≡ none
-    none-left w σ h e k = by (step s b σ k) refl
-      where
-        by : (o : Option State) → step s b σ k ≡ o → step s b σ k ≡ none
-        by none q = q
-        by (some τ) q =
-            let m = step-move s b σ k τ q in
-            absurd (omega (arith, left-moved s b σ k (m .c) (m .w) (h .processors) (m .comes) each))
+    none-left w σ h e k =
+        no-step s b σ k (λ τ q. let m = step-move s b σ k τ q in omega (arith, left-moved s b σ k (m .c) (m .w) (h .processors) (m .comes) each))
 
     -- words keep what is at most 65,536 commands from the end
     few-left : (w : List ℕ) (σ : State) → Keeps s b sheet bundle w σ → 0 < programmeCount b → left b σ each ≤ 65536
     few-left w σ h l = omega (arith, h .room 0 l .0)
 
     no-one : (σ : State) (k : ℕ) → programmeCount b ≡ 0 → step s b σ k ≡ none
-    no-one σ k e = by (step s b σ k) refl
-      where
-        by : (o : Option State) → step s b σ k ≡ o → step s b σ k ≡ none
-        by none q = q
-        by (some τ) q = absurd (omega (arith, step-below s b σ k τ q))
+    no-one σ k e = no-step s b σ k (λ τ q. omega (arith, step-below s b σ k τ q))
 
   -- rounds, each of which takes a command away; fuel for all that words can keep
   pub record Rounds (w u : List ℕ) (fuel : ℕ) : Type 0 where
