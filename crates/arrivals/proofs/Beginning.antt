@@ -57,7 +57,7 @@ module _ (s : Sheet) (σ : Schedule) (free : (u : ℕ) → placeOf σ u ≡ 16) 
     z : (i : ℕ) → 7712 ≤ i → i < 7792 + 4 * taskCount s → getD w′ i 0 ≡ 0
     z i h l = same i (omega arith) ∙ zero .at i h l
 
-    pub counted-zero : Blank (taskCount s) 6 w → Counted s σ (known s σ) w′
+    pub counted-zero : Blank (taskCount s) 5 w → Counted s σ (known s σ) w′
     counted-zero b =
         record {
           seen = λ t h. same (6688 + t) (omega arith) ∙ blank-word b 2 t (omega arith) h ∙ sym (no-sum (into s t) oneBy);

@@ -27,7 +27,7 @@ blank-none n w = record { table = λ i h. absurd (omega arith) }
 blank-still : {n j a e : ℕ} {w w′ : List ℕ} → n ≤ 256 → 6176 + 256 * j ≤ a → ClearIs w w′ a e → Blank n j w → Blank n j w′
 blank-still few h c b = record { table = λ i l. record { at = λ k p q. c .other k (inl (omega arith)) ∙ b .table i l .at k p q } }
 
-pub blank-more : {n j : ℕ} {w w₁ w₂ : List ℕ} → n ≤ 256 → j < 6 → ClearIs w₁ w₂ (6176 + 256 * j) (6176 + 256 * j + n) → Only 6176 8816 w w₁ → Blank n j w₁
+pub blank-more : {n j : ℕ} {w w₁ w₂ : List ℕ} → n ≤ 256 → j < 5 → ClearIs w₁ w₂ (6176 + 256 * j) (6176 + 256 * j + n) → Only 6176 8816 w w₁ → Blank n j w₁
     → Only 6176 8816 w w₂ × Blank n (j + 1) w₂
 blank-more {n} {j} {w} {w₁} {w₂} few l c o b = (only-trans o (cleared-in (omega arith) (omega arith) c), record { table = λ i h. at i h (ℕ-discrete i j) })
   where
@@ -35,12 +35,12 @@ blank-more {n} {j} {w} {w₁} {w₂} few l c o b = (only-trans o (cleared-in (om
     at i h (yes q) = record { at = λ k p r. c .zeros k (omega arith) (omega arith) }
     at i h (no q) = blank-still few (omega arith) c b .table i (omega arith)
 
-pub blank-at : {n j : ℕ} {w : List ℕ} → j ≡ 6 → Blank n j w → Blank n 6 w
+pub blank-at : {n j : ℕ} {w : List ℕ} → j ≡ 5 → Blank n j w → Blank n 5 w
 blank-at {n} {j} {w} e b = subst (λ (x : ℕ). Blank n x w) e b
 
 -- the tables (w₁), then the words behind them (w₂)
-pub clears : {n m : ℕ} {w w₁ w₂ : List ℕ} → n ≡ m → n ≤ 256 → Only 6176 8816 w w₁ × Blank n 6 w₁ → ClearIs w₁ w₂ 7712 (7792 + 4 * n)
-    → Only 6176 8816 w w₂ × Blank m 6 w₂ × Zero 7712 (7792 + 4 * m) w₂
+pub clears : {n m : ℕ} {w w₁ w₂ : List ℕ} → n ≡ m → n ≤ 256 → Only 6176 8816 w w₁ × Blank n 5 w₁ → ClearIs w₁ w₂ 7712 (7792 + 4 * n)
+    → Only 6176 8816 w w₂ × Blank m 5 w₂ × Zero 7712 (7792 + 4 * m) w₂
 clears {n} {m} {w} {w₁} {w₂} e few d c =
-    subst (λ (x : ℕ). Only 6176 8816 w w₂ × Blank x 6 w₂ × Zero 7712 (7792 + 4 * x) w₂) e
+    subst (λ (x : ℕ). Only 6176 8816 w w₂ × Blank x 5 w₂ × Zero 7712 (7792 + 4 * x) w₂) e
     (only-trans (d .0) (cleared-in (omega arith) (omega arith) c), blank-still few (omega arith) c (d .1), cleared c .1)

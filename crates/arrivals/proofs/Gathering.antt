@@ -22,7 +22,7 @@ use Rattle.arrivals.specs.Steps.{Blank, GatheredTo}
 use Rattle.arrivals.proofs.Clearing.{blank-word}
 
 -- in tables that were cleared (w) and stand as they did
-pub gather-none : {s : Sheet} {w w′ : List ℕ} → Blank (taskCount s) 6 w → ((i : ℕ) → 6176 ≤ i → getD w′ i 0 ≡ getD w i 0) → GatheredTo s 0 w′
+pub gather-none : {s : Sheet} {w w′ : List ℕ} → Blank (taskCount s) 5 w → ((i : ℕ) → 6176 ≤ i → getD w′ i 0 ≡ getD w i 0) → GatheredTo s 0 w′
 gather-none b same =
     record {
       number = λ t h. same (6176 + t) (omega arith) ∙ blank-word b 0 t (omega arith) h ∙ sym (sum-zero _);

@@ -155,14 +155,15 @@ pub fn release(w: &mut [u32])
     }
 }
 
-// The words of n tasks, in the six tables that have one for each.
+// The words of n tasks, in five of the six tables that have one for each. The last has the processor that a latest reach comes
+// from, which decides nothing while that reach is 0.
 fn clear_tables(w: &mut [u32], n: usize)
     requires { ⌜ fixed ≤ length (now w) ⌝ }
     requires { ⌜ n ≤ 256 ⌝ }
-    ensures { λ _. ⌜ Only 6176 8816 (now (w .entry)) (now (w .exit)) × Blank n 6 (now (w .exit)) ⌝ }
+    ensures { λ _. ⌜ Only 6176 8816 (now (w .entry)) (now (w .exit)) × Blank n 5 (now (w .exit)) ⌝ }
 {
     let mut j: usize = 0;
-    while j < 6 {
+    while j < 5 {
         let a = 6176 + 256 * j;
         workspace::clear_words(w, a, a + n);
         j += 1;
@@ -172,7 +173,7 @@ fn clear_tables(w: &mut [u32], n: usize)
 // Nothing is known or placed. Only the words of the sheet's own tasks are cleared, so that a small sheet does not pay for 256.
 pub fn clear(w: &mut [u32])
     requires { ⌜ Loaded (now w) ⌝ }
-    ensures { λ _. ⌜ Only 6176 8816 (now (w .entry)) (now (w .exit)) × Blank (taskCount (sheetIn (now (w .entry)))) 6 (now (w .exit)) × Zero 7712 (7792 + 4 * taskCount (sheetIn (now (w .entry)))) (now (w .exit)) ⌝ }
+    ensures { λ _. ⌜ Only 6176 8816 (now (w .entry)) (now (w .exit)) × Blank (taskCount (sheetIn (now (w .entry)))) 5 (now (w .exit)) × Zero 7712 (7792 + 4 * taskCount (sheetIn (now (w .entry)))) (now (w .exit)) ⌝ }
 {
     let n = tables::tasks(w);
     clear_tables(w, n);

@@ -42,7 +42,7 @@ module _ {w w₁ : List ℕ} (loaded : Loaded w) (levelled : Levelled (sheetIn w
   sheet₁ : sheetIn w₁ ≡ s
   sheet₁ = same-sheet w w₁ loaded low₁
 
-  module _ {w₂ : List ℕ} (o₂ : Only 6176 8816 w₁ w₂) (blank : Blank (taskCount (sheetIn w₁)) 6 w₂) (zero : Zero 7712 (7792 + 4 * taskCount (sheetIn w₁)) w₂) where
+  module _ {w₂ : List ℕ} (o₂ : Only 6176 8816 w₁ w₂) (blank : Blank (taskCount (sheetIn w₁)) 5 w₂) (zero : Zero 7712 (7792 + 4 * taskCount (sheetIn w₁)) w₂) where
     low₂ : (i : ℕ) → i < 3856 → getD w₂ i 0 ≡ getD w i 0
     low₂ i h = o₂ .low i (omega arith) ∙ low₁ i h
 
@@ -56,8 +56,8 @@ module _ {w w₁ : List ℕ} (loaded : Loaded w) (levelled : Levelled (sheetIn w
     sheet₂ = same-sheet w w₂ loaded low₂
 
     -- what was cleared, by the tasks of the sheet
-    blank₂ : Blank (taskCount s) 6 w₂
-    blank₂ = subst (λ (x : Sheet). Blank (taskCount x) 6 w₂) sheet₁ blank
+    blank₂ : Blank (taskCount s) 5 w₂
+    blank₂ = subst (λ (x : Sheet). Blank (taskCount x) 5 w₂) sheet₁ blank
 
     zero₂ : Zero 7712 (7792 + 4 * taskCount s) w₂
     zero₂ = subst (λ (x : Sheet). Zero 7712 (7792 + 4 * taskCount x) w₂) sheet₁ zero

@@ -10,10 +10,10 @@ use Rattle.arrivals.proofs.clear_tables.Statement.{statement}
 use Rattle.arrivals.proofs.clear_tables.Tie as tie
 
 abbrev Inv-loop : tie.InvT-loop
-Inv-loop w₀ n j₀ w j = (j ≤ 6) × Only 6176 8816 w₀ w × Blank n j w
+Inv-loop w₀ n j₀ w j = (j ≤ 5) × Only 6176 8816 w₀ w × Blank n j w
 
 abbrev μ-loop : tie.MeasureT-loop
-μ-loop w₀ n j₀ w j = 6 - j
+μ-loop w₀ n j₀ w j = 5 - j
 
 loop-holds : tie.Need-loop-holds Inv-loop μ-loop
 loop-holds c = (omega arith, only-none _ _ _, blank-none _ _)
