@@ -1,7 +1,7 @@
 -- The state of a scan of bytes, and the ways on and out.
 use Prim.Native.Nat.{ℕ, _+_, _*_, _-_, _<_, _≤_}
 use mathlib.Core.Path.{_≡_, refl, sym, ap, ap₂, subst, _∙_}
-use mathlib.Core.Bool.{true, false, true≢false}
+use mathlib.Core.Bool.{Bool, true, false, true≢false}
 use mathlib.Core.Logic.{_≢_}
 use mathlib.Core.Option.{none}
 use mathlib.Core.List.{List, [], _∷_, _++_}
@@ -17,22 +17,23 @@ use Rattle.folds.specs.Answers.{Answer, value, refused}
 use Rattle.folds.proofs.Tests.{not-value, either-none, both-parts, value-same}
 use Rattle.numbers.specs.Number.{numberAt}
 use Rattle.numbers.proofs.Laws.{numberAt-drop, number-lt}
-use Rattle.commands.specs.Commands.{Outcome, refuse, go, judge, readAll}
+use Rattle.commands.specs.Commands.{Outcome, refuse, go, judge, judgeKind, readAll}
 use Rattle.commands.specs.Reading.{Going}
 use Rattle.commands.proofs.Going.{starts, goes, refuses, ends, comes}
 use Rattle.workspace.specs.Area.{fixed}
 use Rattle.sheet.specs.Sheet.{Sheet, Task, Link, taskCount, linkCount}
-use Rattle.sheet.specs.Format.{Kind, board, task, link, end, width, Progress, fresh, closes, withCommand, taskFrom, linkFrom, ended, joins, sheetFormat, readForm}
+use Rattle.sheet.specs.Format.{Kind, board, task, link, end, kindOf, width, Progress, fresh, closes, withCommand, taskFrom, linkFrom, ended, joins, sheetFormat, readForm}
 use Rattle.sheet.specs.Tables.{sheetIn, pairIn, Loaded, Filling, LoadedOf, Blanked, taskWords, linkWords, pairWords}
 use Rattle.sheet.specs.Faults.{begun}
-use Rattle.sheet_reader.specs.Answers.{isTask, isLink, readingOf, openingOf, closedOf, ReadIs}
+use Rattle.sheet_reader.specs.Answers.{outcomeOf, isTask, isLink, readingOf, openingOf, closedOf, ReadIs}
 use Rattle.sheet_reader.specs.Scanning.{Scanning, Walking, Linking, addedWords}
+use Rattle.sheet_reader.specs.declared.bytes.Next.{Next}
 use Rattle.sheet_reader.specs.declared.Reading.{Reading}
 use Rattle.sheet_reader.specs.declared.Reading.the-variants.{Read, Refused}
 use Rattle.sheet.proofs.Rows.{tasks-in, links-in}
 use Rattle.sheet.proofs.Fills.{task-long, task-count, task-away, sheet-task, link-long, link-count, link-away, pair-long, pair-away}
 use Rattle.sheet.proofs.Joins.{task-loaded, filling-link, link-sheet, blank-sheet, blank-filling}
-use Rattle.sheet.proofs.Judging.{sound-of}
+use Rattle.sheet.proofs.Judging.{judge-known, sound-of}
 use Rattle.sheet.proofs.Rounds.{byteOf, first-byte}
 
 -- how an answer ends up as a reading
@@ -64,30 +65,19 @@ link-comes (go task) e = absurd (true≢false (sym e))
 link-comes (go link) e = refl
 link-comes (go end) e = absurd (true≢false (sym e))
 
--- another first byte is no command of kind k
-other-byte : (k : Kind) (p : Progress) (b : List ℕ) (at c : ℕ) → c ≡ getD b at 0 → c ≢ byteOf k → judge sheetFormat p (drop at b) ≢ go k
-other-byte k p b at c e h q =
-    h (e ∙ sym (getD-drop at b 0 0 ∙ ap (λ (i : ℕ). getD b i 0) (add-zero at)) ∙ ap (λ (d : List ℕ). getD d 0 0) (first-byte p (drop at b) k q))
+-- f asks for commands of kind k, whose first byte stands at `at`, or another
+module _ (f : Outcome Kind → Bool) (p : Progress) (b : List ℕ) (at : ℕ) {c : ℕ} (e : c ≡ getD b at 0) where
+  pub other-byte : (k : Kind) → ((o : Outcome Kind) → f o ≡ true → o ≡ go k) → c ≢ byteOf k → f (judge sheetFormat p (drop at b)) ≡ false
+  other-byte k only h = by (f (judge sheetFormat p (drop at b))) refl
+    where
+      by : (x : Bool) → f (judge sheetFormat p (drop at b)) ≡ x → f (judge sheetFormat p (drop at b)) ≡ false
+      by true q =
+          absurd (h (e ∙ sym (getD-drop at b 0 0 ∙ ap (λ (i : ℕ). getD b i 0) (add-zero at)) ∙ ap (λ (d : List ℕ). getD d 0 0) (first-byte p (drop at b) k (only _ q))))
+      by false q = q
 
-pub no-task-byte : (p : Progress) (b : List ℕ) (at c : ℕ) → c ≡ getD b at 0 → c ≢ 0x54 → isTask (judge sheetFormat p (drop at b)) ≡ false
-no-task-byte p b at c e h = by (judge sheetFormat p (drop at b)) (other-byte task p b at c e h)
-  where
-    by : (o : Outcome Kind) → o ≢ go task → isTask o ≡ false
-    by (refuse r) q = refl
-    by (go board) q = refl
-    by (go task) q = absurd (q refl)
-    by (go link) q = refl
-    by (go end) q = refl
-
-pub no-link-byte : (p : Progress) (b : List ℕ) (at c : ℕ) → c ≡ getD b at 0 → c ≢ 0x45 → isLink (judge sheetFormat p (drop at b)) ≡ false
-no-link-byte p b at c e h = by (judge sheetFormat p (drop at b)) (other-byte link p b at c e h)
-  where
-    by : (o : Outcome Kind) → o ≢ go link → isLink o ≡ false
-    by (refuse r) q = refl
-    by (go board) q = refl
-    by (go task) q = refl
-    by (go link) q = absurd (q refl)
-    by (go end) q = refl
+  -- .. the code found n
+  pub its-byte : (v : ℕ) {r n : Next} → at < length b → c ≡ v → outcomeOf r ≡ judgeKind sheetFormat p (kindOf v) (drop (at + 1) b) → r ≡ n → f (outcomeOf n) ≡ f (judge sheetFormat p (drop at b))
+  its-byte v h q found is = ap f (sym (ap outcomeOf is) ∙ found ∙ sym (judge-known p b at v h (sym e ∙ q)))
 
 no-tasks : (p l : ℕ) → taskCount (record { processors = p; limit = l; tasks = []; links = [] }) ≡ 0
 unfolding taskCount

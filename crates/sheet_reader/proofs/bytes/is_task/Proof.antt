@@ -1,14 +1,13 @@
 -- `is_task` (src/bytes.rt) keeps its contract.
 use Rattle.commands.proofs.Going.{judge-end}
-use Rattle.sheet.proofs.Judging.{judge-known}
 use Rattle.sheet.specs.Faults.{begun}
-use Rattle.sheet.specs.Format.{sheetFormat}
+use Rattle.sheet.specs.Format.{task, sheetFormat}
 use Rattle.sheet.specs.Tables.{sheetIn}
-use Rattle.sheet_reader.specs.Answers.{isTask, outcomeOf}
-use Rattle.sheet_reader.proofs.Scans.{no-task-byte}
+use Rattle.sheet_reader.specs.Answers.{isTask}
+use Rattle.sheet_reader.proofs.Scans.{other-byte, its-byte, task-comes}
 use borrow.Author.Needs.{needs}
 use denote.Ref.{now}
-use mathlib.Core.Path.{_∙_, ap, sym}
+use mathlib.Core.Path.{ap, sym}
 use native.Mathlib.Omega.{arith}
 use Rattle.sheet_reader.proofs.bytes.is_task.Statement.{statement}
 use Rattle.sheet_reader.proofs.bytes.is_task.Tie as tie
@@ -17,19 +16,19 @@ returns : tie.Need-returns
 returns c = let s = c .before .before .before in sym (ap isTask (judge-end sheetFormat (begun (sheetIn (now (s .args .w)))) (now (s .args .bytes)) (s .args .at) (omega arith)))
 
 returns-2 : tie.Need-returns-2
-returns-2 c = let s = c .before .before .before .before .before in sym (no-task-byte (begun (sheetIn (now (s .args .w)))) (now (s .args .bytes)) (s .args .at) _ (c .before .get8 .ensures .0) (c .if2 .taken))
+returns-2 c = let s = c .before .before .before .before .before in sym (other-byte isTask (begun (sheetIn (now (s .args .w)))) (now (s .args .bytes)) (s .args .at) (c .before .get8 .ensures .0) task task-comes (c .if2 .taken))
 
 returns-3 : tie.Need-returns-3
-returns-3 c = let s = c .before .before .before .before .before .before .before .before in ap isTask (sym (ap outcomeOf (c .enum-told .given .1)) ∙ c .before .before .task-at .ensures ∙ sym (judge-known (begun (sheetIn (now (s .args .w)))) (now (s .args .bytes)) (s .args .at) 0x54 (c .before .before .before .before .before .if1 .left) (sym (c .before .before .before .before .get8 .ensures .0) ∙ c .before .before .before .if2 .left)))
+returns-3 c = let s = c .before .before .before .before .before .before .before .before in its-byte isTask (begun (sheetIn (now (s .args .w)))) (now (s .args .bytes)) (s .args .at) (c .before .before .before .before .get8 .ensures .0) 0x54 (c .before .before .before .before .before .if1 .left) (c .before .before .before .if2 .left) (c .before .before .task-at .ensures) (c .enum-told .given .1)
 
 returns-4 : tie.Need-returns-4
-returns-4 c = let s = c .before .before .before .before .before .before .before .before in ap isTask (sym (ap outcomeOf (c .enum-told2 .given .1)) ∙ c .before .before .task-at .ensures ∙ sym (judge-known (begun (sheetIn (now (s .args .w)))) (now (s .args .bytes)) (s .args .at) 0x54 (c .before .before .before .before .before .if1 .left) (sym (c .before .before .before .before .get8 .ensures .0) ∙ c .before .before .before .if2 .left)))
+returns-4 c = let s = c .before .before .before .before .before .before .before .before in its-byte isTask (begun (sheetIn (now (s .args .w)))) (now (s .args .bytes)) (s .args .at) (c .before .before .before .before .get8 .ensures .0) 0x54 (c .before .before .before .before .before .if1 .left) (c .before .before .before .if2 .left) (c .before .before .task-at .ensures) (c .enum-told2 .given .1)
 
 returns-5 : tie.Need-returns-5
-returns-5 c = let s = c .before .before .before .before .before .before .before .before in ap isTask (sym (ap outcomeOf (c .enum-told3 .given .1)) ∙ c .before .before .task-at .ensures ∙ sym (judge-known (begun (sheetIn (now (s .args .w)))) (now (s .args .bytes)) (s .args .at) 0x54 (c .before .before .before .before .before .if1 .left) (sym (c .before .before .before .before .get8 .ensures .0) ∙ c .before .before .before .if2 .left)))
+returns-5 c = let s = c .before .before .before .before .before .before .before .before in its-byte isTask (begun (sheetIn (now (s .args .w)))) (now (s .args .bytes)) (s .args .at) (c .before .before .before .before .get8 .ensures .0) 0x54 (c .before .before .before .before .before .if1 .left) (c .before .before .before .if2 .left) (c .before .before .task-at .ensures) (c .enum-told3 .given .1)
 
 returns-6 : tie.Need-returns-6
-returns-6 c = let s = c .before .before .before .before .before .before .before .before .before in ap isTask (sym (ap outcomeOf (c .before .r .given .1)) ∙ c .before .before .before .task-at .ensures ∙ sym (judge-known (begun (sheetIn (now (s .args .w)))) (now (s .args .bytes)) (s .args .at) 0x54 (c .before .before .before .before .before .before .if1 .left) (sym (c .before .before .before .before .before .get8 .ensures .0) ∙ c .before .before .before .before .if2 .left)))
+returns-6 c = let s = c .before .before .before .before .before .before .before .before .before in its-byte isTask (begun (sheetIn (now (s .args .w)))) (now (s .args .bytes)) (s .args .at) (c .before .before .before .before .before .get8 .ensures .0) 0x54 (c .before .before .before .before .before .before .if1 .left) (c .before .before .before .before .if2 .left) (c .before .before .before .task-at .ensures) (c .before .r .given .1)
 
 pub is-task-spec : {M : Type 1} → statement M
 is-task-spec =
