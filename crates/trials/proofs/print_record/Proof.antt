@@ -11,23 +11,23 @@ add-name c = omega (arith, parts (c .before .pre) .name, parts (c .before .pre) 
 add-sheet : tie.Need-add-sheet
 add-sheet c = omega (arith, parts (c .before .pre) .sheet)
 
-sub-write : tie.Need-sub-write
-sub-write c = omega (arith, parts (c .before .pre) .name)
-
-part-write-start : tie.Need-part-write-start
-part-write-start c = omega (arith, parts (c .before .pre) .name)
-
-part-write-end : tie.Need-part-write-end
-part-write-end c = omega (arith, parts (c .before .pre) .sheet, parts (c .before .pre) .within)
-
 sub-print : tie.Need-sub-print
-sub-print c = omega (arith, parts (c .before .before .before .before .before .pre) .sheet)
+sub-print c = omega (arith, parts (c .before .pre) .name)
 
 part-print-start : tie.Need-part-print-start
-part-print-start c = omega (arith, parts (c .before .before .before .before .before .pre) .sheet)
+part-print-start c = omega (arith, parts (c .before .pre) .name)
 
 part-print-end : tie.Need-part-print-end
-part-print-end c = omega (arith, parts (c .before .before .before .before .before .pre) .within)
+part-print-end c = omega (arith, parts (c .before .pre) .sheet, parts (c .before .pre) .within)
+
+sub-print-listing : tie.Need-sub-print-listing
+sub-print-listing c = omega (arith, parts (c .before .before .before .before .before .pre) .sheet)
+
+part-print-listing-start : tie.Need-part-print-listing-start
+part-print-listing-start c = omega (arith, parts (c .before .before .before .before .before .pre) .sheet)
+
+part-print-listing-end : tie.Need-part-print-listing-end
+part-print-listing-end c = omega (arith, parts (c .before .before .before .before .before .pre) .within)
 
 pub print-record-spec : {M : Type 1} → statement M
 print-record-spec =
@@ -35,14 +35,14 @@ print-record-spec =
     (tie.spec
     add-name
     add-sheet
-    sub-write
-    part-write-start
-    part-write-end
-    (λ c κs. search needs)
-    (λ c. search needs)
-    (λ c κs. search needs)
     sub-print
     part-print-start
     part-print-end
+    (λ c κs. search needs)
+    (λ c. search needs)
+    (λ c κs. search needs)
+    sub-print-listing
+    part-print-listing-start
+    part-print-listing-end
     (λ c κs. search needs)
     (λ c. search needs))
