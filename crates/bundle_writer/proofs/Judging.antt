@@ -1,5 +1,5 @@
 -- Values judged as the reader would judge their bytes: the state of that, and the ways on and out.
-use Prim.Native.Nat.{ℕ, suc, _+_, _*_, _<_, _≤_}
+use Prim.Native.Nat.{ℕ, zero, suc, _+_, _*_, _<_, _≤_}
 use mathlib.Core.Path.{_≡_, refl, sym, ap, subst, _∙_}
 use mathlib.Core.Bool.{Bool, true, false, true≢false}
 use mathlib.Core.Option.{Option, none, some}
@@ -26,7 +26,11 @@ use Rattle.bundle.specs.Writing.{claimBytes, operandBytes, valueBytes}
 use Rattle.bundle.specs.Counts.{Sized, faultBelow, limitOf, countFormat}
 use Rattle.bundle.specs.Kinds.{isMessage}
 use Rattle.bundle_writer.specs.Writes.{judgedOf, RefusalIs, knownFault, openFault, cutKind, cutNumber}
+use Rattle.bundle_writer.specs.Judges.{Judging, Judges, NextIs, wentOn}
 use Rattle.bundle_writer.specs.declared.writer.Judged.the-variants.{Long, Refused}
+use Rattle.bundle_writer.specs.declared.writer.Judged.{Judged}
+use Rattle.bundle_writer.specs.declared.writer.Next.{Next}
+use Rattle.bundle_writer.specs.declared.writer.Next.the-variants.{On, Out}
 use Rattle.bundle.proofs.Steps.{on-claim}
 use Rattle.bundle.proofs.Parts.{drop-operand, length-within}
 use Rattle.bundle.proofs.Faults.{judge-sized, message-kind, strange-kind}
@@ -112,13 +116,6 @@ length-operand sending x = refl
 length-operand receiving x = refl
 length-operand claiming x = refl
 
--- for one sheet and one claim: the programmes of the values so far, and that reading on gives the whole answer
-pub record Judging (s : Sheet) (vs : List ℕ) (claim n at i : ℕ) : Type 0 where
-  pub ps : List (List Command)
-  pub count : length ps ≡ n
-  pub going : Going (bundleFormat s) (readBundle s (valueBytes vs claim)) ps at (valueBytes (drop i vs) claim)
-  pub size : at + length (valueBytes (drop i vs) claim) ≡ length (valueBytes vs claim)
-
 -- how many programmes are open behind a command of kind k
 abbrev pub openedBehind : ℕ → Kind → ℕ
 openedBehind n opening = n + 1
@@ -185,13 +182,6 @@ module _ {s : Sheet} {vs : List ℕ} {claim n at i : ℕ} {p t l : ℕ} (z : Siz
       let len : at + 5 ≡ length (valueBytes vs claim) = omega (arith, g .size, ap length e) in
       ap Long len ∙ sym (ap (judgedOf (valueBytes vs claim)) a)
 
--- for every sheet with these counts, and every claim
-pub record Judges (vs : List ℕ) (p t l n at i : ℕ) : Type 0 where
-  pub place : i ≤ length vs
-  pub near : at ≤ 2 * i
-  pub few : n ≤ i
-  pub each : (s : Sheet) → Sized s p t l → (claim : ℕ) → claim < 4294967296 → Judging s vs claim n at i
-
 pub judges-start : (vs : List ℕ) (p t l : ℕ) → Judges vs p t l 0 0 0
 unfolding readBundle
 judges-start vs p t l =
@@ -215,6 +205,18 @@ opened-most n running = omega arith
 opened-most n sending = omega arith
 opened-most n receiving = omega arith
 opened-most n claiming = omega arith
+
+-- the next command, by its two cases
+module _ {vs : List ℕ} {p t l i : ℕ} where
+  only-on : {at n : ℕ} → Judges vs p t l n at (i + 2) → NextIs vs p t l i (On at n)
+  only-on {at} {n} g =
+      record {
+        on = λ a m e. let x : at ≡ a = cc in let y : n ≡ m = cc in subst (λ (j : ℕ). Judges vs p t l m j (i + 2)) x (subst (λ (j : ℕ). Judges vs p t l j at (i + 2)) y g);
+        out = λ r e. let z : _≡_ {A = ℕ} 0 1 = cc in absurd (omega arith);
+      }
+
+  pub only-out : {j : Judged} → RefusalIs vs p t l j → NextIs vs p t l i (Out j)
+  only-out {j} g = record { on = λ a m e. let z : _≡_ {A = ℕ} 0 1 = cc in absurd (omega arith); out = λ r e. let x : j ≡ r = cc in subst (RefusalIs vs p t l) x g }
 
 -- the ways by what the code tests: the command of the values at i, with the number of its fault
 module _ {vs : List ℕ} {p t l n at i : ℕ} (g : Judges vs p t l n at i) (more : i + 1 < length vs) where
@@ -246,27 +248,41 @@ module _ {vs : List ℕ} {p t l n at i : ℕ} (g : Judges vs p t l n at i) (more
   refused-kind k e r z h =
       record { answer = λ s q claim m. judging-refused q (g .each s q claim m) r (judged-kind k e (numbered r) h claim ∙ ap (verdict (countFormat p t l) k) (numbered-some r (numbered r) refl z)) }
 
-  pub judges-message : getD vs (i + 1) 0 < 65536 → isMessage (getD vs i 0) ≡ true → (r : ℕ) → numbered r ≡ knownFault l n (getD vs (i + 1) 0) → r ≡ 0 → Judges vs p t l n (at + 3) (i + 2)
+  judges-message : getD vs (i + 1) 0 < 65536 → isMessage (getD vs i 0) ≡ true → (r : ℕ) → numbered r ≡ knownFault l n (getD vs (i + 1) 0) → r ≡ 0 → Judges vs p t l n (at + 3) (i + 2)
   judges-message s e r h z =
       ⊎-elim (λ q. on-kind sending refl q r z (λ b. h ∙ sym (fault-sending l n (getD vs (i + 1) 0) b s)))
       (λ q. on-kind receiving refl q r z (λ b. h ∙ sym (fault-receiving l n (getD vs (i + 1) 0) b s))) (message-kind (getD vs i 0) e)
 
-  pub judges-message-no : getD vs (i + 1) 0 < 65536 → isMessage (getD vs i 0) ≡ true → (r : ℕ) → numbered r ≡ knownFault l n (getD vs (i + 1) 0) → (r ≡ 0 → ⊥) → RefusalIs vs p t l (Refused r at)
+  judges-message-no : getD vs (i + 1) 0 < 65536 → isMessage (getD vs i 0) ≡ true → (r : ℕ) → numbered r ≡ knownFault l n (getD vs (i + 1) 0) → (r ≡ 0 → ⊥) → RefusalIs vs p t l (Refused r at)
   judges-message-no s e r h z =
       ⊎-elim (λ q. refused-kind sending q r z (λ b. h ∙ sym (fault-sending l n (getD vs (i + 1) 0) b s)))
       (λ q. refused-kind receiving q r z (λ b. h ∙ sym (fault-receiving l n (getD vs (i + 1) 0) b s))) (message-kind (getD vs i 0) e)
 
-  pub judges-run : getD vs i 0 ≡ 0x52 → (r : ℕ) → numbered r ≡ knownFault t n (getD vs (i + 1) 0) → r ≡ 0 → Judges vs p t l n (at + 2) (i + 2)
+  judges-run : getD vs i 0 ≡ 0x52 → (r : ℕ) → numbered r ≡ knownFault t n (getD vs (i + 1) 0) → r ≡ 0 → Judges vs p t l n (at + 2) (i + 2)
   judges-run e r h z = on-kind running refl (ap kindOf e) r z (λ b. h ∙ sym (fault-running t n (getD vs (i + 1) 0) b))
 
-  pub judges-run-no : getD vs i 0 ≡ 0x52 → (r : ℕ) → numbered r ≡ knownFault t n (getD vs (i + 1) 0) → (r ≡ 0 → ⊥) → RefusalIs vs p t l (Refused r at)
+  judges-run-no : getD vs i 0 ≡ 0x52 → (r : ℕ) → numbered r ≡ knownFault t n (getD vs (i + 1) 0) → (r ≡ 0 → ⊥) → RefusalIs vs p t l (Refused r at)
   judges-run-no e r h z = refused-kind running (ap kindOf e) r z (λ b. h ∙ sym (fault-running t n (getD vs (i + 1) 0) b))
 
-  pub judges-open : getD vs i 0 ≡ 0x50 → (r : ℕ) → numbered r ≡ openFault p n (getD vs (i + 1) 0) → r ≡ 0 → Judges vs p t l (n + 1) (at + 2) (i + 2)
+  judges-open : getD vs i 0 ≡ 0x50 → (r : ℕ) → numbered r ≡ openFault p n (getD vs (i + 1) 0) → r ≡ 0 → Judges vs p t l (n + 1) (at + 2) (i + 2)
   judges-open e r h z = on-kind opening refl (ap kindOf e) r z (λ b. h ∙ sym (fault-opening p n (getD vs (i + 1) 0) b))
 
-  pub judges-open-no : getD vs i 0 ≡ 0x50 → (r : ℕ) → numbered r ≡ openFault p n (getD vs (i + 1) 0) → (r ≡ 0 → ⊥) → RefusalIs vs p t l (Refused r at)
+  judges-open-no : getD vs i 0 ≡ 0x50 → (r : ℕ) → numbered r ≡ openFault p n (getD vs (i + 1) 0) → (r ≡ 0 → ⊥) → RefusalIs vs p t l (Refused r at)
   judges-open-no e r h z = refused-kind opening (ap kindOf e) r z (λ b. h ∙ sym (fault-opening p n (getD vs (i + 1) 0) b))
+
+  -- .. and what a fault makes of each
+  went-on : (r behind m : ℕ) → (r ≡ 0 → Judges vs p t l m behind (i + 2)) → ((r ≡ 0 → ⊥) → RefusalIs vs p t l (Refused r at)) → {q : Next} → q ≡ wentOn r at behind m → NextIs vs p t l i q
+  went-on zero behind m f g e = subst (NextIs vs p t l i) (sym e) (only-on (f refl))
+  went-on (suc r) behind m f g e = subst (NextIs vs p t l i) (sym e) (only-out (g (λ z. omega arith)))
+
+  pub next-message : getD vs (i + 1) 0 < 65536 → isMessage (getD vs i 0) ≡ true → (r : ℕ) → numbered r ≡ knownFault l n (getD vs (i + 1) 0) → {q : Next} → q ≡ wentOn r at (at + 3) n → NextIs vs p t l i q
+  next-message s e r h = went-on r (at + 3) n (judges-message s e r h) (judges-message-no s e r h)
+
+  pub next-run : getD vs i 0 ≡ 0x52 → (r : ℕ) → numbered r ≡ knownFault t n (getD vs (i + 1) 0) → {q : Next} → q ≡ wentOn r at (at + 2) n → NextIs vs p t l i q
+  next-run e r h = went-on r (at + 2) n (judges-run e r h) (judges-run-no e r h)
+
+  pub next-open : getD vs i 0 ≡ 0x50 → (r : ℕ) → numbered r ≡ openFault p n (getD vs (i + 1) 0) → {q : Next} → q ≡ wentOn r at (at + 2) (n + 1) → NextIs vs p t l i q
+  next-open e r h = went-on r (at + 2) (n + 1) (judges-open e r h) (judges-open-no e r h)
 
   -- a claim among the commands
   pub judges-claim-no : getD vs i 0 ≡ 0x5A → n ≡ 0 → RefusalIs vs p t l (Refused 23 at)
@@ -308,3 +324,12 @@ module _ {vs : List ℕ} {p t l n at i : ℕ} (g : Judges vs p t l n at i) where
 
   pub judges-long : length vs ≤ i → (n ≡ 0 → ⊥) → RefusalIs vs p t l (Long (at + 5))
   judges-long h e = record { answer = λ s z claim m. judging-end z (g .each s z claim m) h (omega arith) m }
+
+-- a fault, by the code's test
+pub went-out : (r at behind n : ℕ) → (r ≡ 0 → ⊥) → Out (Refused r at) ≡ wentOn r at behind n
+went-out zero at behind n h = absurd (h refl)
+went-out (suc r) at behind n h = refl
+
+pub went-in : (r at behind n : ℕ) → r ≡ 0 → On behind n ≡ wentOn r at behind n
+went-in zero at behind n h = refl
+went-in (suc r) at behind n h = absurd (omega arith)

@@ -2,3 +2,4 @@
 pub mod Whole
 pub mod Writes
 pub mod Copies
+pub mod Judges

@@ -1,13 +1,14 @@
 // Writes a bundle that is given by its values, two for each command: its byte and its operand.
 ghost use mathlib.Core.Path.{_≡_};
 ghost use mathlib.Core.List.{_++_};
-ghost use Prim.Native.Nat.{_+_, _≤_};
+ghost use Prim.Native.Nat.{_+_, _<_, _≤_};
 ghost use lib.ListN.{length, drop};
 ghost use lib.Dec.{eqb};
 ghost use Rattle.folds.specs.Folds.{pick};
 ghost use Rattle.bundle.specs.Writing.{valueBytes};
 ghost use Rattle.commands.specs.Commands.{numbered};
 ghost use Rattle.bundle_writer.specs.Writes.{Counted, WriteIs, RefusalIs, knownFault, openFault, cutNumber, Writable, PutIs};
+ghost use Rattle.bundle_writer.specs.Judges.{Judges, NextIs, wentOn};
 use bundle::kinds::is_message;
 
 // How many bytes a bundle has that is given by its values, or a refusal's number and place.
@@ -71,6 +72,55 @@ fn cut_number(command: u16, opened: usize) -> u8
     22
 }
 
+// A command that nothing refuses, with the offset behind it and the programmes open there; or how the judging ends.
+pub enum Next {
+    On(usize, usize),
+    Out(Judged),
+}
+
+// What a fault makes of a command at `at`, behind which stand `behind` and so many open programmes.
+fn go_on(fault: u8, at: usize, behind: usize, opened: usize) -> Next
+    ensures { λ r. ⌜ r ≡ wentOn fault at behind opened ⌝ }
+{
+    if fault != 0 {
+        return Next::Out(Judged::Refused(fault, at));
+    }
+    Next::On(behind, opened)
+}
+
+// The command of the values at i, whose bytes stand at `at` behind so many open programmes.
+fn next_at(
+    commands: &[u16],
+    i: usize,
+    at: usize,
+    opened: usize,
+    processors: usize,
+    tasks: usize,
+    links: usize,
+) -> Next
+    requires { ⌜ Judges (now commands) processors tasks links opened at i × (i + 1 < length (now commands)) ⌝ }
+    ensures { λ r. ⌜ NextIs (now (commands .entry)) processors tasks links i r ⌝ }
+{
+    let c = commands[i];
+    let x = commands[i + 1];
+    if is_message(c) {
+        return go_on(known_fault(x, opened, links), at, at + 3, opened);
+    }
+    if c == 0x52 {
+        return go_on(known_fault(x, opened, tasks), at, at + 2, opened);
+    }
+    if c == 0x50 {
+        return go_on(open_fault(x, opened, processors), at, at + 2, opened + 1);
+    }
+    if c != 0x5A {
+        return Next::Out(Judged::Refused(22, at));
+    }
+    if opened == 0 {
+        return Next::Out(Judged::Refused(23, at));
+    }
+    Next::Out(Judged::Refused(24, at + 5))
+}
+
 // What the reader would say of the bytes of these values, without the bytes: their number, or its refusal.
 pub fn refusal(commands: &[u16], processors: usize, tasks: usize, links: usize) -> Judged
     ensures { λ r. ⌜ RefusalIs (now (commands .entry)) processors tasks links r ⌝ }
@@ -79,43 +129,16 @@ pub fn refusal(commands: &[u16], processors: usize, tasks: usize, links: usize) 
     let mut opened: usize = 0;
     let mut i = 0;
     while i + 1 < commands.len() {
-        let c = commands[i];
-        let x = commands[i + 1];
-        if is_message(c) {
-            let r = known_fault(x, opened, links);
-            if r != 0 {
-                return Judged::Refused(r, at);
+        match next_at(commands, i, at, opened, processors, tasks, links) {
+            Next::Out(r) => {
+                return r;
             }
-            at += 3;
-            i += 2;
-            continue;
-        }
-        if c == 0x52 {
-            let r = known_fault(x, opened, tasks);
-            if r != 0 {
-                return Judged::Refused(r, at);
+            Next::On(behind, open) => {
+                at = behind;
+                opened = open;
+                i += 2;
             }
-            at += 2;
-            i += 2;
-            continue;
         }
-        if c == 0x50 {
-            let r = open_fault(x, opened, processors);
-            if r != 0 {
-                return Judged::Refused(r, at);
-            }
-            opened += 1;
-            at += 2;
-            i += 2;
-            continue;
-        }
-        if c == 0x5A {
-            if opened == 0 {
-                return Judged::Refused(23, at);
-            }
-            return Judged::Refused(24, at + 5);
-        }
-        return Judged::Refused(22, at);
     }
     if i < commands.len() {
         return Judged::Refused(cut_number(commands[i], opened), at);
