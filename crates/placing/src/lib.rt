@@ -112,7 +112,7 @@ fn due_from(w: &[u32], t: usize, from: Senders) -> usize
     due
 }
 
-// Sixteen counts, four in each number, a byte for each.
+// Sixteen counts, a byte for each: those of processors 0 to 3 in a, of 4 to 7 in b, and so on.
 pub struct Counts {
     pub a: usize,
     pub b: usize,
