@@ -11,7 +11,6 @@ use Rattle.placing.specs.Choosing.{dueBy, DuesTo}
 use Rattle.placing.specs.declared.Senders.the-variants.{Four}
 use Rattle.placing.proofs.Spent.{due-else, target-free}
 use Rattle.placing.proofs.Due.{dues-first, dues-next, dues-at, small-dues}
-use borrow.Author.Needs.{needs}
 use Rattle.placing.proofs.dues_of.Statement.{statement}
 use Rattle.placing.proofs.dues_of.Tie as tie
 

@@ -1,6 +1,5 @@
 -- `go_on` (src/writer.rt) keeps its contract.
 use Rattle.bundle_writer.proofs.Judging.{went-out, went-in}
-use borrow.Author.Needs.{needs}
 use Rattle.bundle_writer.proofs.writer.go_on.Statement.{statement}
 use Rattle.bundle_writer.proofs.writer.go_on.Tie as tie
 
