@@ -8,13 +8,15 @@ use native.Mathlib.Decide.{decLt}
 use lib.ListN.{length, List·getD-eq-default}
 use Rattle.folds.specs.Answers.{Answer, value, refused}
 use Rattle.folds.proofs.Tests.{not-value}
+use Rattle.workspace.specs.Area.{fixed}
 use Rattle.sheet.specs.Sheet.{Sheet}
-use Rattle.bundle.specs.Bundle.{Bundle, programmeCount}
+use Rattle.bundle.specs.Bundle.{Bundle}
 use Rattle.messages.specs.declared.Judged.{Judged}
 use Rattle.messages.specs.declared.Judged.the-variants as judged
 use Rattle.machine.specs.Machine.{State, Processor, freshState, freshProcessor, processorOf}
 use Rattle.machine.specs.Runs.{freshRun, runOf}
-use Rattle.state.specs.Keeps.{Keeps, RunIs, ClockIs, PositionIs, StoreIs}
+use Rattle.machine.specs.Kept.{RunIs}
+use Rattle.loaded.specs.Keeps.{Keeps, ClockIs, PositionIs, StoreIs}
 use Rattle.starting.specs.Starts.{starting, startedOf, BytesIs}
 use Rattle.checker.specs.Checker.{check}
 use Rattle.checker.specs.Verdicts as checker
@@ -79,7 +81,7 @@ module _ (sheet bundle work mid state last : List ℕ) {j : Judged} (h : BytesIs
         keeps = h .keeps;
       }
 
-  pub state-ran : 1120 ≤ length state → (choices final : List ℕ) (n m c t : ℕ) → j ≡ judged.Fit m c t → RunIs sheet bundle choices last final n
+  pub state-ran : fixed ≤ length state → (choices final : List ℕ) (n m c t : ℕ) → j ≡ judged.Fit m c t → RunIs Keeps choices last final n
       → StateIs (steppedIn choices) (λ s b. runOf s b choices .state) sheet bundle work mid state final (ends.Done n)
   unfolding runOf
   state-ran long choices final n m c t e g =
@@ -93,20 +95,20 @@ module _ (sheet bundle work mid state last : List ℕ) {j : Judged} (h : BytesIs
         keeps =
             λ enough s b q.
             let p = same-pair (sym (a .2) ∙ q) in
-            subst (λ (x : Sheet). Keeps x b sheet bundle final (runOf x b choices .state)) (p .0)
-            (subst (λ (x : Bundle). Keeps (a .0) x sheet bundle final (runOf (a .0) x choices .state)) (p .1) (k .1));
+            subst (λ (x : Sheet). Keeps x b final (runOf x b choices .state)) (p .0)
+            (subst (λ (x : Bundle). Keeps (a .0) x final (runOf (a .0) x choices .state)) (p .1) (k .1));
       }
 
 -- the numbers of a processor fit their words
-module _ {s : Sheet} {b : Bundle} {sheet bundle w : List ℕ} {σ : State} (y : Keeps s b sheet bundle w σ) (k : ℕ) where
-  nobody : programmeCount b ≤ k → processorOf σ k ≡ freshProcessor
+module _ {s : Sheet} {b : Bundle} {w : List ℕ} {σ : State} (y : Keeps s b w σ) (k : ℕ) where
+  nobody : 16 ≤ k → processorOf σ k ≡ freshProcessor
   unfolding processorOf
-  nobody l = List·getD-eq-default (σ .processors) freshProcessor {n = k} (omega (arith, y .processors))
+  nobody l = List·getD-eq-default (σ .processors) freshProcessor {n = k} (omega (arith, y .processors, y .programmed .few))
 
   small-numbers : (processorOf σ k .clock < 4294967296) × (processorOf σ k .position < 4294967296) × (processorOf σ k .store < 4294967296)
   small-numbers =
-      elim (decLt k (programmeCount b)) [
-        | yes l ↦ (let r = y .room k l in (omega (arith, r .1), omega (arith, r .0), omega (arith, r .2)))
+      elim (decLt k 16) [
+        | yes l ↦ (let r = y .room k l in (omega (arith, r .0), omega (arith, y .inside k l, y .programmed .high k l), omega (arith, r .1)))
         | no l ↦
             (let e = nobody (omega arith) in
             (omega (arith, ap (λ (p : Processor). p .clock) e), omega (arith, ap (λ (p : Processor). p .position) e), omega (arith, ap (λ (p : Processor). p .store) e)))
@@ -117,11 +119,11 @@ pub numbers-are : (state : List ℕ) (k c p q x y z : ℕ) → ClockIs state k c
 numbers-are state k c p q x y z hc hp hq ex ey ez =
     record {
       is =
-          λ s b sheet bundle σ h.
+          λ s b σ h.
           let n = small-numbers h k in
-          let e = hc .is s b sheet bundle σ h in
-          let f = hp .is s b sheet bundle σ h in
-          let g = hq .is s b sheet bundle σ h in
+          let e = hc .is s b σ h in
+          let f = hp .is s b σ h in
+          let g = hq .is s b σ h in
           ap₃ (omega (arith, ex, e, n .0)) (omega (arith, ey, f, n .1)) (omega (arith, ez, g, n .2));
     }
   where

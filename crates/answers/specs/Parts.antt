@@ -7,7 +7,8 @@ use Rattle.folds.specs.Answers.{Answer, value, refused, written}
 use Rattle.sheet.specs.Sheet.{Sheet}
 use Rattle.bundle.specs.Bundle.{Bundle}
 use Rattle.machine.specs.Machine.{State}
-use Rattle.state.specs.Keeps.{Keeps}
+use Rattle.workspace.specs.Area.{fixed}
+use Rattle.loaded.specs.Keeps.{Keeps}
 use Rattle.starting.specs.Starts.{starting}
 use Rattle.answers.specs.Values.{taskTable, linkTable, boardAfter, no-place, valueCount, commandTable, claimAfter}
 use Rattle.answers.specs.Values.{numbersOf}
@@ -59,8 +60,8 @@ pub record StateIs (f : Sheet × Bundle → ℕ) (τ : Sheet → Bundle → Stat
   pub long : length work′ ≡ length work
   pub state-long : length state′ ≡ length state
   pub untouched : (n at : ℕ) → starting sheet bundle ≡ refused n at → state′ ≡ state
-  pub keeps : 1120 ≤ length state → (s : Sheet) (b : Bundle) → starting sheet bundle ≡ value (s, b) → Keeps s b sheet bundle state′ (τ s b)
+  pub keeps : fixed ≤ length state → (s : Sheet) (b : Bundle) → starting sheet bundle ≡ value (s, b) → Keeps s b state′ (τ s b)
 
 -- the numbers of processor k
 pub record NumbersIs (state : List ℕ) (k : ℕ) (x : List ℕ) : Type 0 where
-  pub is : (s : Sheet) (b : Bundle) (sheet bundle : List ℕ) (σ : State) → Keeps s b sheet bundle state σ → x ≡ numbersOf σ k
+  pub is : (s : Sheet) (b : Bundle) (σ : State) → Keeps s b state σ → x ≡ numbersOf σ k

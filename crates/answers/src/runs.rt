@@ -36,7 +36,7 @@ pub fn run(
 {
     match starting::bytes::start(sheet, bundle, work, state) {
         Judged::Refused(r, at) => Outcome::Refused(r, at),
-        Judged::Fit(_, _, _) => Outcome::Done(stepping::run(sheet, bundle, choices, state)),
+        Judged::Fit(_, _, _) => Outcome::Done(loaded::steps::run(choices, state)),
     }
 }
 
@@ -54,8 +54,8 @@ pub fn counted(b: bool) -> u64
 pub fn numbers(state: &[u32], k: usize, processor: &mut [u32; 3])
     ensures { λ _. ⌜ NumbersIs (now (state .entry)) k (now (processor .exit)) ⌝ }
 {
-    let clock = words::narrow(state::clock(state, k));
-    let position = words::narrow(state::position(state, k));
-    let store = words::narrow(state::store(state, k));
+    let clock = words::narrow(loaded::asks::clock(state, k));
+    let position = words::narrow(loaded::asks::position(state, k));
+    let store = words::narrow(loaded::asks::store(state, k));
     *processor = [clock, position, store];
 }

@@ -123,7 +123,7 @@ demand =
       agrees =
           λ sheet bundle work work′ state state′ p g.
           let v = start-value sheet bundle (length work) (length state) (g .returns) in
-          (v .0, v .1, v .3, λ ks ps last c. agreed (v .0) (v .1) sheet bundle (omega (arith, g .long, v .4)) (g .keeps (v .0) (v .1) (v .2)) c);
+          (v .0, v .1, v .3, λ ks ps last c. agreed (v .0) (v .1) (omega (arith, g .long, v .4)) (g .keeps (v .0) (v .1) (v .2)) c);
       runs =
           λ sheet bundle choices work work′ state state′ p g.
           let v = start-value sheet bundle (length work) (length state) (g .returns) in

@@ -19,7 +19,7 @@ use Rattle.messages.specs.Counting.{weigh, whole, each, is, need}
 use Rattle.messages.specs.Messages.{Published}
 use Rattle.machine.specs.Machine.{processorOf, stampOf, canStep}
 use Rattle.machine.specs.Runs.{Run, freshRun, runOf, answers, doneOf, done, left, latest}
-use Rattle.state.specs.Keeps.{Keeps}
+use Rattle.loaded.specs.Keeps.{Keeps}
 use Rattle.starting.specs.Starts.{starting}
 use Rattle.zeldrupa.specs.Promises.{GivesCheck, GivesPlan}
 use Rattle.answers.specs.Values.{numbersOf}
@@ -47,18 +47,18 @@ pub record Holds (s : Sheet) (b : Bundle) (r : Run) : Type 0 where
   pub finish : left b (r .state) each ≡ 0 → ((t : ℕ) → t < taskCount s → done b (r .state) (is (run t)) ≡ 1) × (latest (r .state) ≡ b .claim)
 
 -- calls of zeldrupa_step with these choices, each lent the words that the last one left, and the places that they gave
-pub data Stepped (sheet bundle : List ℕ) : List ℕ → List ℕ → List ℕ → List ℕ → Type 0 where
-  nothing : {state : List ℕ} → Stepped sheet bundle [] [] state state
-  stepped : {k p r : ℕ} {ks ps state next last : List ℕ} → GivesStep sheet bundle state next k p r → Stepped sheet bundle ks ps next last → Stepped sheet bundle (k ∷ ks) (p ∷ ps) state last
+pub data Stepped : List ℕ → List ℕ → List ℕ → List ℕ → Type 0 where
+  nothing : {state : List ℕ} → Stepped [] [] state state
+  stepped : {k p r : ℕ} {ks ps state next last : List ℕ} → GivesStep state next k p r → Stepped ks ps next last → Stepped (k ∷ ks) (p ∷ ps) state last
 
 -- the words `last`, after calls with the choices ks that gave the places ps, hold what the definition has after these choices
-pub record Agrees (s : Sheet) (b : Bundle) (sheet bundle ks ps last : List ℕ) : Type 0 where
+pub record Agrees (s : Sheet) (b : Bundle) (ks ps last : List ℕ) : Type 0 where
   -- "has given the definition's answers": 1 for each choice that stepped, 0 for each that could not
   pub answered : ps ≡ map bit (answers s b (freshRun s b) ks)
   -- "and holds its positions, clocks, stores and stamps"
-  pub keeps : Keeps s b sheet bundle last (runOf s b ks .state)
-  pub left : (p r : ℕ) → GivesLeft bundle last p r → p ≡ left b (runOf s b ks .state) each
-  pub processor : (k p r : ℕ) (x x′ : List ℕ) → GivesProcessor bundle last k x x′ p r → x′ ≡ numbersOf (runOf s b ks .state) k
+  pub keeps : Keeps s b last (runOf s b ks .state)
+  pub left : (p r : ℕ) → GivesLeft last p r → p ≡ left b (runOf s b ks .state) each
+  pub processor : (k p r : ℕ) (x x′ : List ℕ) → GivesProcessor last k x x′ p r → x′ ≡ numbersOf (runOf s b ks .state) k
   pub stamp : (l p r : ℕ) → GivesStamp last l p r → p ≡ stampNumber (stampOf (runOf s b ks .state) l)
 
 pub record Demand : Type 0 where
@@ -79,8 +79,8 @@ pub record Demand : Type 0 where
   pub agrees :
       (sheet bundle work work′ state state′ : List ℕ) (p : ℕ) → GivesStart sheet bundle work work′ state state′ p 0 →
       (s : Sheet) × (b : Bundle) × (starting sheet bundle ≡ value (s, b)) ×
-      ((ks ps last : List ℕ) → Stepped sheet bundle ks ps state′ last → Agrees s b sheet bundle ks ps last)
+      ((ks ps last : List ℕ) → Stepped ks ps state′ last → Agrees s b ks ps last)
   pub runs :
       (sheet bundle choices work work′ state state′ : List ℕ) (p : ℕ) → GivesRun choices sheet bundle work work′ state state′ p 0 →
       (s : Sheet) × (b : Bundle) × (starting sheet bundle ≡ value (s, b)) ×
-      (p ≡ runOf s b choices .stepped) × Keeps s b sheet bundle state′ (runOf s b choices .state)
+      (p ≡ runOf s b choices .stepped) × Keeps s b state′ (runOf s b choices .state)

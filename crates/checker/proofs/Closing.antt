@@ -35,8 +35,8 @@ use Rattle.messages.proofs.Few.{few-of-read, commands-whole}
 use Rattle.messages.proofs.Admits.{admitted-published}
 use Rattle.machine.specs.Machine.{State, processorOf}
 use Rattle.machine.specs.Runs.{clockOf, latest, settled}
-use Rattle.state.specs.Keeps.{Keeps}
-use Rattle.starting.specs.Starts.{StartIs}
+use Rattle.state.specs.Tracks.{Tracks}
+use Rattle.state.specs.Fresh.{BeginIs}
 use Rattle.checker.specs.Checker.{unfinished, at29, at30, closing, checked}
 use Rattle.checker.specs.Settling.{SettleIs}
 use Rattle.checker.specs.Verdicts.{verdictOf, checkedBytes, UnfinishedIs, LatestIs, FinishIs, JudgementIs}
@@ -51,7 +51,7 @@ drop-some (x ∷ p) zero c cs e = omega arith
 drop-some (x ∷ p) (suc i) c cs e = omega (arith, drop-some p i c cs e)
 
 -- commands are left exactly where the offset is below the end
-left-at : (s : Sheet) (b : Bundle) (sheet bundle w : List ℕ) (σ : State) → Keeps s b sheet bundle w σ → (k : ℕ) → k < programmeCount b
+left-at : (s : Sheet) (b : Bundle) (sheet bundle w : List ℕ) (σ : State) → Tracks sheet bundle s b w σ → (k : ℕ) → k < programmeCount b
     → unfinished b σ k ≡ ltb (getD w (32 + k) 0) (getD w (suc k) 0)
 unfolding unfinished
 left-at s b sheet bundle w σ h k l = elim (decLt (getD w (32 + k) 0) (getD w (suc k) 0)) [ yes q ↦ more q | no q ↦ over (omega arith) ]
@@ -198,7 +198,7 @@ module _ (sheet bundle w u : List ℕ) (p n l limit : ℕ) (f : Judged) (h : Jud
           two : r ≡ i → at ≡ j → Refused r at ≡ Refused i j
           two a c = cc
 
-  pub judged-ends : (v x : List ℕ) (m c claim : ℕ) (r : Verdict) → ((i : ℕ) → getD bundle i 0 < 256) → f ≡ Fit m c claim → StartIs u u v m n l c → SettleIs sheet bundle v x → length x ≡ length v
+  pub judged-ends : (v x : List ℕ) (m c claim : ℕ) (r : Verdict) → ((i : ℕ) → getD bundle i 0 < 256) → f ≡ Fit m c claim → BeginIs u v m n l c → SettleIs sheet bundle v x → length x ≡ length v
       → FinishIs x claim r → JudgementIs sheet bundle w x p n l limit r
   unfolding admittedBytes checkedBytes programmeCount
   judged-ends v x m c claim r bytes e a g lx t =
@@ -220,7 +220,7 @@ module _ (sheet bundle w u : List ℕ) (p n l limit : ℕ) (f : Judged) (h : Jud
           let few : programmeCount b ≤ 16 = few-programmes s k b q in
           let room = few-of-read s bundle b tasks links few bytes q (f .0) in
           let start =
-          a .keeps s b sheet bundle (k .fields) (omega (arith, h .long)) em few (k .tasks) tasks (k .links) links (sym (commands-whole b) ∙ ec) (omega arith)
+          a .tracks s b sheet bundle (k .fields) (omega (arith, h .long)) em few (k .tasks) tasks (k .links) links (sym (commands-whole b) ∙ ec) (omega arith)
           (laid b (z ∙ ap value (sym (f .2))))
           in
           t .is-end s b sheet bundle (settled s b) (settles-to g s b (f .0) start) el ∙ ap verdictOf (sym (checked-ends s b (f .0) (f .1)))

@@ -14,12 +14,14 @@ use Rattle.messages.specs.Counting.{each}
 use Rattle.messages.specs.Messages.{Published}
 use Rattle.machine.specs.Machine.{State, freshState, step, canStep}
 use Rattle.machine.specs.Runs.{Run, freshRun, runFrom, runOf, left, settled}
-use Rattle.state.specs.Keeps.{Keeps, StepIs, RunIs}
+use Rattle.machine.specs.Kept.{StepIs, RunIs}
+use Rattle.state.specs.Tracks.{Tracks}
 use Rattle.machine.proofs.Steps.{step-can, step-move, left-moved, step-below}
 use Rattle.machine.proofs.Runs.{keeps}
 use Rattle.machine.proofs.Orders.{no-step, any-run}
-use Rattle.stepping.proofs.Lists.{from-then, run-none, run-more}
-use Rattle.stepping.proofs.Chosen.{no-programme}
+use Rattle.machine.proofs.Choices.{from-then}
+use Rattle.machine.proofs.Kept.{run-none, run-more}
+use Rattle.state.proofs.Chosen.{no-programme}
 use Rattle.checker.specs.Settling.{Goes, Halts, AdvanceIs, RoundIs, SettleIs}
 
 cannot : (s : Sheet) (b : Bundle) (σ : State) (k : ℕ) → false ≡ canStep s b σ k → step s b σ k ≡ none
@@ -42,15 +44,15 @@ module _ (sheet bundle : List ℕ) where
                   let x = g .runs .agrees s b r p in
                   let y = h .runs .agrees s b (runFrom s b r (g .choices)) (x .1) in
                   let e = from-then s b r (g .choices) (h .choices) in
-                  (omega (arith, x .0, y .0, ap (λ (o : Run). o .stepped) e), subst (λ (o : Run). Keeps s b sheet bundle v (o .state)) (sym e) (y .1));
+                  (omega (arith, x .0, y .0, ap (λ (o : Run). o .stepped) e), subst (λ (o : Run). Tracks sheet bundle s b v (o .state)) (sym e) (y .1));
             };
       }
 
-  choice : {w v : List ℕ} {k : ℕ} {f : Bool} → StepIs sheet bundle w v k f → Goes sheet bundle w v (bit f)
+  choice : {w v : List ℕ} {k : ℕ} {f : Bool} → StepIs (Tracks sheet bundle) w v k f → Goes sheet bundle w v (bit f)
   choice {w} {v} {k} {f} h =
-      let g = run-more {sheet = sheet} {bundle = bundle} {v = w} {w = w} {u = v} {n = 0} (k ∷ []) 0 k (bit f) f (run-none sheet bundle (k ∷ []) w) (omega arith) refl h refl in
+      let g = run-more (Tracks sheet bundle) {v = w} {w = w} {u = v} {n = 0} (k ∷ []) 0 k (bit f) f (run-none (Tracks sheet bundle) (k ∷ []) w) (omega arith) refl h refl in
       let e : 0 + bit f ≡ bit f = omega arith in
-      record { choices = k ∷ []; runs = subst (RunIs sheet bundle (k ∷ []) w v) e g }
+      record { choices = k ∷ []; runs = subst (RunIs (Tracks sheet bundle) (k ∷ []) w v) e g }
 
   -- one processor: a step, and the ends
   pub record Advancing (w u : List ℕ) (n : ℕ) : Type 0 where
@@ -60,11 +62,11 @@ module _ (sheet bundle : List ℕ) where
   pub advance-starts : (w : List ℕ) → Advancing w w 0
   advance-starts w = record { goes = goes-none w; same = λ q. refl }
 
-  pub advance-more : {w u v : List ℕ} {n k : ℕ} (f : Bool) → f ≡ true → Advancing w u n → StepIs sheet bundle u v k f → Advancing w v (n + 1)
+  pub advance-more : {w u v : List ℕ} {n k : ℕ} (f : Bool) → f ≡ true → Advancing w u n → StepIs (Tracks sheet bundle) u v k f → Advancing w v (n + 1)
   advance-more {w} {u} {v} {n} {k} f e g h =
-      record { goes = goes-then (g .goes) (choice (subst (StepIs sheet bundle u v k) e h)); same = λ q. absurd (omega arith) }
+      record { goes = goes-then (g .goes) (choice (subst (StepIs (Tracks sheet bundle) u v k) e h)); same = λ q. absurd (omega arith) }
 
-  pub advance-stops : {w u v : List ℕ} {n k : ℕ} (f : Bool) → f ≡ false → n ≤ 65536 → Advancing w u n → StepIs sheet bundle u v k f → AdvanceIs sheet bundle w v k n
+  pub advance-stops : {w u v : List ℕ} {n k : ℕ} (f : Bool) → f ≡ false → n ≤ 65536 → Advancing w u n → StepIs (Tracks sheet bundle) u v k f → AdvanceIs sheet bundle w v k n
   advance-stops {w} {u} {v} {n} {k} f e l g h =
       let d = h .same e in
       record {
@@ -74,7 +76,7 @@ module _ (sheet bundle : List ℕ) where
         halts =
             λ q.
             record {
-              none-at = λ s b σ p. cannot s b σ k (sym e ∙ h .agrees s b σ (subst (λ (x : List ℕ). Keeps s b sheet bundle x σ) (sym (g .same q)) p) .0);
+              none-at = λ s b σ p. cannot s b σ k (sym e ∙ h .agrees s b σ (subst (λ (x : List ℕ). Tracks sheet bundle s b x σ) (sym (g .same q)) p) .0);
             };
       }
 
@@ -122,7 +124,7 @@ module _ (sheet bundle : List ℕ) where
 
   -- steps and commands left
   module _ (s : Sheet) (b : Bundle) where
-    left-run : (w : List ℕ) (r : Run) → Keeps s b sheet bundle w (r .state) → (ks : List ℕ)
+    left-run : (w : List ℕ) (r : Run) → Tracks sheet bundle s b w (r .state) → (ks : List ℕ)
         → left b (runFrom s b r ks .state) each + runFrom s b r ks .stepped ≡ left b (r .state) each + r .stepped
     left-run w r h ks =
         keeps s b (λ o. (length (o .state .processors) ≡ programmeCount b) × (left b (o .state) each + o .stepped ≡ left b (r .state) each + r .stepped)) on r ks (h .processors, refl)
@@ -136,12 +138,12 @@ module _ (sheet bundle : List ℕ) where
               omega (arith, p .1, left-moved s b (o .state) k (m .c) (m .w) (p .0) (m .comes) each, ap (λ (x : State). left b x each) (m .here)),
             )
 
-    none-left : (w : List ℕ) (σ : State) → Keeps s b sheet bundle w σ → left b σ each ≡ 0 → (k : ℕ) → step s b σ k ≡ none
+    none-left : (w : List ℕ) (σ : State) → Tracks sheet bundle s b w σ → left b σ each ≡ 0 → (k : ℕ) → step s b σ k ≡ none
     none-left w σ h e k =
         no-step s b σ k (λ τ q. let m = step-move s b σ k τ q in omega (arith, left-moved s b σ k (m .c) (m .w) (h .processors) (m .comes) each))
 
     -- words keep what is at most 65,536 commands from the end
-    few-left : (w : List ℕ) (σ : State) → Keeps s b sheet bundle w σ → 0 < programmeCount b → left b σ each ≤ 65536
+    few-left : (w : List ℕ) (σ : State) → Tracks sheet bundle s b w σ → 0 < programmeCount b → left b σ each ≤ 65536
     few-left w σ h l = omega (arith, h .room 0 l .0)
 
     no-one : (σ : State) (k : ℕ) → programmeCount b ≡ 0 → step s b σ k ≡ none
@@ -164,7 +166,7 @@ module _ (sheet bundle : List ℕ) where
       record {
         choices = g .goes .choices;
         count = g .count;
-        runs = subst (λ (x : List ℕ). RunIs sheet bundle (g .goes .choices) w x (g .count)) (sym (h .same e)) (g .goes .runs);
+        runs = subst (λ (x : List ℕ). RunIs (Tracks sheet bundle) (g .goes .choices) w x (g .count)) (sym (h .same e)) (g .goes .runs);
         still = λ s b r p k. h .halts e k .none-at s b (runFrom s b r (g .goes .choices) .state) (g .goes .runs .agrees s b r p .1);
       }
 
@@ -185,8 +187,8 @@ module _ (sheet bundle : List ℕ) where
       }
 
 -- from the fresh state of a bundle with the published messages, settling comes to the state in which the definition settles
-pub settles-to : {sheet bundle w last : List ℕ} → SettleIs sheet bundle w last → (s : Sheet) (b : Bundle) → Published s b → Keeps s b sheet bundle w (freshState s b)
-    → Keeps s b sheet bundle last (settled s b)
+pub settles-to : {sheet bundle w last : List ℕ} → SettleIs sheet bundle w last → (s : Sheet) (b : Bundle) → Published s b → Tracks sheet bundle s b w (freshState s b)
+    → Tracks sheet bundle s b last (settled s b)
 unfolding runOf
 settles-to {sheet} {bundle} {w} {last} h s b p k =
-    subst (Keeps s b sheet bundle last) (any-run s b p (h .choices) (h .still s b (freshRun s b) k)) (h .runs .agrees s b (freshRun s b) k .1)
+    subst (Tracks sheet bundle s b last) (any-run s b p (h .choices) (h .still s b (freshRun s b) k)) (h .runs .agrees s b (freshRun s b) k .1)

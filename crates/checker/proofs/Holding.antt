@@ -11,9 +11,10 @@ use lib.Seq.{getD-set-same, getD-set-other}
 use lib.Dec.{eqb}
 use Rattle.numbers.specs.Number.{numberAt}
 use Rattle.state.specs.Words.{placedWords, ranWords, sentWords, gotWords}
-use Rattle.state.specs.Keeps.{StepIs}
-use Rattle.stepping.proofs.Lows.{Low, placed-low, placed-high, moved-low, moved-high, fits-moved, fits-stamped, low-at, low-then, low-same, low-stamped}
-use Rattle.stepping.proofs.Chosen.{no-programme, too-short, too-large, no-command, ran, sent-step, got-step}
+use Rattle.machine.specs.Kept.{StepIs}
+use Rattle.state.specs.Tracks.{Tracks}
+use Rattle.state.proofs.Lows.{Low, placed-low, placed-high, moved-low, moved-high, fits-moved, fits-stamped, low-at, low-then, low-same, low-stamped}
+use Rattle.state.proofs.Chosen.{no-programme, too-short, too-large, no-command, ran, sent-step, got-step}
 use Rattle.checker.specs.Settling.{AdvanceIs}
 use Rattle.checker.proofs.Going.{Advancing, advance-starts, advance-more, advance-stops, advance-full}
 
@@ -97,7 +98,7 @@ module _ (sheet bundle v : List ℕ) (k end tasks : ℕ) where
     u-end = let near = h .near in kept (k + 1) (omega arith) (λ q. omega arith) ∙ sym (h .ends)
 
     -- one more command, after which the words are w′
-    on : (u′ w′ : List ℕ) (at′ clock′ store′ : ℕ) → n < 65536 → StepIs sheet bundle u u′ k true → ((i : ℕ) → getD u′ i 0 < 4294967296)
+    on : (u′ w′ : List ℕ) (at′ clock′ store′ : ℕ) → n < 65536 → StepIs (Tracks sheet bundle) u u′ k true → ((i : ℕ) → getD u′ i 0 < 4294967296)
         → Low u u′ k ((getD u 20 0 - 1) % 4294967296) at′ ((getD u (48 + k) 0 + 1) % 4294967296) clock′ store′
         → length w′ ≡ length w → ((i : ℕ) → i < 96 → getD w′ i 0 ≡ getD w i 0) → ((i : ℕ) → 96 ≤ i → getD u′ i 0 ≡ getD w′ i 0)
         → Held sheet bundle v w′ k end tasks (n + 1) at′ clock′ store′
@@ -246,7 +247,7 @@ module _ (sheet bundle v : List ℕ) (k end tasks : ℕ) where
 
 -- no words of a state, or no such programme
 module _ (sheet bundle v : List ℕ) (k : ℕ) where
-  stops : StepIs sheet bundle v v k false → AdvanceIs sheet bundle v v k 0
+  stops : StepIs (Tracks sheet bundle) v v k false → AdvanceIs sheet bundle v v k 0
   stops = advance-stops sheet bundle false refl (omega arith) (advance-starts sheet bundle v)
 
   pub stops-short : length v < 1120 → AdvanceIs sheet bundle v v k 0

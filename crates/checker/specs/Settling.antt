@@ -7,16 +7,17 @@ use Rattle.sheet.specs.Sheet.{Sheet}
 use Rattle.bundle.specs.Bundle.{Bundle}
 use Rattle.machine.specs.Machine.{State, step}
 use Rattle.machine.specs.Runs.{Run, runFrom}
-use Rattle.state.specs.Keeps.{Keeps, RunIs}
+use Rattle.machine.specs.Kept.{RunIs}
+use Rattle.state.specs.Tracks.{Tracks}
 
 -- some choices were made, and n of them stepped
 pub record Goes (sheet bundle w last : List ℕ) (n : ℕ) : Type 0 where
   pub choices : List ℕ
-  pub runs : RunIs sheet bundle choices w last n
+  pub runs : RunIs (Tracks sheet bundle) choices w last n
 
 -- k cannot step
 pub record Halts (sheet bundle w : List ℕ) (k : ℕ) : Type 0 where
-  pub none-at : (s : Sheet) (b : Bundle) (σ : State) → Keeps s b sheet bundle w σ → step s b σ k ≡ none
+  pub none-at : (s : Sheet) (b : Bundle) (σ : State) → Tracks sheet bundle s b w σ → step s b σ k ≡ none
 
 -- one processor as far as it goes
 pub record AdvanceIs (sheet bundle w last : List ℕ) (k n : ℕ) : Type 0 where
@@ -35,5 +36,5 @@ pub record RoundIs (sheet bundle w last : List ℕ) (n : ℕ) : Type 0 where
 pub record SettleIs (sheet bundle w last : List ℕ) : Type 0 where
   pub choices : List ℕ
   pub count : ℕ
-  pub runs : RunIs sheet bundle choices w last count
-  pub still : (s : Sheet) (b : Bundle) (r : Run) → Keeps s b sheet bundle w (r .state) → (k : ℕ) → step s b (runFrom s b r choices .state) k ≡ none
+  pub runs : RunIs (Tracks sheet bundle) choices w last count
+  pub still : (s : Sheet) (b : Bundle) (r : Run) → Tracks sheet bundle s b w (r .state) → (k : ℕ) → step s b (runFrom s b r choices .state) k ≡ none

@@ -14,7 +14,7 @@ use Rattle.messages.specs.Admitted.{Known}
 use Rattle.words.specs.declared.Found.{Found}
 use Rattle.machine.specs.Machine.{State}
 use Rattle.machine.specs.Runs.{latest}
-use Rattle.state.specs.Keeps.{Keeps}
+use Rattle.state.specs.Tracks.{Tracks}
 use Rattle.checker.specs.Checker.{at29, closing, checked, check}
 use Rattle.checker.specs.declared.Verdict.{Verdict}
 use Rattle.checker.specs.declared.Verdict.the-variants.{Good, Refused}
@@ -29,13 +29,13 @@ checkedBytes s bundle = andThen (readBundle s bundle) (checked s)
 
 -- by words that keep a state: 29's place, the latest clock, and the end
 pub record UnfinishedIs (w : List ℕ) (r : Found) : Type 0 where
-  pub is-29 : (s : Sheet) (b : Bundle) (sheet bundle : List ℕ) (σ : State) → Keeps s b sheet bundle w σ → foundOf r ≡ at29 b σ
+  pub is-29 : (s : Sheet) (b : Bundle) (sheet bundle : List ℕ) (σ : State) → Tracks sheet bundle s b w σ → foundOf r ≡ at29 b σ
 
 pub record LatestIs (w : List ℕ) (r : ℕ) : Type 0 where
-  pub is-latest : (s : Sheet) (b : Bundle) (sheet bundle : List ℕ) (σ : State) → Keeps s b sheet bundle w σ → r ≡ latest σ
+  pub is-latest : (s : Sheet) (b : Bundle) (sheet bundle : List ℕ) (σ : State) → Tracks sheet bundle s b w σ → r ≡ latest σ
 
 pub record FinishIs (w : List ℕ) (claim : ℕ) (r : Verdict) : Type 0 where
-  pub is-end : (s : Sheet) (b : Bundle) (sheet bundle : List ℕ) (σ : State) → Keeps s b sheet bundle w σ → b .claim ≡ claim → r ≡ verdictOf (closing b σ)
+  pub is-end : (s : Sheet) (b : Bundle) (sheet bundle : List ℕ) (σ : State) → Tracks sheet bundle s b w σ → b .claim ≡ claim → r ≡ verdictOf (closing b σ)
 
 -- any bytes, for a sheet of p processors, n tasks and l links with this limit
 pub record JudgementIs (sheet bundle w last : List ℕ) (p n l limit : ℕ) (r : Verdict) : Type 0 where

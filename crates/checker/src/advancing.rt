@@ -2,11 +2,9 @@
 ghost use mathlib.Core.Path.{_≡_};
 ghost use Prim.Native.Nat.{_+_, _-_, _≤_, _<_};
 ghost use lib.ListN.{getD};
-ghost use Rattle.state.specs.Words.{placedWords};
-ghost use Rattle.stepping.specs.Advance.{Roomy};
+ghost use Rattle.state.specs.Words.{Roomy, placedWords};
 ghost use Rattle.checker.specs.Settling.{AdvanceIs};
-use stepping::place;
-use stepping::processors::Processor;
+use state::place;
 use words::pair;
 
 // Processor k after n commands, at the offset `at` with this clock and store, in its words: n.
@@ -16,12 +14,7 @@ fn put_back(w: &mut [u32], k: usize, n: usize, at: usize, clock: usize, store: u
 {
     let todo = words::minus(workspace::word(w, 20), n);
     let position = workspace::word(w, 48 + k) + n;
-    let p = Processor {
-        clock,
-        position,
-        store,
-    };
-    place(w, k, todo, at, p);
+    place(w, k, todo, at, clock, position, store);
     n
 }
 

@@ -69,7 +69,7 @@ fn judgement(
     match messages::judge::judge(sheet, bundle, w, p, n, l, limit) {
         Judged::Refused(r, at) => Verdict::Refused(r, at),
         Judged::Fit(m, c, claim) => {
-            starting::start::begin(w, m, n, l, c);
+            state::fresh::begin(w, m, n, l, c);
             settle(sheet, bundle, w);
             finish(w, claim)
         }

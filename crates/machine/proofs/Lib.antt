@@ -1,4 +1,6 @@
 -- The laws of `machine`.
 pub mod Steps
 pub mod Runs
+pub mod Choices
+pub mod Kept
 pub mod Orders

@@ -1,5 +1,5 @@
 -- The machine: processors with a clock, a position and a store in use, the stamps of the messages sent, and one step.
-use Prim.Native.Nat.{ℕ, suc, _+_, max}
+use Prim.Native.Nat.{ℕ, zero, suc, _+_, max}
 use mathlib.Core.Bool.{Bool, true, false}
 use mathlib.Core.Option.{Option, none, some}
 use mathlib.Core.List.{List}
@@ -71,3 +71,8 @@ holdsSome (some x) = true
 
 unfoldable pub canStep : Sheet → Bundle → State → ℕ → Bool
 canStep s b σ k = holdsSome (step s b σ k)
+
+-- a stamp told as a number: 0 while the message is not sent, then one more
+abbrev pub stampIn : ℕ → Option ℕ
+stampIn zero = none
+stampIn (suc x) = some x

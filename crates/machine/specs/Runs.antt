@@ -15,6 +15,11 @@ pub record Run : Type 0 where
   pub state : State
   pub stepped : ℕ
 
+-- the state after a choice, by what its step gives
+abbrev pub chosen : State → Option State → State
+chosen σ none = σ
+chosen σ (some τ) = τ
+
 abbrev pub took : Run → Option State → Run
 took r none = r
 took r (some τ) = record { state = τ; stepped = suc (r .stepped) }

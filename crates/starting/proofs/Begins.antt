@@ -19,7 +19,7 @@ use Rattle.messages.specs.declared.Judged.{Judged}
 use Rattle.messages.specs.declared.Judged.the-variants.{Refused}
 use Rattle.messages.proofs.Written.{fields-read}
 use Rattle.machine.specs.Machine.{freshState}
-use Rattle.state.specs.Keeps.{Keeps}
+use Rattle.loaded.specs.Keeps.{Keeps}
 use Rattle.starting.specs.Starts.{OpenIs, starting, startedOf, BytesIs}
 
 -- the sheet beside its bundle, or the refusal
@@ -67,5 +67,5 @@ module _ (sheet bundle work mid state : List ℕ) {o : Reading} (h : graph.OpenI
         keeps =
             λ enough s b z.
             let y = beside-value (sheetIn mid) s (admittedBytes (sheetIn mid) bundle) b (sym a ∙ z) in
-            subst (λ (t : Sheet). Keeps t b sheet bundle last (freshState t b)) (y .0) (g .keeps f enough b (y .1));
+            subst (λ (t : Sheet). Keeps t b last (freshState t b)) (y .0) (g .keeps f enough b (y .1));
       }

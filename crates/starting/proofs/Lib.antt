@@ -1,4 +1,3 @@
 -- The laws of `starting`.
-pub mod Fresh
 pub mod Opens
 pub mod Begins

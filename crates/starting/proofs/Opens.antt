@@ -1,5 +1,5 @@
 -- Starting the machine on any bytes: 21 to 28, or the fresh state.
-use Prim.Native.Nat.{ℕ, _-_, _<_, _≤_}
+use Prim.Native.Nat.{ℕ, _-_, _<_, _≤_, min}
 use mathlib.Core.Path.{_≡_, refl, sym, ap, _∙_}
 use mathlib.Core.List.{List}
 use native.Mathlib.Omega.{arith}
@@ -9,6 +9,7 @@ use Rattle.folds.specs.Answers.{value}
 use Rattle.folds.proofs.Tests.{andThen-value}
 use Rattle.sheet.specs.Sheet.{Sheet, taskCount, linkCount}
 use Rattle.sheet.specs.Tables.{sheetIn, Loaded}
+use Rattle.sheet.proofs.Rows.{ranged}
 use Rattle.bundle.specs.Bundle.{Bundle, programmeCount}
 use Rattle.bundle.specs.Format.{readBundle}
 use Rattle.bundle.specs.Counts.{commandCount}
@@ -16,10 +17,11 @@ use Rattle.bundle.proofs.Rounds.{read-formed}
 use Rattle.messages.specs.Admitted.{admitted, admittedBytes, judgedOf, JudgeIs}
 use Rattle.messages.specs.declared.Judged.{Judged}
 use Rattle.messages.specs.declared.Judged.the-variants.{Fit, Refused}
-use Rattle.messages.proofs.Few.{few-of-read, commands-whole}
+use Rattle.messages.proofs.Few.{few-of-read}
 use Rattle.messages.proofs.Admits.{admitted-published}
 use Rattle.messages.proofs.Areas.{part-long, part-low, known-in}
-use Rattle.starting.specs.Starts.{StartIs, AdmitIs, OpenIs}
+use Rattle.loaded.specs.Loads.{LoadIs}
+use Rattle.starting.specs.Starts.{AdmitIs, OpenIs}
 
 module _ (sheet bundle w u state : List ℕ) (p n l limit : ℕ) (f : Judged) (h : JudgeIs sheet bundle w u p n l limit f) where
   pub admit-refused : (r at : ℕ) → f ≡ Refused r at → AdmitIs sheet bundle w u state state p n l limit (Refused r at)
@@ -29,22 +31,22 @@ module _ (sheet bundle w u state : List ℕ) (p n l limit : ℕ) (f : Judged) (h
         state-long = refl;
         untouched = λ number place q. refl;
         is = λ s k long. sym e ∙ h .is s k long;
-        keeps = λ s k long enough b q. let z : Refused r at ≡ judgedOf (value b) = sym e ∙ h .is s k long ∙ ap judgedOf q in apart z;
+        keeps = λ s k known long enough b q. let z : Refused r at ≡ judgedOf (value b) = sym e ∙ h .is s k long ∙ ap judgedOf q in apart z;
       }
     where
       apart : {X : Type 0} {x y z : ℕ} → Refused r at ≡ Fit x y z → X
       apart z = let y : _≡_ {A = ℕ} 0 1 = cc in absurd (omega arith)
 
-  pub admit-starts : (last : List ℕ) (m c claim : ℕ) → ((i : ℕ) → getD bundle i 0 < 256) → f ≡ Fit m c claim → StartIs u state last m n l c → AdmitIs sheet bundle w u state last p n l limit (Fit m c claim)
+  pub admit-starts : (last : List ℕ) (m c claim x : ℕ) → ((i : ℕ) → getD bundle i 0 < 256) → f ≡ Fit m c claim → x ≡ min m 16 → LoadIs sheet bundle u state last x n l → AdmitIs sheet bundle w u state last p n l limit (Fit m c claim)
   unfolding admittedBytes programmeCount
-  admit-starts last m c claim bytes e a =
+  admit-starts last m c claim x bytes e ex a =
       record {
         long = h .long;
         state-long = a .long;
         untouched = λ number place q. apart q;
         is = λ s k long. sym e ∙ h .is s k long;
         keeps =
-            λ s k long enough b q.
+            λ s k known long enough b q.
             let o = andThen-value (readBundle s bundle) (admitted s) b q in
             let g = admitted-published s (o .0) b (o .2) in
             let read : readBundle s bundle ≡ value b = o .1 ∙ ap value (g .2) in
@@ -53,8 +55,7 @@ module _ (sheet bundle w u state : List ℕ) (p n l limit : ℕ) (f : Judged) (h
             let links : linkCount s ≤ 1024 = omega (arith, k .links, k .few-links) in
             let few : programmeCount b ≤ 16 = omega (arith, read-formed s bundle b read .few, k .processors, k .few-processors) in
             let room = few-of-read s bundle b tasks links few bytes read (admitted-published s b b (passed s b (o .0) (g .2) (o .2)) .0) in
-            a .keeps s b sheet bundle (k .fields) enough (first-of b d) few (k .tasks) tasks (k .links) links (sym (commands-whole b) ∙ second-of b d) (omega arith)
-            (h .laid s k long b q);
+            a .keeps s b (k .fields) enough (omega (arith, first-of b d)) few (k .tasks) (k .links) known room (h .laid s k long b q);
       }
     where
       apart : {X : Type 0} {i j : ℕ} → Fit m c claim ≡ Refused i j → X
@@ -65,9 +66,6 @@ module _ (sheet bundle w u state : List ℕ) (p n l limit : ℕ) (f : Judged) (h
 
       first-of : (b : Bundle) → Fit m c claim ≡ Fit (programmeCount b) (commandCount b) (b .claim) → programmeCount b ≡ m
       first-of b d = cc
-
-      second-of : (b : Bundle) → Fit m c claim ≡ Fit (programmeCount b) (commandCount b) (b .claim) → commandCount b ≡ c
-      second-of b d = cc
 
 pub opened-in : (w sheet bundle part after state last : List ℕ) (p n l limit : ℕ) (r : Judged) → Loaded w → p ≡ sheetIn w .processors → n ≡ taskCount (sheetIn w) → l ≡ linkCount (sheetIn w)
     → limit ≡ sheetIn w .limit → limit < 4294967296 → AdmitIs sheet bundle (midOf 3856 (length w - 3856) w) part state last p n l limit r → length after ≡ length w
@@ -80,5 +78,5 @@ opened-in w sheet bundle part after state last p n l limit r h ep en el ei small
       state-long = g .state-long;
       untouched = g .untouched;
       is = λ f. g .is (sheetIn w) (known-in w sheet p n l limit h ep en el ei small f) long;
-      keeps = λ f enough b z. g .keeps (sheetIn w) (known-in w sheet p n l limit h ep en el ei small f) long enough b z;
+      keeps = λ f enough b z. g .keeps (sheetIn w) (known-in w sheet p n l limit h ep en el ei small f) (ranged w h) long enough b z;
     }

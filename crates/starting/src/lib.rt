@@ -1,3 +1,3 @@
 // The machine's start: the fresh state in lent words.
 pub mod bytes; // bytes.rt: from any bytes of a sheet and a bundle
-pub mod start; // start.rt: for a bundle whose programmes' offsets are known
+pub mod start; // start.rt: for a sheet that was read

@@ -1,2 +1,5 @@
 -- The laws of `state`.
-pub mod Asks
+pub mod Lows
+pub mod Moves
+pub mod Chosen
+pub mod Begun

@@ -1,19 +1,17 @@
--- The words in which a machine's state is kept, and what one command makes of them.
+-- The words in which the checker keeps a state of the machine, and what one command makes of them.
 --
 --   k (0 to 15) the offset of the command that opens programme k; behind the last one the offset of the claim
---   17 programmes, 18 tasks of the sheet, 19 links of the sheet, 20 commands still to do
+--   17 programmes, 18 tasks of the sheet, 20 commands still to do
 --   32 + k the offset of the next command of processor k, 48 + k its position, 64 + k its clock, 80 + k its store in use
 --   96 + l for link l 0 while its message is not sent, then one more than the stamp
-use Prim.Native.Nat.{ℕ, zero, suc, _+_, _*_, _-_, _%_, max}
-use mathlib.Core.Option.{Option, none, some}
+use Prim.Native.Nat.{ℕ, _+_, _*_, _-_, _%_, _≤_, _<_, max}
 use mathlib.Core.List.{List}
-use lib.ListN.{getD, set}
+use lib.ListN.{length, getD, set}
 use Rattle.numbers.specs.Number.{numberAt}
 
--- the stamp that a word holds
-abbrev pub stampIn : ℕ → Option ℕ
-stampIn zero = none
-stampIn (suc x) = some x
+-- words with all of processor k's
+abbrev pub Roomy : List ℕ → ℕ → Type 0
+Roomy w k = (k < 16) × (1120 ≤ length w)
 
 -- so many commands to do, and processor k at an offset, a clock, a position and a store
 unfoldable pub placedWords : List ℕ → ℕ → ℕ → ℕ → ℕ → ℕ → ℕ → List ℕ

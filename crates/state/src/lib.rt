@@ -1,50 +1,35 @@
-// A state of the machine in lent words, and what is asked of it. Every function is safe on any words; what it gives is promised for words that
-// keep a state.
-ghost use Rattle.state.specs.Keeps.{LeftIs, ClockIs, PositionIs, StoreIs, StampIs};
+// A state of the machine in words, its commands left where they lie in the bundle's bytes: what the checker keeps, which does each command once.
+pub mod fresh; // fresh.rt: the fresh state
 
-// The commands still to do.
-pub fn left(w: &[u32]) -> usize
-    ensures { λ r. ⌜ LeftIs (now (w .entry)) r ⌝ }
+ghost use mathlib.Core.Path.{_≡_};
+ghost use Prim.Native.Nat.{_%_, _<_};
+ghost use lib.ListN.{length, set};
+ghost use Rattle.state.specs.Words.{Roomy, placedWords};
+
+// Puts the low 32 bits of x at i, a word that is there.
+fn put(w: &mut [u32], i: usize, x: usize)
+    requires { ⌜ i < length (now w) ⌝ }
+    ensures { λ _. ⌜ now (w .exit) ≡ set (now (w .entry)) i (x % 4294967296) ⌝ }
 {
-    words::word(w, 20)
+    w[i] = workspace::narrow(x % 4294967296);
 }
 
-// The clock of processor k, 0 where it has no programme.
-pub fn clock(w: &[u32], k: usize) -> usize
-    ensures { λ r. ⌜ ClockIs (now (w .entry)) k r ⌝ }
+// So many commands are to do, and processor k is at the offset `at`, with a clock, a position and a store.
+pub fn place(
+    w: &mut [u32],
+    k: usize,
+    todo: usize,
+    at: usize,
+    clock: usize,
+    position: usize,
+    store: usize,
+)
+    requires { ⌜ Roomy (now w) k ⌝ }
+    ensures { λ _. ⌜ now (w .exit) ≡ placedWords (now (w .entry)) k todo at clock position store ⌝ }
 {
-    if words::word(w, 17) <= k {
-        return 0;
-    }
-    words::word(w, 64 + k)
-}
-
-// The position of processor k in its programme.
-pub fn position(w: &[u32], k: usize) -> usize
-    ensures { λ r. ⌜ PositionIs (now (w .entry)) k r ⌝ }
-{
-    if words::word(w, 17) <= k {
-        return 0;
-    }
-    words::word(w, 48 + k)
-}
-
-// The store in use of processor k.
-pub fn store(w: &[u32], k: usize) -> usize
-    ensures { λ r. ⌜ StoreIs (now (w .entry)) k r ⌝ }
-{
-    if words::word(w, 17) <= k {
-        return 0;
-    }
-    words::word(w, 80 + k)
-}
-
-// One more than the stamp of link l, or 0 while its message is not sent.
-pub fn stamp(w: &[u32], l: usize) -> usize
-    ensures { λ r. ⌜ StampIs (now (w .entry)) l r ⌝ }
-{
-    if words::word(w, 19) <= l {
-        return 0;
-    }
-    words::word(w, 96 + l)
+    put(w, 20, todo);
+    put(w, 32 + k, at);
+    put(w, 48 + k, position);
+    put(w, 64 + k, clock);
+    put(w, 80 + k, store);
 }

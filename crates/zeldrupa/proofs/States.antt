@@ -13,9 +13,9 @@ use Rattle.folds.proofs.Tests.{not-value}
 use Rattle.workspace.specs.Area.{fixed}
 use Rattle.sheet.specs.Sheet.{Sheet}
 use Rattle.bundle.specs.Bundle.{Bundle}
-use Rattle.machine.specs.Machine.{State}
-use Rattle.state.specs.Words.{stampIn}
-use Rattle.state.specs.Keeps.{StepIs, LeftIs, StampIs}
+use Rattle.machine.specs.Machine.{State, stampIn}
+use Rattle.machine.specs.Kept.{StepIs}
+use Rattle.loaded.specs.Keeps.{Keeps, LeftIs, StampIs}
 use Rattle.starting.specs.Starts.{starting}
 use Rattle.zeldrupa.specs.Stepping.{startAnswer, GivesState, stateNumber, GivesStep, GivesLeft, GivesProcessor, stampNumber, GivesStamp}
 use Rattle.answers.specs.Parts.{numberOf, placeOf, StateIs, NumbersIs}
@@ -62,7 +62,7 @@ module _ (f : Sheet × Bundle → ℕ) (τ : Sheet → Bundle → State) (sheet 
         area = z ∙ all-zero work mid h (part .long) ∙ sym (ap (λ (t : Bool). pick t work (cleared fixed work)) (le-ltb (length state) fixed g));
         long = part .state-long;
         untouched = λ n at q. part .untouched n at (sym e ∙ q);
-        keeps = λ s b q. part .keeps (omega arith) s b (sym e ∙ q);
+        keeps = λ s b q. part .keeps g s b (sym e ∙ q);
       }
 
 -- the number that the functions without a work area return
@@ -72,12 +72,12 @@ number-short state h = rw (lt-ltb (length state) fixed h)
 number-long : (state : List ℕ) → fixed ≤ length state → 0 ≡ stateNumber state
 number-long state h = rw (le-ltb (length state) fixed h)
 
-module _ (sheet bundle state : List ℕ) (k : ℕ) where
-  pub step-short : length state < fixed → GivesStep sheet bundle state state k fixed 13
+module _ (state : List ℕ) (k : ℕ) where
+  pub step-short : length state < fixed → GivesStep state state k fixed 13
   step-short h =
       record { returns = number-short state h; short = λ q. (refl, refl); long = refl; stays = λ q. refl; agrees = λ q. absurd (omega arith) }
 
-  pub step-given : fixed ≤ length state → (state′ : List ℕ) (r : Bool) (p : ℕ) → StepIs sheet bundle state state′ k r → p ≡ bit r → GivesStep sheet bundle state state′ k p 0
+  pub step-given : fixed ≤ length state → (state′ : List ℕ) (r : Bool) (p : ℕ) → StepIs Keeps state state′ k r → p ≡ bit r → GivesStep state state′ k p 0
   step-given h state′ r p g e =
       record {
         returns = number-long state h;
@@ -91,25 +91,25 @@ module _ (sheet bundle state : List ℕ) (k : ℕ) where
       bit-zero true q = absurd (omega arith)
       bit-zero false q = refl
 
-module _ (bundle state : List ℕ) where
-  pub left-short : length state < fixed → GivesLeft bundle state fixed 13
+module _ (state : List ℕ) where
+  pub left-short : length state < fixed → GivesLeft state fixed 13
   left-short h = record { returns = number-short state h; short = λ q. refl; agrees = λ q. absurd (omega arith) }
 
-  pub left-given : fixed ≤ length state → (p : ℕ) → LeftIs state p → GivesLeft bundle state p 0
-  left-given h p g = record { returns = number-long state h; short = λ q. absurd (omega arith); agrees = λ q s b sheet σ x. g .is s b sheet bundle σ x }
+  pub left-given : fixed ≤ length state → (p : ℕ) → LeftIs state p → GivesLeft state p 0
+  left-given h p g = record { returns = number-long state h; short = λ q. absurd (omega arith); agrees = λ q s b σ x. g .is s b σ x }
 
-module _ (bundle state : List ℕ) (k : ℕ) (x : List ℕ) where
-  pub processor-short : length state < fixed → GivesProcessor bundle state k x x fixed 13
+module _ (state : List ℕ) (k : ℕ) (x : List ℕ) where
+  pub processor-short : length state < fixed → GivesProcessor state k x x fixed 13
   processor-short h =
       record { returns = number-short state h; place = rw (lt-ltb (length state) fixed h); short = λ q. refl; agrees = λ q. absurd (omega arith) }
 
-  pub processor-given : fixed ≤ length state → (x′ : List ℕ) → NumbersIs state k x′ → GivesProcessor bundle state k x x′ 0 0
+  pub processor-given : fixed ≤ length state → (x′ : List ℕ) → NumbersIs state k x′ → GivesProcessor state k x x′ 0 0
   processor-given h x′ g =
       record {
         returns = number-long state h;
         place = rw (le-ltb (length state) fixed h);
         short = λ q. absurd (omega arith);
-        agrees = λ q s b sheet σ y. g .is s b sheet bundle σ y;
+        agrees = λ q s b σ y. g .is s b σ y;
       }
 
 -- stamps
@@ -126,5 +126,5 @@ module _ (state : List ℕ) (l : ℕ) where
       record {
         returns = number-long state h;
         short = λ q. absurd (omega arith);
-        agrees = λ q s b sheet bundle σ x. stamp-number p ∙ ap stampNumber (g .is s b sheet bundle σ x);
+        agrees = λ q s b σ x. stamp-number p ∙ ap stampNumber (g .is s b σ x);
       }

@@ -1,4 +1,4 @@
--- What the functions of the stepping machine give. How its state is kept in words is `Keeps` of state/specs/Keeps.
+-- What the functions of the stepping machine give. How its state is kept in words is `Keeps` of loaded/specs/Keeps.
 use Prim.Native.Nat.{ℕ, suc, _≤_, _<_}
 use mathlib.Core.Path.{_≡_}
 use mathlib.Core.Option.{Option, none, some}
@@ -12,8 +12,8 @@ use Rattle.sheet.specs.Sheet.{Sheet}
 use Rattle.bundle.specs.Bundle.{Bundle}
 use Rattle.messages.specs.Counting.{each}
 use Rattle.machine.specs.Machine.{State, freshState, stampOf, step, canStep}
-use Rattle.machine.specs.Runs.{runOf, left}
-use Rattle.state.specs.Keeps.{Keeps, chosen}
+use Rattle.machine.specs.Runs.{chosen, runOf, left}
+use Rattle.loaded.specs.Keeps.{Keeps}
 use Rattle.starting.specs.Starts.{starting}
 use Rattle.answers.specs.Values.{steppedIn, numbersOf}
 
@@ -28,7 +28,7 @@ pub record GivesState (f : Sheet × Bundle → ℕ) (τ : Sheet → Bundle → S
   pub area : work′ ≡ pick (ltb (length state) fixed) work (cleared fixed work)
   pub long : length state′ ≡ length state
   pub untouched : (n at : ℕ) → startAnswer sheet bundle (length work) (length state) ≡ refused n at → state′ ≡ state
-  pub keeps : (s : Sheet) (b : Bundle) → startAnswer sheet bundle (length work) (length state) ≡ value (s, b) → Keeps s b sheet bundle state′ (τ s b)
+  pub keeps : (s : Sheet) (b : Bundle) → startAnswer sheet bundle (length work) (length state) ≡ value (s, b) → Keeps s b state′ (τ s b)
 
 -- zeldrupa_start: the fresh state
 abbrev pub GivesStart : List ℕ → List ℕ → List ℕ → List ℕ → List ℕ → List ℕ → ℕ → ℕ → Type 0
@@ -43,26 +43,26 @@ abbrev pub stateNumber : List ℕ → ℕ
 stateNumber state = pick (ltb (length state) fixed) 13 0
 
 -- zeldrupa_step: the place is 1 if the choice stepped, 0 if it could not; "a choice that cannot step, or names no programme, changes nothing and says so"
-pub record GivesStep (sheet bundle state state′ : List ℕ) (k p r : ℕ) : Type 0 where
+pub record GivesStep (state state′ : List ℕ) (k p r : ℕ) : Type 0 where
   pub returns : r ≡ stateNumber state
   pub short : length state < fixed → (p ≡ fixed) × (state′ ≡ state)
   pub long : length state′ ≡ length state
   pub stays : p ≡ 0 → state′ ≡ state
-  pub agrees : fixed ≤ length state → (s : Sheet) (b : Bundle) (σ : State) → Keeps s b sheet bundle state σ
-      → (p ≡ bit (canStep s b σ k)) × Keeps s b sheet bundle state′ (chosen σ (step s b σ k))
+  pub agrees : fixed ≤ length state → (s : Sheet) (b : Bundle) (σ : State) → Keeps s b state σ
+      → (p ≡ bit (canStep s b σ k)) × Keeps s b state′ (chosen σ (step s b σ k))
 
 -- zeldrupa_left: the commands still to do
-pub record GivesLeft (bundle state : List ℕ) (p r : ℕ) : Type 0 where
+pub record GivesLeft (state : List ℕ) (p r : ℕ) : Type 0 where
   pub returns : r ≡ stateNumber state
   pub short : length state < fixed → p ≡ fixed
-  pub agrees : fixed ≤ length state → (s : Sheet) (b : Bundle) (sheet : List ℕ) (σ : State) → Keeps s b sheet bundle state σ → p ≡ left b σ each
+  pub agrees : fixed ≤ length state → (s : Sheet) (b : Bundle) (σ : State) → Keeps s b state σ → p ≡ left b σ each
 
 -- zeldrupa_processor: clock, position and store in use of processor k, each 0 where it has no programme
-pub record GivesProcessor (bundle state : List ℕ) (k : ℕ) (x x′ : List ℕ) (p r : ℕ) : Type 0 where
+pub record GivesProcessor (state : List ℕ) (k : ℕ) (x x′ : List ℕ) (p r : ℕ) : Type 0 where
   pub returns : r ≡ stateNumber state
   pub place : p ≡ pick (ltb (length state) fixed) fixed 0
   pub short : length state < fixed → x′ ≡ x
-  pub agrees : fixed ≤ length state → (s : Sheet) (b : Bundle) (sheet : List ℕ) (σ : State) → Keeps s b sheet bundle state σ → x′ ≡ numbersOf σ k
+  pub agrees : fixed ≤ length state → (s : Sheet) (b : Bundle) (σ : State) → Keeps s b state σ → x′ ≡ numbersOf σ k
 
 -- zeldrupa_stamp: one more than the stamp of link l, or 0 while its message is not sent
 abbrev pub stampNumber : Option ℕ → ℕ
@@ -72,4 +72,4 @@ stampNumber (some x) = suc x
 pub record GivesStamp (state : List ℕ) (l p r : ℕ) : Type 0 where
   pub returns : r ≡ stateNumber state
   pub short : length state < fixed → p ≡ fixed
-  pub agrees : fixed ≤ length state → (s : Sheet) (b : Bundle) (sheet bundle : List ℕ) (σ : State) → Keeps s b sheet bundle state σ → p ≡ stampNumber (stampOf σ l)
+  pub agrees : fixed ≤ length state → (s : Sheet) (b : Bundle) (σ : State) → Keeps s b state σ → p ≡ stampNumber (stampOf σ l)

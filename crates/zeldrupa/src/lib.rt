@@ -228,27 +228,27 @@ pub extern "C" fn zeldrupa_step(
     choice: u64,
     place: &mut u64,
 ) -> u8
-    ensures { λ r. ⌜ GivesStep (now (sheet .entry)) (now (bundle .entry)) (now (state .entry)) (now (state .exit)) choice (now (place .exit)) r ⌝ }
+    ensures { λ r. ⌜ GivesStep (now (state .entry)) (now (state .exit)) choice (now (place .exit)) r ⌝ }
 {
-    if state.len() < 8816 {
-        *place = 8816;
-        return 13;
+    if 8816 <= state.len() {
+        let stepped = loaded::steps::step(state, choice as usize);
+        *place = runs::counted(stepped);
+        return 0;
     }
-    let stepped = stepping::step(sheet, bundle, state, choice as usize);
-    *place = runs::counted(stepped);
-    0
+    *place = 8816;
+    13
 }
 
 // The commands still to do.
 #[no_mangle]
 pub extern "C" fn zeldrupa_left(bundle: &[u8], state: &[u32], place: &mut u64) -> u8
-    ensures { λ r. ⌜ GivesLeft (now (bundle .entry)) (now (state .entry)) (now (place .exit)) r ⌝ }
+    ensures { λ r. ⌜ GivesLeft (now (state .entry)) (now (place .exit)) r ⌝ }
 {
     if state.len() < 8816 {
         *place = 8816;
         return 13;
     }
-    *place = state::left(state) as u64;
+    *place = loaded::asks::left(state) as u64;
     0
 }
 
@@ -261,7 +261,7 @@ pub extern "C" fn zeldrupa_processor(
     processor: &mut [u32; 3],
     place: &mut u64,
 ) -> u8
-    ensures { λ r. ⌜ GivesProcessor (now (bundle .entry)) (now (state .entry)) k (now (processor .entry)) (now (processor .exit)) (now (place .exit)) r ⌝ }
+    ensures { λ r. ⌜ GivesProcessor (now (state .entry)) k (now (processor .entry)) (now (processor .exit)) (now (place .exit)) r ⌝ }
 {
     if state.len() < 8816 {
         *place = 8816;
@@ -281,6 +281,6 @@ pub extern "C" fn zeldrupa_stamp(state: &[u32], link: u64, place: &mut u64) -> u
         *place = 8816;
         return 13;
     }
-    *place = state::stamp(state, link as usize) as u64;
+    *place = loaded::asks::stamp(state, link as usize) as u64;
     0
 }

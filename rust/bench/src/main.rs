@@ -60,14 +60,9 @@ fn all_calls() {
 
 fn row(case: &str, call: &str, pair: &Pair) -> String {
     let Pair { product, rewrite } = pair;
-    format!(
-        "{case:<17}{call:<10}{:>10.3}{:>10.3}{:>10.3}{:>10.3}{:>7.2}",
-        product.least,
-        product.median,
-        rewrite.least,
-        rewrite.median,
-        pair.ratio()
-    )
+    let times = [product.least, product.median, rewrite.least, rewrite.median];
+    let cells = times.map(|time| format!("{time:>10.*}", if time < 0.1 { 5 } else { 3 }));
+    format!("{case:<17}{call:<10}{}{:>7.2}", cells.concat(), pair.ratio())
 }
 
 /// Plan and check by the number of tasks.

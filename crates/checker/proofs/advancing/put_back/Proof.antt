@@ -3,7 +3,7 @@ use borrow.Author.Needs.{needs}
 use mathlib.Core.Path.{refl, ap, _∙_}
 use native.Mathlib.Omega.{arith}
 use lib.ListN.{length}
-use Rattle.stepping.proofs.Lows.{length-placed}
+use Rattle.state.proofs.Lows.{length-placed}
 use Rattle.checker.proofs.advancing.put_back.Statement.{statement}
 use Rattle.checker.proofs.advancing.put_back.Tie as tie
 

@@ -1,0 +1,241 @@
+-- One choice: what each way through `step` makes of words that keep a state.
+use Prim.Native.Nat.{ℕ, zero, suc, _+_, _*_, _-_, _/_, _%_, _<_, _≤_, max}
+use mathlib.Core.Path.{_≡_, refl, sym, ap, _∙_, subst}
+use mathlib.Core.Bool.{Bool, true, false, not, true≢false}
+use mathlib.Core.Option.{none, some, Option·some-injective}
+use mathlib.Core.List.{List}
+use mathlib.Core.Logic.{⊎-elim}
+use native.Mathlib.Omega.{arith}
+use native.Mathlib.Decide.{ℕ-discrete, decLt}
+use lib.ListN.{length, getD, set, length-set}
+use lib.Seq.{getD-set-same, getD-set-other}
+use lib.Dec.{eqb}
+use borrow.Author.Tests.{eqb-true, not-false, eq-eqb}
+use Rattle.folds.specs.Folds.{pick}
+use Rattle.workspace.specs.Area.{fixed}
+use Rattle.sheet.specs.Sheet.{Sheet, linkCount, workOf, storeOf, costOf, bytesOf}
+use Rattle.bundle.specs.Bundle.{Command, run, send, receive, Bundle, programmeOf}
+use Rattle.bundle.specs.Fits.{Known}
+use Rattle.messages.specs.Counting.{each}
+use Rattle.machine.specs.Machine.{State, processorOf, stampOf, next, moved, step, canStep, stampIn}
+use Rattle.machine.specs.Runs.{chosen, left}
+use Rattle.machine.proofs.Steps.{move-step, left-moved}
+use Rattle.loaded.specs.Words.{nextIn, clockIn, storeIn, firstIn, codeOf, amountOf, endCode, placedWords, steppedWords, ranWords, sentWords, gotWords}
+use Rattle.machine.specs.Kept.{StepIs}
+use Rattle.machine.proofs.Kept.{goes, no-next, no-wait, none-of}
+use Rattle.loaded.specs.Keeps.{Keeps}
+use Rattle.loaded.proofs.Moves.{command-at, command-past, Moved, keeps-moved, placed-moved, placed-stamp, length-stepped}
+
+-- words that keep no state, and processors that no bundle has
+module _ (w : List ℕ) (k : ℕ) where
+  pub too-short : length w < fixed → StepIs Keeps w w k false
+  too-short e = none-of Keeps w k (λ s b σ h. omega (arith, h .programmed .long))
+
+  pub too-large : 16 ≤ k → StepIs Keeps w w k false
+  too-large e = none-of Keeps w k (λ s b σ h. omega (arith, h .programmed .few))
+
+-- the same move by other numbers
+moved-at : {links : ℕ} {w v : List ℕ} {k n c x n′ c′ x′ : ℕ} → Moved links w v k n c x → n ≡ n′ → c ≡ c′ → x ≡ x′ → Moved links w v k n′ c′ x′
+moved-at m d e f = record { long = m .long; next = m .next ∙ d; clock = m .clock ∙ e; store = m .store ∙ f; others = m .others }
+
+-- what comes next in the programme, and what stands for it in the words
+data Coming (s : Sheet) (b : Bundle) (w : List ℕ) (σ : State) (k n : ℕ) : Type 0 where
+  comes : (c : Command) → next b σ k ≡ some c → processorOf σ k .position < length (programmeOf b k) → Known s c → getD w (2 * n) 0 ≡ codeOf c → getD w (2 * n + 1) 0 ≡ amountOf s c → Coming s b w σ k n
+  over : next b σ k ≡ none → getD w (2 * n) 0 ≡ endCode → Coming s b w σ k n
+
+module _ (w : List ℕ) (k : ℕ) (near : k < 16) (n : ℕ) (here : n ≡ nextIn w k % 4096) where
+  module _ (s : Sheet) (b : Bundle) (σ : State) (h : Keeps s b w σ) where
+    abbrev p : ℕ
+    p = processorOf σ k .position
+
+    n-is : n ≡ nextIn w k
+    n-is = omega (arith, h .next k near, h .inside k near, h .programmed .high k near)
+
+    long : 1120 ≤ length w
+    long = omega (arith, h .programmed .long)
+
+    coming : Coming s b w σ k n
+    unfolding next
+    coming =
+        let d = h .programmed .decoded k near in
+        let e : n ≡ firstIn w k + p = n-is ∙ h .next k near in
+        let f : 2 * n ≡ 2 * firstIn w k + 2 * p = omega arith in
+        elim (decLt p (length (programmeOf b k))) [
+          | yes l ↦
+              comes (getD (programmeOf b k) p (run 0)) (command-at (programmeOf b k) p l) l (d .known p l) (ap (λ (i : ℕ). getD w i 0) f ∙ d .code p l)
+              (ap (λ (i : ℕ). getD w (i + 1) 0) f ∙ d .amount p l)
+          | no l ↦
+              let q : p ≡ length (programmeOf b k) = omega (arith, h .inside k near) in
+              over (command-past (programmeOf b k) p (omega arith)) (ap (λ (i : ℕ). getD w i 0) (f ∙ ap (λ (i : ℕ). 2 * firstIn w k + 2 * i) q) ∙ d .end)
+        ]
+
+    -- a run
+    ran-on : getD w (2 * n) 0 < 2048 → Coming s b w σ k n → (true ≡ canStep s b σ k) × Keeps s b (ranWords w k (getD w (2 * n + 1) 0)) (chosen σ (step s b σ k))
+    unfolding ranWords steppedWords stampOf
+    ran-on q (over e f) = absurd (omega arith)
+    ran-on q (comes (send l) e i o f g) = absurd (omega arith)
+    ran-on q (comes (receive l) e i o f g) = absurd (omega arith)
+    ran-on q (comes (run t) e i o f g) =
+        let amount = getD w (2 * n + 1) 0 in
+        let r = h .room k near in
+        let wf : workOf s t < 65536 = h .programmed .ranged .works t o in
+        let sf : storeOf s t < 65536 = h .programmed .ranged .stores t o in
+        let here = n-is in
+        let v = placedWords w k (nextIn w k + 1) (max (clockIn w k) 0 + amount % 65536) (storeIn w k + amount / 65536) in
+        let bounds = h .programmed .high k near in
+        let m : Moved (linkCount s) w v k (nextIn w k + 1) (max (processorOf σ k .clock) 0 + workOf s t) (processorOf σ k .store + storeOf s t) =
+        moved-at (placed-moved w k (nextIn w k + 1) (max (clockIn w k) 0 + amount % 65536) (storeIn w k + amount / 65536) long near (linkCount s)) (omega (arith, h .next k near, h .inside k near))
+        (omega (arith, h .clock k near, r .0)) (omega (arith, h .store k near, r .1))
+        in
+        let less : left b (moved s σ k (run t) 0) each + 1 ≡ left b σ each = left-moved s b σ k (run t) 0 (h .processors) e each in
+        goes Keeps s b v σ k (moved s σ k (run t) 0) (move-step s b σ k (run t) 0 e refl)
+        (keeps-moved s b w σ h k near (run t) e 0 i wf sf (omega (arith, r .0)) v m
+        (λ l j. ap stampIn (placed-stamp w k (nextIn w k + 1) (max (clockIn w k) 0 + amount % 65536) (storeIn w k + amount / 65536) long near (96 + l) (omega arith)) ∙ h .stamp l j)
+        (λ l x j. omega (arith, h .roomy l x j)))
+
+    -- a send
+    sent-on : 2048 ≤ getD w (2 * n) 0 → getD w (2 * n) 0 < 4096 → Coming s b w σ k n → (i : ℕ) → i ≡ getD w (2 * n) 0 % 2048
+        → (true ≡ canStep s b σ k) × Keeps s b (sentWords w k (getD w (2 * n + 1) 0) i) (chosen σ (step s b σ k))
+    unfolding sentWords steppedWords stampOf
+    sent-on a z (over e f) i q = absurd (omega arith)
+    sent-on a z (comes (run t) e j o f g) i q = absurd (omega arith)
+    sent-on a z (comes (receive l) e j o f g) i q = absurd (omega arith)
+    sent-on a z (comes (send l) e j o f g) i q =
+        let few = h .programmed .ranged .few-links in
+        let slot : i ≡ 96 + l = omega arith in
+        subst (λ (y : ℕ). (true ≡ canStep s b σ k) × Keeps s b (sentWords w k (getD w (2 * n + 1) 0) y) (chosen σ (step s b σ k))) (sym slot) on
+      where
+        on : (true ≡ canStep s b σ k) × Keeps s b (sentWords w k (getD w (2 * n + 1) 0) (96 + l)) (chosen σ (step s b σ k))
+        on =
+            let amount = getD w (2 * n + 1) 0 in
+            let few = h .programmed .ranged .few-links in
+            let r = h .room k near in
+            let here = n-is in
+            let cf : costOf s l < 65536 = h .programmed .ranged .costs l o in
+            let x = (clockIn w k + amount + 1) % 4294967296 in
+            let u = set w (96 + l) x in
+            let v = placedWords u k (nextIn u k + 1) (max (clockIn u k) 0 + 0) (storeIn u k + 0) in
+            let bounds = h .programmed .high k near in
+            let lw = long in
+            let lu : 1120 ≤ length u = simp length-set long in
+            let away : (i : ℕ) → (i ≡ 96 + l → ⊥) → getD u i 0 ≡ getD w i 0 = λ i d. getD-set-other w (96 + l) i x 0 d in
+            let clock : clockIn u k ≡ clockIn w k = away (4 * k + 1) (λ i. omega arith) in
+            let store : storeIn u k ≡ storeIn w k = away (4 * k + 2) (λ i. omega arith) in
+            let ahead : nextIn u k ≡ nextIn w k = away (4 * k) (λ i. omega arith) in
+            let y = placed-moved u k (nextIn u k + 1) (max (clockIn u k) 0 + 0) (storeIn u k + 0) lu near (linkCount s) in
+            let m : Moved (linkCount s) w v k (nextIn w k + 1) (max (processorOf σ k .clock) 0 + 0) (processorOf σ k .store + 0) =
+            record {
+              long = y .long ∙ length-set w (96 + l) x;
+              next = y .next ∙ omega (arith, h .next k near, h .inside k near);
+              clock = y .clock ∙ omega (arith, h .clock k near, r .0);
+              store = y .store ∙ omega (arith, h .store k near, r .1);
+              others = λ i z. y .others i z ∙ away i (λ q′. ⊎-elim (λ g′. omega arith) (λ g′. omega arith) (z .beside));
+            }
+            in
+            let high : (i : ℕ) → getD v (96 + i) 0 ≡ getD u (96 + i) 0 = λ i. placed-stamp u k (nextIn u k + 1) (max (clockIn u k) 0 + 0) (storeIn u k + 0) lu near (96 + i) (omega arith) in
+            let kept : (i : ℕ) → (i ≡ l → ⊥) → getD v (96 + i) 0 ≡ getD w (96 + i) 0 = λ i d. high i ∙ away (96 + i) (λ y. d (omega arith)) in
+            let less : left b (moved s σ k (send l) 0) each + 1 ≡ left b σ each = left-moved s b σ k (send l) 0 (h .processors) e each in
+            let stamp-is : x ≡ suc (processorOf σ k .clock + costOf s l) = omega (arith, h .clock k near, r .0) in
+            let put : getD v (96 + l) 0 ≡ x = high l ∙ getD-set-same w (96 + l) x 0 (omega arith) in
+            let mine : stampOf (moved s σ k (send l) 0) l ≡ some (processorOf σ k .clock + costOf s l) = getD-set-same (σ .stamps) l (some (processorOf σ k .clock + costOf s l)) none (omega (arith, h .stamps)) in
+            let theirs : (i : ℕ) → (i ≡ l → ⊥) → stampOf (moved s σ k (send l) 0) i ≡ stampOf σ i = λ i d. getD-set-other (σ .stamps) l i (some (processorOf σ k .clock + costOf s l)) none d in
+            goes Keeps s b v σ k (moved s σ k (send l) 0) (move-step s b σ k (send l) 0 e refl)
+            (keeps-moved s b w σ h k near (send l) e 0 j (omega arith) (omega arith) (omega (arith, r .0)) v m
+            (λ i o.
+            elim (ℕ-discrete i l) [
+              | yes y ↦ subst (λ (c : ℕ). stampIn (getD v (96 + c) 0) ≡ stampOf (moved s σ k (send l) 0) c) (sym y) (ap stampIn (put ∙ stamp-is) ∙ sym mine)
+              | no d ↦ ap stampIn (kept i d) ∙ h .stamp i o ∙ sym (theirs i d)
+            ])
+            (λ i y o.
+            elim (ℕ-discrete i l) [
+              | yes z ↦ omega (arith, r .0, Option·some-injective (processorOf σ k .clock + costOf s l) y (sym mine ∙ ap (stampOf (moved s σ k (send l) 0)) (sym z) ∙ o))
+              | no d ↦ omega (arith, h .roomy i y (sym (theirs i d) ∙ o))
+            ]))
+
+    -- a receive
+    got-on : 4096 ≤ getD w (2 * n) 0 → Coming s b w σ k n → (i : ℕ) → i ≡ getD w (2 * n) 0 % 2048 → (f : Bool) → f ≡ not (eqb (getD w i 0) 0)
+        → (f ≡ canStep s b σ k) × Keeps s b (pick f (gotWords w k (getD w (2 * n + 1) 0) i) w) (chosen σ (step s b σ k))
+    unfolding gotWords steppedWords stampOf
+    got-on z (over e g) i q f u =
+        let slot : i ≡ 95 = omega arith in
+        let none-there : getD w i 0 ≡ 0 = ap (λ (j : ℕ). getD w j 0) slot ∙ h .programmed .nothing in
+        let off : f ≡ false = u ∙ ap not (eq-eqb (getD w i 0) 0 none-there) in
+        subst (λ (y : Bool). (y ≡ canStep s b σ k) × Keeps s b (pick y (gotWords w k (getD w (2 * n + 1) 0) i) w) (chosen σ (step s b σ k))) (sym off) (no-next Keeps s b w σ k h e)
+    got-on z (comes (run t) e j o g a) i q f u = absurd (omega arith)
+    got-on z (comes (send l) e j o g a) i q f u = let few = h .programmed .ranged .few-links in absurd (omega arith)
+    got-on z (comes (receive l) e j o g a) i q f u = by f (getD w i 0) refl u (ap (λ (y : ℕ). stampIn (getD w y 0)) slot ∙ h .stamp l o)
+      where
+        slot : i ≡ 96 + l
+        slot = let few = h .programmed .ranged .few-links in omega arith
+
+        by : (f : Bool) (x : ℕ) → getD w i 0 ≡ x → f ≡ not (eqb (getD w i 0) 0) → stampIn (getD w i 0) ≡ stampOf σ l
+            → (f ≡ canStep s b σ k) × Keeps s b (pick f (gotWords w k (getD w (2 * n + 1) 0) i) w) (chosen σ (step s b σ k))
+        by false x y u v =
+            let zero-there : getD w i 0 ≡ 0 = eqb-true (getD w i 0) 0 (not-false (eqb (getD w i 0) 0) (sym u)) in
+            no-wait Keeps s b w σ k h (receive l) e (sym v ∙ ap stampIn zero-there)
+        by true zero y u v = absurd (true≢false (u ∙ ap not (eq-eqb (getD w i 0) 0 y)))
+        by true (suc x) y u t =
+            let amount = getD w (2 * n + 1) 0 in
+            let r = h .room k near in
+            let here = n-is in
+            let got : stampOf σ l ≡ some x = sym t ∙ ap stampIn y in
+            let bf : bytesOf s l < 65536 = h .programmed .ranged .sizes l o in
+            let late = h .roomy l x got in
+            let bounds = h .programmed .high k near in
+            let v = placedWords w k (nextIn w k + 1) (max (clockIn w k) (getD w i 0 - 1) + 0) (storeIn w k + amount) in
+            let m : Moved (linkCount s) w v k (nextIn w k + 1) (max (processorOf σ k .clock) x + 0) (processorOf σ k .store + bytesOf s l) =
+            moved-at (placed-moved w k (nextIn w k + 1) (max (clockIn w k) (getD w i 0 - 1) + 0) (storeIn w k + amount) long near (linkCount s)) (omega (arith, h .next k near, h .inside k near))
+            (omega (arith, h .clock k near, r .0)) (omega (arith, h .store k near, r .1))
+            in
+            let less : left b (moved s σ k (receive l) x) each + 1 ≡ left b σ each = left-moved s b σ k (receive l) x (h .processors) e each in
+            goes Keeps s b v σ k (moved s σ k (receive l) x) (move-step s b σ k (receive l) x e got)
+            (keeps-moved s b w σ h k near (receive l) e x j (omega arith) bf late v m
+            (λ c o. ap stampIn (placed-stamp w k (nextIn w k + 1) (max (clockIn w k) (getD w i 0 - 1) + 0) (storeIn w k + amount) long near (96 + c) (omega arith)) ∙ h .stamp c o)
+            (λ c y o. omega (arith, h .roomy c y o)))
+
+  ran-long : (amount : ℕ) → length (ranWords w k amount) ≡ length w
+  unfolding ranWords
+  ran-long amount = length-stepped w k _ _ _
+
+  sent-long : (amount i : ℕ) → length (sentWords w k amount i) ≡ length w
+  unfolding sentWords
+  sent-long amount i = length-stepped (set w i ((clockIn w k + amount + 1) % 4294967296)) k 0 0 0 ∙ length-set w i _
+
+  got-long : (amount i : ℕ) (f : Bool) → length (pick f (gotWords w k amount i) w) ≡ length w
+  unfolding gotWords
+  got-long amount i true = length-stepped w k _ _ _
+  got-long amount i false = refl
+
+  module _ (code amount : ℕ) (ec : code ≡ getD w (2 * n) 0) (ea : amount ≡ getD w (2 * n + 1) 0) (v : List ℕ) where
+    pub ran : code < 2048 → v ≡ ranWords w k amount → StepIs Keeps w v k true
+    ran q g =
+        record {
+          long = ap length g ∙ ran-long amount;
+          same = λ f. absurd (true≢false f);
+          agrees =
+              λ s b σ h.
+              subst (λ (x : List ℕ). (true ≡ canStep s b σ k) × Keeps s b x (chosen σ (step s b σ k))) (sym (g ∙ ap (ranWords w k) ea))
+              (ran-on s b σ h (omega arith) (coming s b σ h));
+        }
+
+    pub sent : 2048 ≤ code → code < 4096 → (i : ℕ) → i ≡ code % 2048 → v ≡ sentWords w k amount i → StepIs Keeps w v k true
+    sent a z i q g =
+        record {
+          long = ap length g ∙ sent-long amount i;
+          same = λ f. absurd (true≢false f);
+          agrees =
+              λ s b σ h.
+              subst (λ (x : List ℕ). (true ≡ canStep s b σ k) × Keeps s b x (chosen σ (step s b σ k))) (sym (g ∙ ap (λ (x : ℕ). sentWords w k x i) ea))
+              (sent-on s b σ h (omega arith) (omega arith) (coming s b σ h) i (q ∙ ap (λ (x : ℕ). x % 2048) ec));
+        }
+
+    pub got : 4096 ≤ code → (i : ℕ) → i ≡ code % 2048 → (f : Bool) → f ≡ not (eqb (getD w i 0) 0) → v ≡ pick f (gotWords w k amount i) w → StepIs Keeps w v k f
+    got z i q f u g =
+        record {
+          long = ap length g ∙ got-long amount i f;
+          same = λ e. g ∙ ap (λ (x : Bool). pick x (gotWords w k amount i) w) e;
+          agrees =
+              λ s b σ h.
+              subst (λ (x : List ℕ). (f ≡ canStep s b σ k) × Keeps s b x (chosen σ (step s b σ k))) (sym (g ∙ ap (λ (x : ℕ). pick f (gotWords w k x i) w) ea))
+              (got-on s b σ h (omega arith) (coming s b σ h) i (q ∙ ap (λ (x : ℕ). x % 2048) ec) f u);
+        }

@@ -1,0 +1,382 @@
+-- The fresh state in words.
+use Prim.Native.Nat.{ℕ, zero, suc, _+_, _*_, _/_, _%_, _≤_, _<_, min}
+use mathlib.Core.Path.{_≡_, refl, sym, ap, _∙_}
+use mathlib.Core.Option.{Option, none, Option·none-ne-some}
+use mathlib.Core.Logic.{_⊎_, inl, ⊎-elim}
+use mathlib.Core.List.{List, [], _∷_}
+use native.Mathlib.Omega.{arith}
+use native.Mathlib.Numerals.{add-one}
+use lib.ListN.{length, getD, set, take, length-set, length-replicate}
+use lib.Seq.{getD-set-same, getD-set-other, getD-take, take-all}
+use Rattle.folds.specs.Folds.{sum}
+use Rattle.folds.proofs.Tests.{below-suc, equal-or}
+use Rattle.folds.proofs.Lists.{getD-replicate}
+use Rattle.folds.proofs.Laws.{sum-rises}
+use Rattle.workspace.specs.Area.{fixed, ClearIs}
+use Rattle.sheet.specs.Sheet.{Sheet, taskCount, linkCount}
+use Rattle.bundle.specs.Bundle.{Command, Bundle, programmeCount, programmeOf}
+use Rattle.bundle.specs.Lies.{Lies}
+use Rattle.messages.specs.Counting.{whole, wholeOf, each}
+use Rattle.messages.proofs.Weights.{weigh-each}
+use Rattle.machine.specs.Machine.{Processor, freshProcessor, freshState, processorOf, stampOf, stampIn}
+use Rattle.machine.specs.Runs.{left}
+use Rattle.machine.proofs.Runs.{fresh-processor, fresh-left}
+use Rattle.loaded.specs.Words.{nextIn, clockIn, storeIn, firstIn, lastIn}
+use Rattle.loaded.specs.Keeps.{Decoded, Keeps}
+use Rattle.loaded.specs.Loads.{ProgrammeIs, LoadIs}
+use Rattle.loaded.specs.Opened.{Opens, Opened, WipeIs, EmptyIs, OneIs, Given, AllIs}
+
+-- the words that are there are cleared up to the last stamp, and the count of links is put
+pub wiped : (w v last : List ℕ) (e l : ℕ) → l ≤ 1024 → e ≡ min (length w) (96 + l) → ClearIs w v 0 e → last ≡ set v 80 (l % 4294967296) → WipeIs w last l
+wiped w v last e l few q r el =
+    record {
+      long = ap length el ∙ length-set v 80 _ ∙ r .long;
+      blank =
+          λ long.
+          record {
+            links = ap (λ (x : List ℕ). getD x 80 0) el ∙ getD-set-same v 80 (l % 4294967296) 0 (omega (arith, r .long)) ∙ omega arith;
+            zeros = λ i h d. ap (λ (x : List ℕ). getD x i 0) el ∙ getD-set-other v 80 i (l % 4294967296) 0 d ∙ r .zeros i (omega arith) (omega arith);
+          };
+    }
+
+-- processor k put before the first command of a programme from the index x to the index y
+module _ (w last : List ℕ) (k x y : ℕ) (el : last ≡ set (set (set w (4 * k) x) (4 * k + 3) x) (64 + k) y) where
+  placed-long : length last ≡ length w
+  placed-long = ap length el ∙ length-set (set (set w (4 * k) x) (4 * k + 3) x) (64 + k) y ∙ length-set (set w (4 * k) x) (4 * k + 3) x ∙ length-set w (4 * k) x
+
+  placed-other : (i : ℕ) → (i ≡ 4 * k → ⊥) → (i ≡ 4 * k + 3 → ⊥) → (i ≡ 64 + k → ⊥) → getD last i 0 ≡ getD w i 0
+  placed-other i a b c =
+      ap (λ (l : List ℕ). getD l i 0) el
+      ∙ getD-set-other (set (set w (4 * k) x) (4 * k + 3) x) (64 + k) i y 0 c
+      ∙ getD-set-other (set w (4 * k) x) (4 * k + 3) i x 0 b
+      ∙ getD-set-other w (4 * k) i x 0 a
+
+  module _ (near : k < 16) where
+    placed-high : (i : ℕ) → 80 ≤ i → getD last i 0 ≡ getD w i 0
+    placed-high i h = placed-other i (λ z. omega arith) (λ z. omega arith) (λ z. omega arith)
+
+    placed-clock : (j : ℕ) → j < 16 → clockIn last j ≡ clockIn w j
+    placed-clock j h = placed-other (4 * j + 1) (λ z. omega arith) (λ z. omega arith) (λ z. omega arith)
+
+    placed-store : (j : ℕ) → j < 16 → storeIn last j ≡ storeIn w j
+    placed-store j h = placed-other (4 * j + 2) (λ z. omega arith) (λ z. omega arith) (λ z. omega arith)
+
+    module _ (j : ℕ) (h : j < 16) (d : j ≡ k → ⊥) where
+      placed-next-else : nextIn last j ≡ nextIn w j
+      placed-next-else = placed-other (4 * j) (λ z. d (omega arith)) (λ z. omega arith) (λ z. omega arith)
+
+      placed-first-else : firstIn last j ≡ firstIn w j
+      placed-first-else = placed-other (4 * j + 3) (λ z. omega arith) (λ z. d (omega arith)) (λ z. omega arith)
+
+      placed-last-else : lastIn last j ≡ lastIn w j
+      placed-last-else = placed-other (64 + j) (λ z. omega arith) (λ z. omega arith) (λ z. d (omega arith))
+
+    module _ (long : fixed ≤ length w) where
+      placed-last : lastIn last k ≡ y
+      placed-last =
+          ap (λ (l : List ℕ). getD l (64 + k) 0) el
+          ∙ getD-set-same (set (set w (4 * k) x) (4 * k + 3) x) (64 + k) y 0 (simp length-set (omega arith))
+
+      placed-first : firstIn last k ≡ x
+      placed-first =
+          ap (λ (l : List ℕ). getD l (4 * k + 3) 0) el
+          ∙ getD-set-other (set (set w (4 * k) x) (4 * k + 3) x) (64 + k) (4 * k + 3) y 0 (λ z. omega arith)
+          ∙ getD-set-same (set w (4 * k) x) (4 * k + 3) x 0 (simp length-set (omega arith))
+
+      placed-next : nextIn last k ≡ x
+      placed-next =
+          ap (λ (l : List ℕ). getD l (4 * k) 0) el
+          ∙ getD-set-other (set (set w (4 * k) x) (4 * k + 3) x) (64 + k) (4 * k) y 0 (λ z. omega arith)
+          ∙ getD-set-other (set w (4 * k) x) (4 * k + 3) (4 * k) x 0 (λ z. omega arith)
+          ∙ getD-set-same w (4 * k) x 0 (omega arith)
+
+-- commands stand in other words that agree from 80 on up to the index z
+decoded-same : (s : Sheet) (w v : List ℕ) (a z : ℕ) (cs : List Command) → ((i : ℕ) → 80 ≤ i → i < z → getD v i 0 ≡ getD w i 0) → 80 ≤ a → a + 2 * length cs < z
+    → Decoded s w a cs → Decoded s v a cs
+decoded-same s w v a z cs same low high h =
+    record {
+      known = h .known;
+      code = λ i l. same (a + 2 * i) (omega arith) (omega arith) ∙ h .code i l;
+      amount = λ i l. same (a + 2 * i + 1) (omega arith) (omega arith) ∙ h .amount i l;
+      end = same (a + 2 * length cs) (omega arith) (omega arith) ∙ h .end;
+    }
+
+-- the first k processors have the empty programme at command c, in the words w that were v
+pub record Emptying (v w : List ℕ) (c k : ℕ) : Type 0 where
+  pub long : length w ≡ length v
+  pub next : fixed ≤ length v → (j : ℕ) → j < k → nextIn w j ≡ c
+  pub first : fixed ≤ length v → (j : ℕ) → j < k → firstIn w j ≡ c
+  pub last : fixed ≤ length v → (j : ℕ) → j < k → lastIn w j ≡ c
+  pub clock : (j : ℕ) → j < 16 → clockIn w j ≡ clockIn v j
+  pub store : (j : ℕ) → j < 16 → storeIn w j ≡ storeIn v j
+  pub other : (i : ℕ) → 80 ≤ i → getD w i 0 ≡ getD v i 0
+
+pub emptying-starts : (v : List ℕ) (c : ℕ) → Emptying v v c 0
+emptying-starts v c =
+    record {
+      long = refl;
+      next = λ f j l. absurd (omega arith);
+      first = λ f j l. absurd (omega arith);
+      last = λ f j l. absurd (omega arith);
+      clock = λ j l. refl;
+      store = λ j l. refl;
+      other = λ i h. refl;
+    }
+
+pub emptying-more : (v w u : List ℕ) (c k : ℕ) → c ≤ 560 → k < 16 → Emptying v w c k
+    → u ≡ set (set (set w (4 * k) (c % 4294967296)) (4 * k + 3) (c % 4294967296)) (64 + k) (c % 4294967296) → Emptying v u c (k + 1)
+emptying-more v w u c k most near g en =
+    let fits : fixed ≤ length v → fixed ≤ length w = λ f. omega (arith, g .long) in
+    let whole : c % 4294967296 ≡ c = omega arith in
+    let el : u ≡ set (set (set w (4 * k) c) (4 * k + 3) c) (64 + k) c = en ∙ ap (λ (x : ℕ). set (set (set w (4 * k) x) (4 * k + 3) x) (64 + k) x) whole in
+    record {
+      long = placed-long w u k c c el ∙ g .long;
+      next =
+          λ f j l.
+          ⊎-elim (λ (h : j < k). placed-next-else w u k c c el near j (omega arith) (λ z. omega arith) ∙ g .next f j h)
+          (λ (q : j ≡ k). rw q (placed-next w u k c c el near (fits f))) (below-suc (rw add-one at l));
+      first =
+          λ f j l.
+          ⊎-elim (λ (h : j < k). placed-first-else w u k c c el near j (omega arith) (λ z. omega arith) ∙ g .first f j h)
+          (λ (q : j ≡ k). rw q (placed-first w u k c c el near (fits f))) (below-suc (rw add-one at l));
+      last =
+          λ f j l.
+          ⊎-elim (λ (h : j < k). placed-last-else w u k c c el near j (omega arith) (λ z. omega arith) ∙ g .last f j h)
+          (λ (q : j ≡ k). rw q (placed-last w u k c c el near (fits f))) (below-suc (rw add-one at l));
+      clock = λ j l. placed-clock w u k c c el near j l ∙ g .clock j l;
+      store = λ j l. placed-store w u k c c el near j l ∙ g .store j l;
+      other = λ i h. placed-high w u k c c el near i h ∙ g .other i h;
+    }
+
+pub emptied : (w v last : List ℕ) (c k : ℕ) → c ≤ 560 → 16 ≤ k → v ≡ set w (2 * c) (4191 % 4294967296) → Emptying v last c k → EmptyIs w last c
+emptied w v last c k most all ev g =
+    record {
+      long = g .long ∙ lv;
+      opened =
+          λ s long behind blank.
+          let f : fixed ≤ length v = omega (arith, lv) in
+          let same : (i : ℕ) → i < 96 + linkCount s → getD v i 0 ≡ getD w i 0 = λ i h. ap (λ (l : List ℕ). getD l i 0) ev ∙ getD-set-other w (2 * c) i 4191 0 (λ z. omega arith) in
+          let low : (i : ℕ) → i < 96 + linkCount s → (i ≡ 80 → ⊥) → getD v i 0 ≡ 0 = λ i h d. same i h ∙ blank .zeros i h d in
+          let end : getD last (2 * c) 0 ≡ 4191 = g .other (2 * c) (omega arith) ∙ ap (λ (l : List ℕ). getD l (2 * c) 0) ev ∙ getD-set-same w (2 * c) 4191 0 (omega arith) in
+          record {
+            long = omega (arith, g .long);
+            opens =
+                λ j h.
+                let e : firstIn last j ≡ c = g .first f j (omega arith) in
+                record {
+                  next = g .next f j (omega arith) ∙ sym e;
+                  low = omega arith;
+                  high = omega arith;
+                  last = g .last f j (omega arith) ∙ omega arith;
+                  decoded = rw e (record { known = λ i l. absurd (omega arith); code = λ i l. absurd (omega arith); amount = λ i l. absurd (omega arith); end = ap (λ (i : ℕ). getD last i 0) (omega arith) ∙ end });
+                };
+            clock = λ j h. g .clock j h ∙ low (4 * j + 1) (omega arith) (λ z. omega arith);
+            store = λ j h. g .store j h ∙ low (4 * j + 2) (omega arith) (λ z. omega arith);
+            links = g .other 80 (omega arith) ∙ same 80 (omega arith) ∙ blank .links;
+            zeros = λ i h l. g .other i (omega arith) ∙ low i l (λ z. omega arith);
+          };
+    }
+  where
+    lv : length v ≡ length w
+    lv = ap length ev ∙ length-set w (2 * c) 4191
+
+-- one programme more, from command c on
+module _ (sheet bundle from w u last : List ℕ) (n k c x e r : ℕ) (near : k < 16) (ex : x ≡ getD from k 0) (ee : e ≡ getD from (k + 1) 0) (fe : e < 4294967296)
+    (pr : (r ≤ 2 * c + e + 2) × ProgrammeIs sheet bundle w u n (x + 2) e (2 * c) r)
+    (el : last ≡ set (set (set u (4 * k) (c % 4294967296)) (4 * k + 3) (c % 4294967296)) (64 + k) (r / 2 % 4294967296)) where
+  module _ (s : Sheet) (ps qs : List (List Command)) (same : (j : ℕ) → (j ≡ k → ⊥) → getD qs j [] ≡ getD ps j []) (room : c + length (getD qs k []) < 4095) (g : Opened s w c ps)
+      (er : r ≡ 2 * c + 2 * length (getD qs k [])) (decoded : Decoded s u (2 * c) (getD qs k []))
+      (other : (i : ℕ) → (i < 2 * c) ⊎ (2 * c + 2 * length (getD qs k []) < i) → getD u i 0 ≡ getD w i 0) where
+    behind : 98 + linkCount s ≤ 2 * c
+    behind = omega (arith, g .opens k near .low, g .opens k near .high)
+
+    fits : fixed ≤ length u
+    fits = omega (arith, g .long, pr .1 .long)
+
+    c-fits : c % 4294967296 ≡ c
+    c-fits = omega arith
+
+    r-fits : r / 2 % 4294967296 ≡ c + length (getD qs k [])
+    r-fits = omega arith
+
+    low : (i : ℕ) → i < 2 * c → getD u i 0 ≡ getD w i 0
+    low i h = other i (inl h)
+
+    -- processor k
+    own : Opens s last (r / 2 + 1) k (getD qs k [])
+    own =
+        let f : firstIn last k ≡ c = placed-first u last k _ _ el near fits ∙ c-fits in
+        let b = behind in
+        record {
+          next = placed-next u last k _ _ el near fits ∙ c-fits ∙ sym f;
+          low = omega arith;
+          high = omega arith;
+          last = placed-last u last k _ _ el near fits ∙ r-fits ∙ omega arith;
+          decoded =
+              rw f
+              (decoded-same s u last (2 * c) (r + 1) (getD qs k []) (λ i h l. placed-high u last k _ _ el near i (omega arith)) (omega arith) (omega arith) decoded);
+        }
+
+    -- the others
+    else : (j : ℕ) → j < 16 → (j ≡ k → ⊥) → Opens s last (r / 2 + 1) j (getD ps j [])
+    else j h d =
+        let o = g .opens j h in
+        let b = behind in
+        let f : firstIn last j ≡ firstIn w j = placed-first-else u last k _ _ el near j h d ∙ low (4 * j + 3) (omega arith) in
+        record {
+          next = placed-next-else u last k _ _ el near j h d ∙ low (4 * j) (omega arith) ∙ o .next ∙ sym f;
+          low = omega (arith, o .low);
+          high = omega (arith, o .high);
+          last = placed-last-else u last k _ _ el near j h d ∙ low (64 + j) (omega arith) ∙ o .last ∙ omega arith;
+          decoded =
+              rw f
+              (decoded-same s w last (2 * firstIn w j) (2 * c) (getD ps j []) (λ i l m. placed-high u last k _ _ el near i (omega arith) ∙ low i m) (omega (arith, o .low)) (omega (arith, o .high)) (o .decoded));
+        }
+
+    more : Opened s last (r / 2 + 1) qs
+    more =
+        let b = behind in
+        record {
+          long = omega (arith, fits, placed-long u last k _ _ el);
+          opens = λ j h. ⊎-elim (λ (q : j ≡ k). rw q own) (λ (d : j ≡ k → ⊥). rw (same j d) (else j h d)) (equal-or j k);
+          clock = λ j h. placed-clock u last k _ _ el near j h ∙ low (4 * j + 1) (omega arith) ∙ g .clock j h;
+          store = λ j h. placed-store u last k _ _ el near j h ∙ low (4 * j + 2) (omega arith) ∙ g .store j h;
+          links = placed-high u last k _ _ el near 80 (omega arith) ∙ low 80 (omega arith) ∙ g .links;
+          zeros = λ i h l. placed-high u last k _ _ el near i (omega arith) ∙ low i (omega arith) ∙ g .zeros i h l;
+        }
+
+  pub one : OneIs sheet bundle from w last n k c (r / 2 + 1)
+  one =
+      record {
+        long = placed-long u last k _ _ el ∙ pr .1 .long;
+        few = omega (arith, pr .0);
+        is =
+            λ s ps qs fields en few lies same room g.
+            let ek : e ≡ getD from (suc k) 0 = ee ∙ ap (λ (i : ℕ). getD from i 0) (add-one k) in
+            let l : Lies (taskCount s) (linkCount s) bundle (x + 2) e (getD qs k []) = rw (ex, ek) lies in
+            let y = pr .1 .is s (getD qs k []) fields en few l (omega (arith, g .long)) in
+            (omega (arith, y .0), more s ps qs same room g (y .0) (y .1) (y .2));
+      }
+
+-- one programme more of a list
+take-other : (ps : List (List Command)) (k j : ℕ) → (j ≡ k → ⊥) → getD (take (suc k) ps) j [] ≡ getD (take k ps) j []
+take-other [] zero j d = refl
+take-other [] (suc k) j d = refl
+take-other (p ∷ ps) zero zero d = absurd (d refl)
+take-other (p ∷ ps) zero (suc j) d = refl
+take-other (p ∷ ps) (suc k) zero d = refl
+take-other (p ∷ ps) (suc k) (suc j) d = take-other ps k j (λ q. d (ap suc q))
+
+-- the first k programmes are loaded, from the command first up to command c, in the words w that were v
+pub record Going (sheet bundle from v w : List ℕ) (m n first c k : ℕ) : Type 0 where
+  pub long : length w ≡ length v
+  pub few : c ≤ first + k * 4294967300
+  pub is : (s : Sheet) (b : Bundle) → Given sheet bundle from m n s b → Opened s v first [] → (c ≡ first + sum k (wholeOf b each) + k) × Opened s w c (take k (b .programmes))
+
+module _ (sheet bundle from v : List ℕ) (m n first : ℕ) (near : first ≤ 561) where
+  pub going-starts : Going sheet bundle from v v m n first first 0
+  unfolding sum
+  going-starts = record { long = refl; few = omega arith; is = λ s b given g. (omega arith, g) }
+
+  -- the number behind programme k
+  room-for : (b : Bundle) (k : ℕ) → k < programmeCount b → whole b each ≤ 2304 → sum k (wholeOf b each) + length (programmeOf b k) ≤ 2304
+  unfolding sum whole wholeOf
+  room-for b k h short = omega (arith, sum-rises (suc k) (programmeCount b) (wholeOf b each) h, weigh-each (programmeOf b k))
+
+  room-all : (b : Bundle) (k : ℕ) → k ≤ programmeCount b → whole b each ≤ 2304 → sum k (wholeOf b each) ≤ 2304
+  unfolding whole
+  room-all b k h short = omega (arith, sum-rises k (programmeCount b) (wholeOf b each) h)
+
+  sum-more : (b : Bundle) (k : ℕ) → sum (k + 1) (wholeOf b each) ≡ sum k (wholeOf b each) + length (programmeOf b k)
+  unfolding sum wholeOf
+  sum-more b k = rw add-one (omega (arith, weigh-each (programmeOf b k)))
+
+  pub going-more : (w u : List ℕ) (c k r : ℕ) → k < m → m < 17 → Going sheet bundle from v w m n first c k → OneIs sheet bundle from w u n k c r → Going sheet bundle from v u m n first r (k + 1)
+  unfolding programmeCount programmeOf
+  going-more w u c k r below few g h =
+      record {
+        long = h .long ∙ g .long;
+        few = omega (arith, g .few, h .few);
+        is =
+            λ s b given o.
+            let p = g .is s b given o in
+            let inside : k < length (b .programmes) = omega (arith, given .programmes) in
+            let e : getD (take (suc k) (b .programmes)) k [] ≡ getD (b .programmes) k [] = getD-take (suc k) (b .programmes) k [] (omega arith) in
+            let le : length (getD (take (suc k) (b .programmes)) k []) ≡ length (getD (b .programmes) k []) = ap length e in
+            let y = h .is s (take k (b .programmes)) (take (suc k) (b .programmes)) (given .fields) (given .tasks) (given .ranged .few-links) (rw e (given .laid .lies k inside))
+            (take-other (b .programmes) k) (omega (arith, room-for b k inside (given .short), p .0)) (p .1)
+            in
+            (omega (arith, y .0, p .0, sum-more b k), rw add-one (y .1));
+      }
+
+  pub going-ends : (w : List ℕ) (c k : ℕ) → k ≡ m → m < 17 → Going sheet bundle from v w m n first c k → AllIs sheet bundle from v w m n first
+  unfolding programmeCount
+  going-ends w c k e few g =
+      record {
+        long = g .long;
+        is =
+            λ s b given o.
+            let p = g .is s b given o in
+            let t : take k (b .programmes) ≡ b .programmes = take-all k (b .programmes) (omega (arith, given .programmes)) in
+            let q : Opened s w c (b .programmes) = rw t at (p .1) in
+            let z : sum k (wholeOf b each) ≤ 2304 = room-all b k (omega (arith, given .programmes)) (given .short) in
+            let most : c ≤ 4096 = omega (arith, p .0) in
+            record {
+              long = q .long;
+              opens =
+                  λ j h.
+                  let z = q .opens j h in
+                  record { next = z .next; low = z .low; high = omega (arith, z .high); last = z .last; decoded = z .decoded };
+              clock = q .clock;
+              store = q .store;
+              links = q .links;
+              zeros = q .zeros;
+            };
+      }
+
+-- all processors opened, everything else 0: the fresh state
+module _ (sheet bundle from w : List ℕ) (m n : ℕ) (s : Sheet) (b : Bundle) (given : Given sheet bundle from m n s b) (g : Opened s w 4096 (b .programmes)) where
+  pub fresh-kept : Keeps s b w (freshState s b)
+  unfolding programmeCount programmeOf stampOf
+  fresh-kept =
+      let proc : (j : ℕ) → processorOf (freshState s b) j ≡ freshProcessor = fresh-processor s b in
+      let position : (j : ℕ) → processorOf (freshState s b) j .position ≡ 0 = λ j. ap {B = ℕ} (λ (x : Processor). x .position) (proc j) in
+      let clock : (j : ℕ) → processorOf (freshState s b) j .clock ≡ 0 = λ j. ap {B = ℕ} (λ (x : Processor). x .clock) (proc j) in
+      let store : (j : ℕ) → processorOf (freshState s b) j .store ≡ 0 = λ j. ap {B = ℕ} (λ (x : Processor). x .store) (proc j) in
+      let stampless : (i : ℕ) → stampOf (freshState s b) i ≡ none = λ i. getD-replicate {A = Option ℕ} (linkCount s) i none in
+      let short = given .short in
+      let lf : left b (freshState s b) each ≡ whole b each = fresh-left s b each in
+      record {
+        programmed =
+            record {
+              long = g .long;
+              few = given .few;
+              ranged = given .ranged;
+              links = g .links;
+              nothing = g .zeros 95 (omega arith) (omega arith);
+              low = λ k h. g .opens k h .low;
+              high = λ k h. omega (arith, g .opens k h .high);
+              last = λ k h. g .opens k h .last;
+              decoded = λ k h. g .opens k h .decoded;
+            };
+        processors = length-replicate (programmeCount b) freshProcessor;
+        stamps = length-replicate (linkCount s) none;
+        inside = λ k h. omega (arith, position k);
+        next = λ k h. g .opens k h .next ∙ omega (arith, position k);
+        clock = λ k h. g .clock k h ∙ sym (clock k);
+        store = λ k h. g .store k h ∙ sym (store k);
+        stamp = λ l h. ap stampIn (g .zeros (96 + l) (omega arith) (omega arith)) ∙ sym (stampless l);
+        room = λ k h. (omega (arith, clock k), omega (arith, store k));
+        roomy = λ l x e. absurd (Option·none-ne-some x (sym (stampless l) ∙ e));
+      }
+
+pub loaded-all : (sheet bundle from w a v last : List ℕ) (m n l c : ℕ) → c ≡ (97 + l) / 2 → WipeIs w a l → EmptyIs a v c → AllIs sheet bundle from v last m n (c + 1)
+    → LoadIs sheet bundle from w last m n l
+loaded-all sheet bundle from w a v last m n l c first p q r =
+    record {
+      long = r .long ∙ q .long ∙ p .long;
+      keeps =
+          λ s b fields long em few en links ranged short laid.
+          let given : Given sheet bundle from m n s b = record { fields = fields; programmes = em; few = few; tasks = en; ranged = ranged; short = short; laid = laid } in
+          fresh-kept sheet bundle from last m n s b given (r .is s b given (q .opened s (omega (arith, p .long)) (omega arith) (rw links (p .blank long))));
+    }

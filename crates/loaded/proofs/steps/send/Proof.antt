@@ -1,0 +1,23 @@
+-- `send` (src/steps.rt) keeps its contract.
+use Rattle.loaded.specs.Words.{sentWords}
+use borrow.Author.Needs.{needs}
+use Rattle.loaded.proofs.steps.send.Statement.{statement}
+use Rattle.loaded.proofs.steps.send.Tie as tie
+
+returns : tie.Need-returns
+unfolding sentWords
+returns c = simp (c .before .before .go-on .ensures, c .before .before .before .before .before .before .put .ensures, c .before .before .before .before .before .before .before .before .word .ensures .0)
+
+pub send-spec : {M : Type 1} → statement M
+send-spec =
+    tie.close
+    (tie.spec
+    (λ c. search needs)
+    (λ c. search needs)
+    (λ c κs. search needs)
+    (λ c. search needs)
+    (λ c. search needs)
+    (λ c κs. search needs)
+    (λ c κs. search needs)
+    (λ c. search needs)
+    returns)

@@ -1,0 +1,6 @@
+-- The definitions of `loaded`.
+pub mod Words
+pub mod Advance
+pub mod Keeps
+pub mod Loads
+pub mod Opened

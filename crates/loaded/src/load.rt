@@ -1,0 +1,144 @@
+// The programmes of a bundle, decoded into words, and the fresh state.
+ghost use mathlib.Core.Path.{_≡_};
+ghost use Prim.Native.Nat.{_+_, _*_, _%_, _≤_, _<_};
+ghost use lib.ListN.{set};
+ghost use Rattle.loaded.specs.Loads.{CommandIs, ProgrammeIs, LoadIs};
+ghost use Rattle.loaded.specs.Opened.{WipeIs, EmptyIs, OneIs, AllIs};
+
+// The two words of a command.
+fn put_command(w: &mut [u32], at: usize, code: usize, amount: usize)
+    requires { ⌜ at < 2199023255552 ⌝ }
+    ensures { λ _. ⌜ now (w .exit) ≡ set (set (now (w .entry)) at (code % 4294967296)) (at + 1) (amount % 4294967296) ⌝ }
+{
+    words::put(w, at, code);
+    words::put(w, at + 1, amount);
+}
+
+// The command at the offset o, for a sheet of n tasks, into the two words at the index `at`; how many bytes it has. A send is told from a receive by value:
+// which of them comes cannot be foretold.
+fn load_command(sheet: &[u8], bundle: &[u8], w: &mut [u32], n: usize, o: usize, at: usize) -> usize
+    requires { ⌜ (n ≤ 256) × (o < 4294967296) × (at < 2199023255552) ⌝ }
+    ensures { λ r. ⌜ CommandIs (now (sheet .entry)) (now (bundle .entry)) (now (w .entry)) (now (w .exit)) n o at r ⌝ }
+{
+    let c = words::byte(bundle, o);
+    if c == 0x52 {
+        let t = words::byte(bundle, o + 1);
+        let work = words::pair(sheet, 7 + 5 * t);
+        let store = words::pair(sheet, 9 + 5 * t);
+        put_command(w, at, 0, work + 65536 * store);
+        return 2;
+    }
+    let l = words::pair(bundle, o + 1);
+    let receives = c / 0x56;
+    let amount = words::pair(sheet, 9 + 5 * n + 7 * l + 2 * receives);
+    put_command(w, at, 2144 + l + 2048 * receives, amount);
+    3
+}
+
+// The programme from the offset o to the offset e into the words from the index `at` on; the index behind it.
+fn load_programme(
+    sheet: &[u8],
+    bundle: &[u8],
+    w: &mut [u32],
+    n: usize,
+    o: usize,
+    e: usize,
+    at: usize,
+) -> usize
+    requires { ⌜ (n ≤ 256) × (e < 4294967296) × (at < 1099511627776) ⌝ }
+    ensures { λ r. ⌜ (r ≤ at + e + 2) × ProgrammeIs (now (sheet .entry)) (now (bundle .entry)) (now (w .entry)) (now (w .exit)) n o e at r ⌝ }
+{
+    let mut from = o;
+    let mut to = at;
+    while from < e {
+        from += load_command(sheet, bundle, w, n, from, to);
+        to += 2;
+    }
+    words::put(w, to, 4191);
+    to
+}
+
+// Processor k before the first command of a programme between two indices.
+fn open_programme(w: &mut [u32], k: usize, first: usize, last: usize)
+    requires { ⌜ k < 16 ⌝ }
+    ensures { λ _. ⌜ now (w .exit) ≡ set (set (set (now (w .entry)) (4 * k) (first % 4294967296)) (4 * k + 3) (first % 4294967296)) (64 + k) (last % 4294967296) ⌝ }
+{
+    words::put(w, 4 * k, first);
+    words::put(w, 4 * k + 3, first);
+    words::put(w, 64 + k, last);
+}
+
+// The words up to the last of l stamps become 0, but for the count of links.
+fn wipe(w: &mut [u32], l: usize)
+    requires { ⌜ l ≤ 1024 ⌝ }
+    ensures { λ _. ⌜ WipeIs (now (w .entry)) (now (w .exit)) l ⌝ }
+{
+    let end = words::smaller(w.len(), 96 + l);
+    workspace::clear_words(w, 0, end);
+    words::put(w, 80, l);
+}
+
+// Every processor has the empty programme, at command c.
+fn empty_all(w: &mut [u32], c: usize)
+    requires { ⌜ c ≤ 560 ⌝ }
+    ensures { λ _. ⌜ EmptyIs (now (w .entry)) (now (w .exit)) c ⌝ }
+{
+    words::put(w, 2 * c, 4191);
+    let mut k = 0;
+    while k < 16 {
+        open_programme(w, k, c, c);
+        k += 1;
+    }
+}
+
+// Programme k from command c on; the number for the next one.
+fn load_one(
+    sheet: &[u8],
+    bundle: &[u8],
+    from: &[u32],
+    w: &mut [u32],
+    n: usize,
+    k: usize,
+    c: usize,
+) -> usize
+    requires { ⌜ (n ≤ 256) × (k < 16) × (c < 274877906944) ⌝ }
+    ensures { λ r. ⌜ OneIs (now (sheet .entry)) (now (bundle .entry)) (now (from .entry)) (now (w .entry)) (now (w .exit)) n k c r ⌝ }
+{
+    let o = words::word(from, k) + 2;
+    let e = words::word(from, k + 1);
+    let last = load_programme(sheet, bundle, w, n, o, e, 2 * c) / 2;
+    open_programme(w, k, c, last);
+    last + 1
+}
+
+// The first m programmes, one behind the other, from the command `first` on.
+fn load_all(
+    sheet: &[u8],
+    bundle: &[u8],
+    from: &[u32],
+    w: &mut [u32],
+    m: usize,
+    n: usize,
+    first: usize,
+)
+    requires { ⌜ (m < 17) × (n ≤ 256) × (first ≤ 561) ⌝ }
+    ensures { λ _. ⌜ AllIs (now (sheet .entry)) (now (bundle .entry)) (now (from .entry)) (now (w .entry)) (now (w .exit)) m n first ⌝ }
+{
+    let mut c = first;
+    let mut k = 0;
+    while k < m {
+        c = load_one(sheet, bundle, from, w, n, k, c);
+        k += 1;
+    }
+}
+
+// The fresh state of m programmes whose offsets stand in the words `from`, for a sheet of n tasks and l links.
+pub fn load(sheet: &[u8], bundle: &[u8], from: &[u32], w: &mut [u32], m: usize, n: usize, l: usize)
+    requires { ⌜ (m < 17) × (n ≤ 256) × (l ≤ 1024) ⌝ }
+    ensures { λ _. ⌜ LoadIs (now (sheet .entry)) (now (bundle .entry)) (now (from .entry)) (now (w .entry)) (now (w .exit)) m n l ⌝ }
+{
+    let c = (97 + l) / 2;
+    wipe(w, l);
+    empty_all(w, c);
+    load_all(sheet, bundle, from, w, m, n, c + 1);
+}

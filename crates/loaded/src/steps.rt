@@ -1,0 +1,123 @@
+// One choice of a processor, and a list of them.
+ghost use mathlib.Core.Path.{_≡_};
+ghost use mathlib.Core.Bool.{not};
+ghost use Prim.Native.Nat.{_<_};
+ghost use lib.ListN.{getD};
+ghost use lib.Dec.{eqb};
+ghost use Rattle.folds.specs.Folds.{pick, bit};
+ghost use Rattle.loaded.specs.Words.{nextIn, clockIn, storeIn, placedWords, steppedWords, sentWords, gotWords};
+ghost use Rattle.loaded.specs.Advance.{Narrow, Small};
+ghost use Rattle.machine.specs.Kept.{StepIs, RunIs};
+ghost use Rattle.loaded.specs.Keeps.{Keeps};
+use crate::processors::Processor;
+use crate::processors::stepped;
+
+// Processor k of the words.
+fn processor(w: &[u32], k: usize) -> Processor
+    requires { ⌜ k < 16 ⌝ }
+    ensures { λ p. ⌜ (p .clock ≡ clockIn (now (w .entry)) k) × (p .position ≡ nextIn (now (w .entry)) k) × (p .store ≡ storeIn (now (w .entry)) k) × Narrow p ⌝ }
+{
+    Processor {
+        clock: words::word(w, 4 * k + 1),
+        position: words::word(w, 4 * k),
+        store: words::word(w, 4 * k + 2),
+    }
+}
+
+// Processor k of the words becomes p.
+fn place(w: &mut [u32], k: usize, p: Processor)
+    requires { ⌜ k < 16 ⌝ }
+    ensures { λ _. ⌜ now (w .exit) ≡ placedWords (now (w .entry)) k (p .position) (p .clock) (p .store) ⌝ }
+{
+    words::put(w, 4 * k + 1, p.clock);
+    words::put(w, 4 * k + 2, p.store);
+    words::put(w, 4 * k, p.position);
+}
+
+// Processor k does its next command, which waits for a time, takes a time and needs a store.
+fn go_on(w: &mut [u32], k: usize, wait: usize, work: usize, need: usize)
+    requires { ⌜ (k < 16) × Small wait work need ⌝ }
+    ensures { λ _. ⌜ now (w .exit) ≡ steppedWords (now (w .entry)) k wait work need ⌝ }
+{
+    let p = stepped(processor(w, k), wait, work, need);
+    place(w, k, p);
+}
+
+// Processor k sends the message of word i: the amount is its cost.
+fn send(w: &mut [u32], k: usize, amount: usize, i: usize)
+    requires { ⌜ (k < 16) × (amount < 4294967296) ⌝ }
+    ensures { λ _. ⌜ now (w .exit) ≡ sentWords (now (w .entry)) k amount i ⌝ }
+{
+    let stamp = words::word(w, 4 * k + 1) + amount + 1;
+    words::put(w, i, stamp);
+    go_on(w, k, 0, 0, 0);
+}
+
+// Processor k receives the message of word i, if it was sent: the amount is its bytes.
+fn receive(w: &mut [u32], k: usize, amount: usize, i: usize) -> bool
+    requires { ⌜ (k < 16) × (amount < 4294967296) ⌝ }
+    ensures { λ r. ⌜ (r ≡ not (eqb (getD (now (w .entry)) i 0) 0)) × (now (w .exit) ≡ pick r (gotWords (now (w .entry)) k amount i) (now (w .entry))) ⌝ }
+{
+    let stamp = words::word(w, i);
+    if stamp == 0 {
+        return false;
+    }
+    go_on(w, k, stamp - 1, 0, amount);
+    true
+}
+
+// One command of processor k. Numbers are cut to the words that are there, so that none is tested again.
+fn command(w: &mut [u32], k: usize) -> bool
+    requires { ⌜ k < 16 ⌝ }
+    ensures { λ r. ⌜ StepIs Keeps (now (w .entry)) (now (w .exit)) k r ⌝ }
+{
+    let c = words::word(w, 4 * k) % 4096;
+    let code = words::word(w, 2 * c);
+    let amount = words::word(w, 2 * c + 1);
+    if code < 2048 {
+        go_on(w, k, 0, amount % 65536, amount / 65536);
+        return true;
+    }
+    if code < 4096 {
+        send(w, k, amount, code % 2048);
+        return true;
+    }
+    receive(w, k, amount, code % 2048)
+}
+
+// One command of processor k, in constant time. False, and nothing changed, where it cannot step.
+pub fn step(w: &mut [u32], k: usize) -> bool
+    ensures { λ r. ⌜ StepIs Keeps (now (w .entry)) (now (w .exit)) k r ⌝ }
+{
+    if w.len() < workspace::fixed_length() {
+        return false;
+    }
+    if k < 16 {
+        return command(w, k);
+    }
+    false
+}
+
+// 1 for true, 0 for false.
+fn counted(b: bool) -> usize
+    ensures { λ r. ⌜ r ≡ bit b ⌝ }
+{
+    if b {
+        return 1;
+    }
+    0
+}
+
+// The choices, one after the other: how many of them stepped.
+pub fn run(choices: &[u8], w: &mut [u32]) -> usize
+    ensures { λ r. ⌜ RunIs Keeps (now (choices .entry)) (now (w .entry)) (now (w .exit)) r ⌝ }
+{
+    let mut n = 0;
+    let mut i = 0;
+    while i < choices.len() {
+        let k = words::byte(choices, i);
+        n += counted(step(w, k));
+        i += 1;
+    }
+    n
+}

@@ -1,2 +1,0 @@
--- The definitions of `stepping`.
-pub mod Advance
