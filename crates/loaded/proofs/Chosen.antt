@@ -19,7 +19,7 @@ use Rattle.bundle.specs.Fits.{Known}
 use Rattle.messages.specs.Counting.{each}
 use Rattle.machine.specs.Machine.{State, processorOf, stampOf, next, moved, step, canStep, stampIn}
 use Rattle.machine.specs.Runs.{chosen, left}
-use Rattle.machine.proofs.Steps.{move-step, left-moved}
+use Rattle.machine.proofs.Steps.{move-step, left-moved, stamp-sent, stamp-other}
 use Rattle.loaded.specs.Words.{nextIn, clockIn, storeIn, firstIn, codeOf, amountOf, endCode, placedWords, steppedWords, ranWords, sentWords, gotWords}
 use Rattle.machine.specs.Kept.{StepIs}
 use Rattle.machine.proofs.Kept.{goes, no-next, no-wait, none-of}
@@ -137,8 +137,8 @@ module _ (w : List ℕ) (k : ℕ) (near : k < 16) (n : ℕ) (here : n ≡ nextIn
             let less : left b (moved s σ k (send l) 0) each + 1 ≡ left b σ each = left-moved s b σ k (send l) 0 (h .processors) e each in
             let stamp-is : x ≡ suc (processorOf σ k .clock + costOf s l) = omega (arith, h .clock k near, r .0) in
             let put : getD v (96 + l) 0 ≡ x = high l ∙ getD-set-same w (96 + l) x 0 (omega arith) in
-            let mine : stampOf (moved s σ k (send l) 0) l ≡ some (processorOf σ k .clock + costOf s l) = getD-set-same (σ .stamps) l (some (processorOf σ k .clock + costOf s l)) none (omega (arith, h .stamps)) in
-            let theirs : (i : ℕ) → (i ≡ l → ⊥) → stampOf (moved s σ k (send l) 0) i ≡ stampOf σ i = λ i d. getD-set-other (σ .stamps) l i (some (processorOf σ k .clock + costOf s l)) none d in
+            let mine = stamp-sent s σ k l 0 (omega (arith, h .stamps)) in
+            let theirs = stamp-other s σ k l 0 in
             goes Keeps s b v σ k (moved s σ k (send l) 0) (move-step s b σ k (send l) 0 e refl)
             (keeps-moved s b w σ h k near (send l) e 0 j (omega arith) (omega arith) (omega (arith, r .0)) v m
             (λ i o.

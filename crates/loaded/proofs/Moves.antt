@@ -5,15 +5,14 @@ use mathlib.Core.Logic.{_⊎_, inl, inr}
 use mathlib.Core.Option.{none, some}
 use mathlib.Core.List.{List, [], _∷_}
 use native.Mathlib.Omega.{arith}
-use native.Mathlib.Decide.{ℕ-discrete}
 use lib.ListN.{length, getD, getElem?, set, length-set}
 use lib.Seq.{getD-set-same, getD-set-other}
 use Rattle.sheet.specs.Sheet.{Sheet, linkCount}
 use Rattle.bundle.specs.Bundle.{Command, run, Bundle, programmeOf}
 use Rattle.messages.specs.Counting.{each, need}
-use Rattle.machine.specs.Machine.{State, Processor, processorOf, stampOf, next, takes, after, moved, stampIn}
+use Rattle.machine.specs.Machine.{State, processorOf, stampOf, next, takes, moved, stampIn}
 use Rattle.machine.specs.Runs.{left}
-use Rattle.machine.proofs.Steps.{other, self, left-moved, length-posted}
+use Rattle.machine.proofs.Steps.{each-of, left-moved, length-posted}
 use Rattle.loaded.specs.Words.{nextIn, clockIn, storeIn, firstIn, placedWords, steppedWords}
 use Rattle.loaded.specs.Keeps.{Decoded, Programmed, Keeps}
 
@@ -97,30 +96,23 @@ module _ (s : Sheet) (b : Bundle) (w : List ℕ) (σ : State) (h : Keeps s b w �
     one-less : left b τ each + 1 ≡ left b σ each
     one-less = left-moved s b σ k c x (h .processors) e each
 
-    -- what is true of k after its command, and of the others as before, is true of all
-    each-of : (Q : ℕ → Processor → Type 0) → Q k (after s c x (processorOf σ k)) → ((j : ℕ) → (j ≡ k → ⊥) → j < 16 → Q j (processorOf σ j)) → (j : ℕ) → j < 16 → Q j (processorOf τ j)
-    each-of Q a f j l =
-        elim (ℕ-discrete j k) [
-          | yes q ↦ subst (λ (i : ℕ). Q i (processorOf τ i)) (sym q) (subst (Q k) (sym (self s b σ k c x (h .processors) e)) a)
-          | no d ↦ subst (Q j) (sym (other s b σ k c x j d)) (f j d l)
-        ]
-
     pub keeps-moved : ((l : ℕ) → l < linkCount s → stampIn (getD v (96 + l) 0) ≡ stampOf τ l) → ((l y : ℕ) → stampOf τ l ≡ some y → y + 65535 * left b τ each ≤ 4294901760) → Keeps s b v τ
     keeps-moved stamped roomed =
         let less = one-less in
+        let of = each-of s b σ k c x (h .processors) e 16 in
         record {
           programmed = programmed-same near m s b refl (h .programmed);
           processors = length-set (σ .processors) k _ ∙ h .processors;
           stamps = length-posted s c (processorOf σ k .clock) (σ .stamps) ∙ h .stamps;
-          inside = each-of (λ j p. p .position ≤ length (programmeOf b j)) (omega arith) (λ j d l. h .inside j l);
+          inside = of (λ j p. p .position ≤ length (programmeOf b j)) (omega arith) (λ j d l. h .inside j l);
           next =
-              each-of (λ j p. nextIn v j ≡ firstIn v j + p .position) (omega (arith, m .next, first-same near m k near, h .next k near))
+              of (λ j p. nextIn v j ≡ firstIn v j + p .position) (omega (arith, m .next, first-same near m k near, h .next k near))
               (λ j d l. omega (arith, next-same near m j d l, first-same near m j l, h .next j l));
-          clock = each-of (λ j p. clockIn v j ≡ p .clock) (m .clock) (λ j d l. clock-same near m j d l ∙ h .clock j l);
-          store = each-of (λ j p. storeIn v j ≡ p .store) (m .store) (λ j d l. store-same near m j d l ∙ h .store j l);
+          clock = of (λ j p. clockIn v j ≡ p .clock) (m .clock) (λ j d l. clock-same near m j d l ∙ h .clock j l);
+          store = of (λ j p. storeIn v j ≡ p .store) (m .store) (λ j d l. store-same near m j d l ∙ h .store j l);
           stamp = stamped;
           room =
-              each-of (λ j p. (p .clock + 65535 * left b τ each ≤ 4294901760) × (p .store + 65535 * left b τ each ≤ 4294901760))
+              of (λ j p. (p .clock + 65535 * left b τ each ≤ 4294901760) × (p .store + 65535 * left b τ each ≤ 4294901760))
               (omega (arith, h .room k near .0), omega (arith, h .room k near .1)) (λ j d l. (omega (arith, h .room j l .0), omega (arith, h .room j l .1)));
           roomy = roomed;
         }

@@ -56,6 +56,16 @@ length-posted s (run u) t m = refl
 length-posted s (send l) t m = simp length-set
 length-posted s (receive l) t m = refl
 
+-- the stamps after a send of l
+module _ (s : Sheet) (σ : State) (k l x : ℕ) where
+  pub stamp-sent : l < length (σ .stamps) → stampOf (moved s σ k (send l) x) l ≡ some (processorOf σ k .clock + costOf s l)
+  unfolding stampOf
+  stamp-sent h = getD-set-same (σ .stamps) l (some (processorOf σ k .clock + costOf s l)) none h
+
+  pub stamp-other : (i : ℕ) → i ≢ l → stampOf (moved s σ k (send l) x) i ≡ stampOf σ i
+  unfolding stampOf
+  stamp-other i d = getD-set-other (σ .stamps) l i (some (processorOf σ k .clock + costOf s l)) none d
+
 module _ (s : Sheet) (b : Bundle) where
   pub step-move : (σ : State) (k : ℕ) (τ : State) → step s b σ k ≡ some τ → Move s b σ k τ
   unfolding step
@@ -101,6 +111,13 @@ module _ (s : Sheet) (b : Bundle) where
       pub self : processorOf (moved s σ k c w) k ≡ after s c w (processorOf σ k)
       unfolding processorOf
       self = getD-set-same (σ .processors) k (after s c w (processorOf σ k)) freshProcessor (omega (arith, below))
+
+      -- what is true of k after its command, and of the others as before, is true of the first m
+      pub each-of : (m : ℕ) (Q : ℕ → Processor → Type 0) → Q k (after s c w (processorOf σ k)) → ((j : ℕ) → j ≢ k → j < m → Q j (processorOf σ j))
+          → (j : ℕ) → j < m → Q j (processorOf (moved s σ k c w) j)
+      each-of m Q a f j l =
+          ⊎-elim (λ (q : j ≡ k). subst (λ (i : ℕ). Q i (processorOf (moved s σ k c w) i)) (sym q) (subst (Q k) (sym self) a))
+          (λ (d : j ≢ k). subst (Q j) (sym (other j d)) (f j d l)) (equal-or j k)
 
       pub left-moved : (f : Command → ℕ) → left b (moved s σ k c w) f + f c ≡ left b σ f
       unfolding left leftOf next

@@ -2,7 +2,7 @@
 use Prim.Native.Nat.{ℕ, zero, suc, _+_, _*_, _-_, _%_, _<_, _≤_, max}
 use mathlib.Core.Path.{_≡_, refl, sym, ap, _∙_, subst}
 use mathlib.Core.Bool.{Bool, true, false, not, true≢false}
-use mathlib.Core.Option.{none, some, Option·some-injective}
+use mathlib.Core.Option.{some, Option·some-injective}
 use mathlib.Core.List.{List}
 use native.Mathlib.Omega.{arith}
 use native.Mathlib.Numerals.{add-one}
@@ -25,7 +25,7 @@ use Rattle.state.specs.Words.{movedWords, ranWords, sentWords, gotWords}
 use Rattle.machine.specs.Kept.{StepIs}
 use Rattle.machine.proofs.Kept.{goes, no-next, no-wait, none-of}
 use Rattle.state.specs.Tracks.{Tracks}
-use Rattle.machine.proofs.Steps.{move-step, left-moved}
+use Rattle.machine.proofs.Steps.{move-step, left-moved, stamp-sent, stamp-other}
 use Rattle.state.proofs.Lows.{Low, moved-low, moved-high, length-moved, low-at, low-stamped}
 use Rattle.state.proofs.Moves.{ended, Coming, coming-of, tracks-moved}
 
@@ -126,12 +126,8 @@ module _ (sheet bundle w : List ℕ) (k : ℕ) where
           let less : left b (moved s σ k (send m) 0) each + 1 ≡ left b σ each = left-moved s b σ k (send m) 0 (h .processors) c each in
           let stamp-is : x ≡ suc (processorOf σ k .clock + costOf s m) = omega (arith, h .clock k below, r .1, co, small-cost) in
           let put : getD u (96 + m) 0 ≡ x = getD-set-same w (96 + m) x 0 (omega (arith, h .long, h .few-links, z .1)) in
-          let mine : stampOf (moved s σ k (send m) 0) m ≡ some (processorOf σ k .clock + costOf s m) =
-          getD-set-same (σ .stamps) m (some (processorOf σ k .clock + costOf s m)) none (omega (arith, h .stamps, z .1))
-          in
-          let theirs : (i : ℕ) → (i ≡ m → ⊥) → stampOf (moved s σ k (send m) 0) i ≡ stampOf σ i =
-          λ i d. getD-set-other (σ .stamps) m i (some (processorOf σ k .clock + costOf s m)) none d
-          in
+          let mine = stamp-sent s σ k m 0 (omega (arith, h .stamps, z .1)) in
+          let theirs = stamp-other s σ k m 0 in
           let high : (i : ℕ) → 96 ≤ i → getD v i 0 ≡ getD u i 0 = moved-high u k (at + 3) (max (getD w (64 + k) 0) 0 + 0) (getD w (48 + k) 0 + 1) (getD w (80 + k) 0 + 0) lu nk in
           goes (Tracks sheet bundle) s b v σ k (moved s σ k (send m) 0) (move-step s b σ k (send m) 0 c refl)
           (tracks-moved s b sheet bundle w σ h k below (send m) c 0 y (omega arith) (omega arith) (omega (arith, r .0)) v low

@@ -4,7 +4,6 @@ use mathlib.Core.Path.{_≡_, sym, _∙_, subst}
 use mathlib.Core.Option.{none, some}
 use mathlib.Core.List.{List}
 use native.Mathlib.Omega.{arith}
-use native.Mathlib.Decide.{ℕ-discrete}
 use lib.ListN.{getD, drop, length-set}
 use Rattle.sheet.specs.Sheet.{Sheet, taskCount, linkCount}
 use Rattle.bundle.specs.Bundle.{Command, Bundle, programmeCount, programmeOf}
@@ -12,10 +11,10 @@ use Rattle.bundle.specs.Lies.{sizeOf, Stands, Lies}
 use Rattle.bundle.proofs.Lying.{lies-next, lies-none}
 use Rattle.messages.specs.Counting.{each, need}
 use Rattle.messages.proofs.Walking.{drop-next, drop-end}
-use Rattle.machine.specs.Machine.{State, Processor, processorOf, stampOf, next, takes, after, moved, stampIn}
+use Rattle.machine.specs.Machine.{State, processorOf, stampOf, next, takes, moved, stampIn}
 use Rattle.machine.specs.Runs.{left}
 use Rattle.state.specs.Tracks.{Tracks}
-use Rattle.machine.proofs.Steps.{other, self, left-moved, length-posted}
+use Rattle.machine.proofs.Steps.{each-of, left-moved, length-posted}
 use Rattle.state.proofs.Lows.{Low}
 
 module _ (s : Sheet) (b : Bundle) (sheet bundle w : List ℕ) (σ : State) (h : Tracks sheet bundle s b w σ) (k : ℕ) where
@@ -52,15 +51,6 @@ module _ (s : Sheet) (b : Bundle) (sheet bundle w : List ℕ) (σ : State) (h : 
 
     one-less : left b τ each + 1 ≡ left b σ each
     one-less = left-moved s b σ k c x (h .processors) e each
-
-    -- what is true of k after its command, and of the others as before, is true of all
-    each-of : (Q : ℕ → Processor → Type 0) → Q k (after s c x (processorOf σ k)) → ((j : ℕ) → (j ≡ k → ⊥) → j < programmeCount b → Q j (processorOf σ j))
-        → (j : ℕ) → j < programmeCount b → Q j (processorOf τ j)
-    each-of Q a f j l =
-        elim (ℕ-discrete j k) [
-          | yes q ↦ subst (λ (i : ℕ). Q i (processorOf τ i)) (sym q) (subst (Q k) (sym (self s b σ k c x (h .processors) e)) a)
-          | no d ↦ subst (Q j) (sym (other s b σ k c x j d)) (f j d l)
-        ]
 
     small : k < 16
     small = omega (arith, h .few, below)
@@ -104,6 +94,7 @@ module _ (s : Sheet) (b : Bundle) (sheet bundle w : List ℕ) (σ : State) (h : 
         → Tracks sheet bundle s b v τ
     tracks-moved stamped roomed =
         let less = one-less in
+        let of = each-of s b σ k c x (h .processors) e (programmeCount b) in
         record {
           fields = h .fields;
           long = omega (arith, h .long, low .long);
@@ -115,14 +106,14 @@ module _ (s : Sheet) (b : Bundle) (sheet bundle w : List ℕ) (σ : State) (h : 
           processors = length-set (σ .processors) k _ ∙ h .processors;
           stamps = length-posted s c (processorOf σ k .clock) (σ .stamps) ∙ h .stamps;
           lies =
-              each-of (λ j p. Lies (taskCount s) (linkCount s) bundle (getD v (32 + j) 0) (getD v (suc j) 0) (drop (p .position) (programmeOf b j)))
+              of (λ j p. Lies (taskCount s) (linkCount s) bundle (getD v (32 + j) 0) (getD v (suc j) 0) (drop (p .position) (programmeOf b j)))
               (rw (low .at, bound k below) lying) (λ j d l. rw (their-at j d l, bound j l) (h .lies j l));
-          position = each-of (λ j p. getD v (48 + j) 0 ≡ p .position) (omega (arith, low .position)) (λ j d l. their-position j d l ∙ h .position j l);
-          clock = each-of (λ j p. getD v (64 + j) 0 ≡ p .clock) (low .clock) (λ j d l. their-clock j d l ∙ h .clock j l);
-          store = each-of (λ j p. getD v (80 + j) 0 ≡ p .store) (low .store) (λ j d l. their-store j d l ∙ h .store j l);
+          position = of (λ j p. getD v (48 + j) 0 ≡ p .position) (omega (arith, low .position)) (λ j d l. their-position j d l ∙ h .position j l);
+          clock = of (λ j p. getD v (64 + j) 0 ≡ p .clock) (low .clock) (λ j d l. their-clock j d l ∙ h .clock j l);
+          store = of (λ j p. getD v (80 + j) 0 ≡ p .store) (low .store) (λ j d l. their-store j d l ∙ h .store j l);
           stamp = stamped;
           room =
-              each-of
+              of
               (λ j p. (p .position + 65535 * left b τ each ≤ 4294901760) × (p .clock + 65535 * left b τ each ≤ 4294901760) × (p .store + 65535 * left b τ each ≤ 4294901760))
               (omega (arith, h .room k below .0), omega (arith, h .room k below .1), omega (arith, h .room k below .2))
               (λ j d l. (omega (arith, h .room j l .0), omega (arith, h .room j l .1), omega (arith, h .room j l .2)));
