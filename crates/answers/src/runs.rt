@@ -1,8 +1,6 @@
 // The machine's side of the interface, behind the test of the areas.
-ghost use mathlib.Core.Path.{_≡_};
 ghost use Prim.Native.Nat.{_≤_};
 ghost use lib.ListN.{length};
-ghost use Rattle.folds.specs.Folds.{bit};
 ghost use Rattle.workspace.specs.Area.{fixed};
 ghost use Rattle.machine.specs.Machine.{freshState};
 ghost use Rattle.machine.specs.Runs.{runOf};
@@ -38,16 +36,6 @@ pub fn run(
         Judged::Refused(r, at) => Outcome::Refused(r, at),
         Judged::Fit(_, _, _) => Outcome::Done(loaded::steps::run(choices, state)),
     }
-}
-
-// 1 for true, 0 for false.
-pub fn counted(b: bool) -> u64
-    ensures { λ r. ⌜ r ≡ bit b ⌝ }
-{
-    if b {
-        return 1;
-    }
-    0
 }
 
 // Clock, position and store in use of processor k.

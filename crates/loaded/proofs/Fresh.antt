@@ -24,6 +24,7 @@ use Rattle.machine.proofs.Runs.{fresh-processor, fresh-left}
 use Rattle.loaded.specs.Words.{nextIn, clockIn, storeIn, firstIn, lastIn}
 use Rattle.loaded.specs.Keeps.{Decoded, Keeps}
 use Rattle.loaded.specs.Loads.{ProgrammeIs, LoadIs}
+use Rattle.loaded.proofs.Loading.{decoded-same}
 use Rattle.loaded.specs.Opened.{Opens, Opened, WipeIs, EmptyIs, OneIs, Given, AllIs}
 
 -- the words that are there are cleared up to the last stamp, and the count of links is put
@@ -89,17 +90,6 @@ module _ (w last : List ℕ) (k x y : ℕ) (el : last ≡ set (set (set w (4 * k
           ∙ getD-set-other (set (set w (4 * k) x) (4 * k + 3) x) (64 + k) (4 * k) y 0 (λ z. omega arith)
           ∙ getD-set-other (set w (4 * k) x) (4 * k + 3) (4 * k) x 0 (λ z. omega arith)
           ∙ getD-set-same w (4 * k) x 0 (omega arith)
-
--- commands stand in other words that agree from 80 on up to the index z
-decoded-same : (s : Sheet) (w v : List ℕ) (a z : ℕ) (cs : List Command) → ((i : ℕ) → 80 ≤ i → i < z → getD v i 0 ≡ getD w i 0) → 80 ≤ a → a + 2 * length cs < z
-    → Decoded s w a cs → Decoded s v a cs
-decoded-same s w v a z cs same low high h =
-    record {
-      known = h .known;
-      code = λ i l. same (a + 2 * i) (omega arith) (omega arith) ∙ h .code i l;
-      amount = λ i l. same (a + 2 * i + 1) (omega arith) (omega arith) ∙ h .amount i l;
-      end = same (a + 2 * length cs) (omega arith) (omega arith) ∙ h .end;
-    }
 
 -- the first k processors have the empty programme at command c, in the words w that were v
 pub record Emptying (v w : List ℕ) (c k : ℕ) : Type 0 where
@@ -214,7 +204,7 @@ module _ (sheet bundle from w u last : List ℕ) (n k c x e r : ℕ) (near : k <
           last = placed-last u last k _ _ el near fits ∙ r-fits ∙ omega arith;
           decoded =
               rw f
-              (decoded-same s u last (2 * c) (r + 1) (getD qs k []) (λ i h l. placed-high u last k _ _ el near i (omega arith)) (omega arith) (omega arith) decoded);
+              (decoded-same s u last (2 * c) (r + 1) (getD qs k []) (λ i h l. placed-high u last k _ _ el near i (omega arith)) (omega arith) decoded);
         }
 
     -- the others
@@ -230,7 +220,7 @@ module _ (sheet bundle from w u last : List ℕ) (n k c x e r : ℕ) (near : k <
           last = placed-last-else u last k _ _ el near j h d ∙ low (64 + j) (omega arith) ∙ o .last ∙ omega arith;
           decoded =
               rw f
-              (decoded-same s w last (2 * firstIn w j) (2 * c) (getD ps j []) (λ i l m. placed-high u last k _ _ el near i (omega arith) ∙ low i m) (omega (arith, o .low)) (omega (arith, o .high)) (o .decoded));
+              (decoded-same s w last (2 * firstIn w j) (2 * c) (getD ps j []) (λ i l m. placed-high u last k _ _ el near i (omega (arith, o .low)) ∙ low i m) (omega (arith, o .high)) (o .decoded));
         }
 
     more : Opened s last (r / 2 + 1) qs

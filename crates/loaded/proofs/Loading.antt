@@ -14,6 +14,7 @@ use Rattle.bundle.specs.Fits.{Known}
 use Rattle.bundle.specs.Lies.{sizeOf, Stands, Lies}
 use Rattle.bundle.proofs.Lying.{lies-next, lies-none}
 use Rattle.messages.specs.Fields.{Fields}
+use Rattle.messages.proofs.Noted.{stands-known}
 use Rattle.messages.proofs.Walking.{stands-run, drop-short}
 use Rattle.loaded.specs.Words.{codeOf, amountOf}
 use Rattle.loaded.specs.Keeps.{Decoded}
@@ -76,10 +77,15 @@ module _ (sheet bundle w last : List ℕ) (n o at : ℕ) where
           let d : 2144 + l + 2048 * r ≡ 4096 + (96 + x) = omega (arith, h .1) in
           (these (codeOf (receive x)) (bytesOf s x) (ap (λ (j : ℕ). j % 4294967296) d ∙ small (4096 + (96 + x)) (omega (arith, h .2))) (omega arith), refl)
 
-stands-known : (s : Sheet) (bundle : List ℕ) (o : ℕ) (c : Command) → Stands (taskCount s) (linkCount s) bundle o c → Known s c
-stands-known s bundle o (run t) h = h .2
-stands-known s bundle o (send l) h = h .2
-stands-known s bundle o (receive l) h = h .2
+-- commands stand in other words that agree from the first of them up to the index z
+pub decoded-same : (s : Sheet) (w v : List ℕ) (a z : ℕ) (cs : List Command) → ((i : ℕ) → a ≤ i → i < z → getD v i 0 ≡ getD w i 0) → a + 2 * length cs < z → Decoded s w a cs → Decoded s v a cs
+decoded-same s w v a z cs same high h =
+    record {
+      known = h .known;
+      code = λ i l. same (a + 2 * i) (omega arith) (omega arith) ∙ h .code i l;
+      amount = λ i l. same (a + 2 * i + 1) (omega arith) (omega arith) ∙ h .amount i l;
+      end = same (a + 2 * length cs) (omega arith) (omega arith) ∙ h .end;
+    }
 
 -- the command at place i, where more are left from there on
 drop-head : (p : List Command) (i : ℕ) (c : Command) (r : List Command) → drop i p ≡ c ∷ r → (i < length p) × (getD p i (run 0) ≡ c) × (drop (suc i) p ≡ r)

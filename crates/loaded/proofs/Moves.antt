@@ -15,6 +15,7 @@ use Rattle.machine.specs.Runs.{left}
 use Rattle.machine.proofs.Steps.{each-of, left-moved, length-posted}
 use Rattle.loaded.specs.Words.{nextIn, clockIn, storeIn, firstIn, placedWords, steppedWords}
 use Rattle.loaded.specs.Keeps.{Decoded, Programmed, Keeps}
+use Rattle.loaded.proofs.Loading.{decoded-same}
 
 -- the command at a place of a programme, and none behind it
 pub command-at : (p : List Command) (i : ℕ) → i < length p → getElem? p i ≡ some (getD p i (run 0))
@@ -63,15 +64,9 @@ module _ {links : ℕ} {w v : List ℕ} {k n c x : ℕ} (near : k < 16) (m : Mov
         last = λ j l. above (64 + j) (omega arith) (inl (omega arith)) ∙ h .last j l ∙ ap (λ (x : ℕ). x + length (programmeOf b j)) (sym (first-same j l));
         decoded =
             λ j l.
-            let d = h .decoded j l in
             let f = h .low j l in
             subst (λ (x : ℕ). Decoded s v (2 * x) (programmeOf b j)) (sym (first-same j l))
-            (record {
-              known = d .known;
-              code = λ i n. above (2 * firstIn w j + 2 * i) (omega arith) (inr (omega arith)) ∙ d .code i n;
-              amount = λ i n. above (2 * firstIn w j + 2 * i + 1) (omega arith) (inr (omega arith)) ∙ d .amount i n;
-              end = above (2 * firstIn w j + 2 * length (programmeOf b j)) (omega arith) (inr (omega arith)) ∙ d .end;
-            });
+            (decoded-same s w v (2 * firstIn w j) (2 * firstIn w j + 2 * length (programmeOf b j) + 1) (programmeOf b j) (λ i n o. above i (omega arith) (inr (omega arith))) (omega arith) (h .decoded j l));
       }
 
   module _ (j : ℕ) (d : j ≡ k → ⊥) (l : j < 16) where

@@ -99,7 +99,7 @@ pub fn step(w: &mut [u32], k: usize) -> bool
 }
 
 // 1 for true, 0 for false.
-fn counted(b: bool) -> usize
+pub fn counted(b: bool) -> usize
     ensures { λ r. ⌜ r ≡ bit b ⌝ }
 {
     if b {

@@ -232,7 +232,7 @@ pub extern "C" fn zeldrupa_step(
 {
     if 8816 <= state.len() {
         let stepped = loaded::steps::step(state, choice as usize);
-        *place = runs::counted(stepped);
+        *place = loaded::steps::counted(stepped) as u64;
         return 0;
     }
     *place = 8816;
