@@ -38,7 +38,7 @@ module _ (s : Sheet) (σ : Schedule) (t k a b : ℕ) (g : Placeable s σ t k) wh
   unfolding finishOf
   finish-same = getD-set-same (σ .finish) t b 0 (rw (g .finish-long) (g .task))
 
-  free-off : placed σ t ≡ false
+  pub free-off : placed σ t ≡ false
   unfolding placed
   free-off = let e = g .free in le-ltb (placeOf σ t) 16 (omega arith)
 
@@ -58,7 +58,7 @@ module _ (s : Sheet) (σ : Schedule) (t k a b : ℕ) (g : Placeable s σ t k) wh
   unfolding stands
   stands-now j = ap (λ (x : ℕ). eqb x j) place-same
 
-  not-t : (u : ℕ) → placed σ u ≡ true → u ≡ t → ⊥
+  pub not-t : (u : ℕ) → placed σ u ≡ true → u ≡ t → ⊥
   not-t u p e = true≢false (sym p ∙ ap (placed σ) e ∙ free-off)
 
   -- before any link out of t is lit

@@ -9,7 +9,7 @@ use lib.Seq.{getD-set-same, getD-set-other, set-getD}
 use Rattle.folds.specs.Folds.{greatest}
 use Rattle.folds.proofs.Tests.{equal-or}
 use Rattle.folds.proofs.Loops.{greatest-zero}
-use Rattle.folds.proofs.Laws.{greatest-cong, greatest-is, greatest-some, greatest-split, term-le-greatest}
+use Rattle.folds.proofs.Laws.{greatest-cong, greatest-is, greatest-point, greatest-some, greatest-split, term-le-greatest}
 use Rattle.keys.specs.Keys.{keyBy, Blocked, Changed}
 
 one-more : (n : ℕ) (f : ℕ → ℕ) → greatest (suc n) f ≡ max (greatest n f) (f n)
@@ -79,16 +79,24 @@ module _ {q : List ℕ} (k : Blocked q) (i x : ℕ) (h : i < 512) where
           others = λ j l n. last-key j l ∙ others j n;
         }
 
-  -- its block's greatest is x, if none was more
+  -- its block's greatest rises with it
+  pub raised : getD q i 0 ≤ x → max (getD q (512 + i / 16) 0) x ≡ greatest 16 (keyBy (set q i x) (16 * (i / 16)))
+  unfolding keyBy
+  raised le =
+      let e : 16 * (i / 16) + i % 16 ≡ i = omega arith in
+      ap (λ (m : ℕ). max m x) (k .most (i / 16) (omega arith))
+      ∙ sym
+      (greatest-point 16 (λ j. getD q (16 * (i / 16) + j) 0) (λ j. getD (set q i x) (16 * (i / 16) + j) 0) (i % 16) x (omega arith)
+      (omega (arith, ap (λ (n : ℕ). getD (set q i x) n 0) e, ap (λ (n : ℕ). getD q n 0) e, here))
+      (λ j l n. others (16 * (i / 16) + j) (λ d. n (omega arith))))
+
+  -- it is x, if none was more
   pub risen : getD q (512 + i / 16) 0 ≤ x → x ≡ greatest 16 (keyBy (set q i x) (16 * (i / 16)))
   unfolding keyBy
   risen le =
-      sym
-      (greatest-is 16 (λ j. getD (set q i x) (16 * (i / 16) + j) 0) (i % 16) x (omega arith) (ap (λ (n : ℕ). getD (set q i x) n 0) (omega arith) ∙ here)
-      (λ j l. ⊎-elim
-      (λ d. omega (arith, ap (λ (n : ℕ). getD (set q i x) n 0) d, here))
-      (λ d. omega (arith, others (16 * (i / 16) + j) d, k .most (i / 16) (omega arith), term-le-greatest 16 (λ m. getD q (16 * (i / 16) + m) 0) j l))
-      (equal-or (16 * (i / 16) + j) i)))
+      let e : 16 * (i / 16) + i % 16 ≡ i = omega arith in
+      let m = term-le-greatest 16 (λ j. getD q (16 * (i / 16) + j) 0) (i % 16) (omega arith) in
+      omega (arith, raised (omega (arith, m, k .most (i / 16) (omega arith), ap (λ (n : ℕ). getD q n 0) e)))
 
   -- it stays, if it was not that key and is more than x
   pub stays : x < getD q (512 + i / 16) 0 → getD q i 0 ≢ getD q (512 + i / 16) 0 → getD q (512 + i / 16) 0 ≡ greatest 16 (keyBy (set q i x) (16 * (i / 16)))

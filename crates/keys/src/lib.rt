@@ -1,7 +1,7 @@
 // A table of 512 keys, and behind them the greatest of each block of sixteen, so that the greatest of half the table takes sixteen steps.
 ghost use mathlib.Core.Path.{_≡_};
 ghost use Prim.Native.Nat.{_+_, _<_, _≤_, max};
-ghost use lib.ListN.{length};
+ghost use lib.ListN.{length, getD};
 ghost use Rattle.folds.specs.Folds.{greatest};
 ghost use Rattle.keys.specs.Keys.{keyBy, Blocked, Changed};
 
@@ -45,4 +45,16 @@ pub fn put(q: &mut [u64], i: usize, x: u64)
     if old == most {
         q[512 + b] = greatest_of(q, 16 * b);
     }
+}
+
+// Key i rises to x, and its block's greatest with it; without a branch, since neither can be foretold.
+pub fn raise(q: &mut [u64], i: usize, x: u64)
+    requires { ⌜ Blocked (now q) ⌝ }
+    requires { ⌜ (i < 512) × (getD (now q) i 0 ≤ x) ⌝ }
+    ensures { λ _. ⌜ Changed (now (q .entry)) (now (q .exit)) i x ⌝ }
+{
+    let b = i / 16;
+    let most = q[512 + b];
+    q[i] = x;
+    q[512 + b] = greater(most, x);
 }

@@ -1,18 +1,29 @@
 -- What is kept of a task's links says whether it is ready, or partly, and when its messages are there.
 use Prim.Native.Nat.{ℕ, _+_, _≤_, _<_}
 use mathlib.Core.Bool.{Bool, true, false, not}
-use mathlib.Core.Path.{_≡_, refl, ap, sym, _∙_}
+use mathlib.Core.Path.{_≡_, refl, ap, ap₂, sym, _∙_}
+use mathlib.Core.Logic.{_≢_}
 use mathlib.Core.List.{List}
 use native.Mathlib.Omega.{arith}
-use borrow.Author.Tests.{lt-ltb, le-ltb}
+use borrow.Author.Tests.{eq-eqb, ne-eqb, lt-ltb, le-ltb}
 use lib.ListN.{getD}
 use lib.Dec.{eqb, ltb}
 use Rattle.folds.specs.Folds.{pick, both, either, all, any, sum}
-use Rattle.folds.proofs.Laws.{all-eqb, any-ltb, sum-zeros}
+use Rattle.folds.proofs.Tests.{both-false}
+use Rattle.folds.proofs.Laws.{all-eqb, any-ltb, sum-mono, sum-zeros}
 use Rattle.sheet.specs.Sheet.{Sheet, taskCount, linkCount, sourceOf, targetOf}
 use Rattle.planner.specs.Schedule.{Schedule, placed}
 use Rattle.planner.specs.Placing.{comes, lacks, satisfied, ready, partlyReady, arrivalBy, arrival}
 use Rattle.arrivals.specs.Kept.{countedBy, into, oneBy, known, Caches}
+
+module _ (s : Sheet) (σ : Schedule) (t : ℕ) where
+  pub placed-ready : placed σ t ≡ true → false ≡ ready s σ t
+  unfolding ready
+  placed-ready e = rw e
+
+  pub placed-partly : placed σ t ≡ true → false ≡ partlyReady s σ t
+  unfolding partlyReady
+  placed-partly e = rw e
 
 module _ {s : Sheet} {σ : Schedule} {w : List ℕ} (c : Caches s σ w) (t : ℕ) (h : t < taskCount s) where
   pub arrival-kept : getD w (6944 + t) 0 ≡ arrival s σ t
@@ -23,6 +34,12 @@ module _ {s : Sheet} {σ : Schedule} {w : List ℕ} (c : Caches s σ w) (t : ℕ
   less true true = omega arith
   less true false = omega arith
   less false b = omega arith
+
+  few : getD w (6688 + t) 0 ≤ getD w (6176 + t) 0
+  unfolding countedBy
+  few =
+      rw (c .counted .seen t h, c .gathered .number t h)
+      (sum-mono (linkCount s) (countedBy (into s t) oneBy (known s σ)) (countedBy (into s t) oneBy (λ l. true)) (λ l k. less (eqb (targetOf s l) t) (placed σ (sourceOf s l))))
 
   -- as many links are known as there are
   satisfied-kept : eqb (getD w (6688 + t) 0) (getD w (6176 + t) 0) ≡ all (linkCount s) (satisfied s σ t)
@@ -76,10 +93,11 @@ module _ {s : Sheet} {σ : Schedule} {w : List ℕ} (c : Caches s σ w) (t : ℕ
     pub partly-none : placed σ t ≡ false → x ≤ 0 → false ≡ partlyReady s σ t
     partly-none e l = ap (λ (b : Bool). both b (ltb x n)) (sym (le-ltb 0 x l)) ∙ partly-is e
 
-  pub placed-ready : placed σ t ≡ true → false ≡ ready s σ t
-  unfolding ready
-  placed-ready e = rw e
+    -- t waits for none
+    pub all-known : placed σ t ≡ false → x ≡ n → (true ≡ ready s σ t) × (false ≡ partlyReady s σ t)
+    all-known e q = (sym (eq-eqb x n q) ∙ ready-kept e, sym (ap (both (ltb 0 x)) (le-ltb x n (omega arith)) ∙ both-false (ltb 0 x)) ∙ partly-is e)
 
-  pub placed-partly : placed σ t ≡ true → false ≡ partlyReady s σ t
-  unfolding partlyReady
-  placed-partly e = rw e
+    -- t waits for some, and not for all
+    pub some-known : placed σ t ≡ false → any (linkCount s) (comes s σ t) ≡ true → x ≢ n → (false ≡ ready s σ t) × (true ≡ partlyReady s σ t)
+    some-known e some q =
+        (sym (ne-eqb x n q) ∙ ready-kept e, sym (ap₂ both (ap (ltb 0) ex ∙ comes-kept ∙ some) (lt-ltb x n (omega (arith, few)))) ∙ partly-is e)

@@ -1,27 +1,32 @@
 -- The table of keys, when the keys of one task are renewed, and along the links of a task that was placed.
 use Prim.Native.Nat.{ℕ, _+_, _*_, _≤_, _<_}
-use mathlib.Core.Bool.{Bool, not}
-use mathlib.Core.Path.{_≡_, ap, ap₂, sym, _∙_, subst}
+use mathlib.Core.Bool.{Bool, true, false, not, true≢false}
+use mathlib.Core.Path.{_≡_, refl, ap, ap₂, sym, _∙_, subst}
 use mathlib.Core.Logic.{_≢_, ⊎-elim}
 use mathlib.Core.List.{List}
 use native.Mathlib.Omega.{arith}
 use native.Mathlib.Decide.{ℕ-discrete, decLt}
-use borrow.Author.Tests.{ne-eqb}
+use borrow.Author.Tests.{eq-eqb, ne-eqb}
 use lib.ListN.{getD, replicate, length-replicate}
 use lib.Dec.{eqb}
-use Rattle.folds.specs.Folds.{pick, both, either, greatest}
-use Rattle.folds.proofs.Tests.{equal-or}
+use Rattle.folds.specs.Folds.{pick, both, either, any, greatest}
+use Rattle.folds.proofs.Tests.{equal-or, both-false, parts-both, pick-le}
 use Rattle.folds.proofs.Lists.{getD-replicate}
-use Rattle.folds.proofs.Laws.{greatest-le, greatest-cong, any-cong, all-cong}
-use Rattle.keys.specs.Keys.{keyBy, Changed}
+use Rattle.folds.proofs.Laws.{greatest-le, greatest-mono, greatest-cong, any-found, none-any, any-cong, all-cong}
+use Rattle.keys.specs.Keys.{keyBy, Blocked, Changed}
 use Rattle.sheet.specs.Sheet.{Sheet, taskCount, linkCount, sourceOf, targetOf, costOf}
 use Rattle.sheet.specs.Tables.{Ranged}
 use Rattle.planner.specs.Schedule.{Schedule, placed, finishOf, put}
 use Rattle.planner.specs.Placing.{comes, lacks, satisfied, ready, partlyReady, arrivalBy, arrival, priority}
+use Rattle.planner.proofs.Ready.{ready-source}
 use Rattle.planner.proofs.Schedules.{finish-other, placed-other}
 use Rattle.chains.specs.Chains.{Chained}
 use Rattle.chains.specs.declared.End.the-variants.{Source}
-use Rattle.readiness.specs.Keyed.{keyOf, readyKey, partlyKey, Fresh, Blank, Renewed, Keyed, KeyedTo, Passed, KeyedPast, KeyedBeside}
+use Rattle.arrivals.specs.Kept.{Single}
+use Rattle.arrivals.specs.Steps.{Placeable}
+use Rattle.arrivals.proofs.Placing.{free-off, not-t, now-on, landed}
+use Rattle.readiness.proofs.Counts.{placed-ready, placed-partly}
+use Rattle.readiness.specs.Keyed.{keyOf, readyKey, partlyKey, Fresh, Blank, Renewed, Waiting, Keyed, KeyedTo, Passed, KeyedPast, KeyedBeside}
 
 pub ready-key : (s : Sheet) (σ : Schedule) (t : ℕ) {r x : ℕ} {b : Bool} → r ≡ pick b x 0 → b ≡ ready s σ t → x ≡ keyOf s σ t → r ≡ readyKey s σ t
 unfolding readyKey
@@ -30,6 +35,10 @@ ready-key s σ t e eb ex = e ∙ ap₂ (λ (b : Bool) (x : ℕ). pick b x 0) eb 
 pub partly-key : (s : Sheet) (σ : Schedule) (t : ℕ) {r x : ℕ} {b : Bool} → r ≡ pick b x 0 → b ≡ partlyReady s σ t → x ≡ keyOf s σ t → r ≡ partlyKey s σ t
 unfolding partlyKey
 partly-key s σ t e eb ex = e ∙ ap₂ (λ (b : Bool) (x : ℕ). pick b x 0) eb ex
+
+-- key i stays
+pub as-was : {q : List ℕ} → Blocked q → (i : ℕ) → Changed q q i (getD q i 0)
+as-was b i = record { blocked = b; here = refl; others = λ j l n. refl }
 
 -- the walk over the links from t has come to link l
 pub record Walking (s : Sheet) (σ : Schedule) (t l : ℕ) (q : List ℕ) : Type 0 where
@@ -54,6 +63,9 @@ module _ {s : Sheet} {σ : Schedule} where
     still-blank : {u : ℕ} → u < 256 → u ≢ t → Blank q u → Blank q′ u
     still-blank {u} h n f = record { ready = r .ready u h n ∙ f .ready; partly = r .partly u h n ∙ f .partly }
 
+    still-waiting : {u : ℕ} → u < 256 → u ≢ t → Waiting s σ q u → Waiting s σ q′ u
+    still-waiting {u} h n f = record { free = f .free; known = f .known; ready = r .ready u h n ∙ f .ready; partly = omega (arith, r .partly u h n, f .partly) }
+
     now-fresh : {u : ℕ} → u < 256 → (u ≢ t → Fresh s σ q u) → Fresh s σ q′ u
     now-fresh {u} h f = ⊎-elim (λ e. rw e (r .fresh)) (λ n. still-fresh h n (f n)) (equal-or u t)
 
@@ -66,15 +78,22 @@ module _ {s : Sheet} {σ : Schedule} where
           blank = λ u l m. still-blank m (omega arith) (k .blank u (omega arith) m);
         }
 
-    module _ (ranged : Ranged s) (h : t < taskCount s) where
-      -- the task itself
-      pub past-begins : KeyedBeside s σ t q → KeyedPast s σ t 0 q′
-      past-begins k =
-          record {
-            blocked = r .blocked;
-            fresh = λ u l p. now-fresh (omega (arith, ranged .few-tasks)) (λ n. k .fresh u l n p);
-            blank = λ u l m. still-blank m (omega arith) (k .blank u l m);
-          }
+  -- the keys of a placed task
+  gone : {q q′ : List ℕ} (t : ℕ) → t < 256 → placed σ t ≡ true → getD q (256 + t) 0 ≡ 0 → Changed q q′ t 0 → Renewed s σ q q′ t
+  gone t h on p c =
+      renewed-by h c (as-was (c .blocked) (256 + t)) (ready-key s σ t {b = false} refl (placed-ready s σ t on) refl)
+      (partly-key s σ t {b = false} (c .others (256 + t) (omega arith) (omega arith) ∙ p) (placed-partly s σ t on) refl)
+
+  -- the task itself
+  pub past-begins : {q q′ : List ℕ} (t : ℕ) → Ranged s → t < taskCount s → Changed q q′ t 0 → KeyedBeside s σ t q → KeyedPast s σ t 0 q′
+  past-begins t ranged h c k =
+      let r = gone t (omega (arith, ranged .few-tasks)) (k .on) (k .partly) c in
+      record {
+        blocked = r .blocked;
+        fresh = λ u l p. now-fresh r (omega (arith, ranged .few-tasks)) (λ n. k .fresh u l n p);
+        waiting = λ i l m o. let f = k .waiting i m o in still-waiting r (omega (arith, ranged .few-tasks, ranged .target i m)) (λ e. true≢false (sym (k .on) ∙ ap (placed σ) (sym e) ∙ f .free)) f;
+        blank = λ u l m. still-blank r m (omega arith) (k .blank u l m);
+      }
 
   pub keyed-at : {t : ℕ} {q : List ℕ} → KeyedTo s σ t q → t ≡ taskCount s → Keyed s σ q
   keyed-at {q = q} k e = record { keys = subst (λ (n : ℕ). KeyedTo s σ n q) e k }
@@ -110,6 +129,7 @@ module _ {s : Sheet} {σ : Schedule} where
           keys = record {
             blocked = k .blocked;
             fresh = λ u m p. k .fresh u m (record { none-leads = λ i a b o. go p i b o (decLt i l) });
+            waiting = λ i a b o. k .waiting i (omega arith) b o;
             blank = k .blank;
           };
         }
@@ -118,14 +138,17 @@ module _ {s : Sheet} {σ : Schedule} where
         go p i b o (yes c) = absurd (chained .head-none t h i (omega (arith, e)) o)
         go p i b o (no c) = p .none-leads i (omega arith) b o
 
-    pub walk-more : {l l′ v : ℕ} {q q′ : List ℕ} → l < linkCount s → l′ ≡ getD w (5152 + l) 0 → l′ ≤ linkCount s → v ≡ targetOf s l → Renewed s σ q q′ v → Walking s σ t l q → Walking s σ t l′ q′
-    walk-more {l} {l′} {v} b e few ev r g =
+    pub walk-more : Single s → {l l′ v : ℕ} {q q′ : List ℕ} → l < linkCount s → l′ ≡ getD w (5152 + l) 0 → l′ ≤ linkCount s → v ≡ targetOf s l → Renewed s σ q q′ v → Walking s σ t l q → Walking s σ t l′ q′
+    walk-more single {l} {l′} {v} b e few ev r g =
         record {
           here = few;
           own = λ x. rw e (chained .next-own l b (rw e at x)) ∙ g .own b;
           keys = record {
             blocked = r .blocked;
             fresh = λ u m p. now-fresh r (omega (arith, ranged .few-tasks)) (λ n. g .keys .fresh u m (record { none-leads = λ i a c o. go n p i a c o (ℕ-discrete i l) (decLt i l′) }));
+            waiting =
+                λ i a c o. still-waiting r (omega (arith, ranged .few-tasks, ranged .target i c))
+                (λ d. absurd (omega (arith, e, chained .next-more l b, single .once i l c b (o ∙ sym (g .own b)) (d ∙ ev)))) (g .keys .waiting i (omega (arith, e, chained .next-more l b)) c o);
             blank = λ u m c. still-blank r c (omega (arith, ev, ranged .target l b)) (g .keys .blank u m c);
           };
         }
@@ -134,6 +157,9 @@ module _ {s : Sheet} {σ : Schedule} where
         go n p i a c o (yes d) f = λ x. n (sym x ∙ ap (targetOf s) d ∙ sym ev)
         go n p i a c o (no d) (yes f) = absurd (chained .next-none l b i (omega arith) (omega (arith, e)) (o ∙ sym (g .own b)))
         go n p i a c o (no d) (no f) = p .none-leads i (omega arith) c o
+
+  pub target-waits : (t : ℕ) {l v : ℕ} {q : List ℕ} → v ≡ targetOf s l → l < linkCount s → Walking s σ t l q → Waiting s σ q v
+  target-waits t {l} e h g = rw e (g .keys .waiting l (omega arith) h (g .own h))
 
   pub walk-done : {t l : ℕ} {q : List ℕ} → linkCount s ≤ l → Walking s σ t l q → Keyed s σ q
   walk-done h g = let k = g .keys in record { keys = record { blocked = k .blocked; fresh = λ u m. k .fresh u m (record { none-leads = λ i a b o. absurd (omega arith) }); blank = k .blank } }
@@ -205,5 +231,57 @@ module _ (s : Sheet) (σ : Schedule) (t k a f : ℕ) where
           partly = c .partly ∙ sym (ap₂ (λ (b : Bool) (x : ℕ). pick b x 0) partly-same key-same);
         }
 
-  pub keyed-beside : {q : List ℕ} → Keyed s σ q → KeyedBeside s σ′ t q
-  keyed-beside c = record { blocked = c .keys .blocked; fresh = λ u h n p. stays-fresh u n p (c .keys .fresh u h); blank = c .keys .blank }
+  module _ (g : Placeable s σ t k) where
+    -- of the messages to u none was later before
+    arrival-by-rises : (u l : ℕ) → arrivalBy s σ u l ≤ arrivalBy s σ′ u l
+    unfolding arrivalBy comes
+    arrival-by-rises u l = go (ℕ-discrete (sourceOf s l) t)
+      where
+        go : Dec (sourceOf s l ≡ t) → pick (both (eqb (targetOf s l) u) (placed σ (sourceOf s l))) (finishOf σ (sourceOf s l) + costOf s l) 0 ≤ pick (both (eqb (targetOf s l) u) (placed σ′ (sourceOf s l))) (finishOf σ′ (sourceOf s l) + costOf s l) 0
+        go (yes e) = rw (e, free-off s σ t k a f g, both-false (eqb (targetOf s l) u)) (omega arith)
+        go (no e) = rw (placed-other σ t k a f (sourceOf s l) e, finish-other σ t k a f (sourceOf s l) e) (omega arith)
+
+    key-rises : (u : ℕ) → keyOf s σ u ≤ keyOf s σ′ u
+    unfolding keyOf priority arrival
+    key-rises u = omega (arith, greatest-mono (linkCount s) (arrivalBy s σ u) (arrivalBy s σ′ u) (λ l h. arrival-by-rises u l))
+
+    -- a link from t leads to u
+    module _ (i : ℕ) (h : i < linkCount s) (o : sourceOf s i ≡ t) where
+      abbrev u : ℕ
+      u = targetOf s i
+
+      not-ready : (b : Bool) → ready s σ u ≡ b → readyKey s σ u ≡ 0
+      unfolding readyKey
+      not-ready true e = absurd (not-t s σ t k a f g (sourceOf s i) (ready-source s σ u i e h refl) o)
+      not-ready false e = rw e
+
+      waits : {q : List ℕ} → Fresh s σ q u → Waiting s σ′ q u
+      unfolding comes partlyKey
+      waits c =
+          let now = landed s σ t k a f g in
+          record {
+            free = now .before i h o;
+            known = any-found (linkCount s) (comes s σ′ u) i h (parts-both (eqb u u) (placed σ′ (sourceOf s i)) (eq-eqb u u refl) (ap (placed σ′) o ∙ now .on));
+            ready = c .ready ∙ not-ready (ready s σ u) refl;
+            partly = omega (arith, c .partly, pick-le (partlyReady s σ u) (keyOf s σ u) 0 (keyOf s σ u) (omega arith) (omega arith), key-rises u);
+          }
+
+    -- t, whose predecessors are placed, was not partly ready
+    not-partly : partlyKey s σ t ≡ 0
+    unfolding partlyKey partlyReady lacks
+    not-partly = rw (none-any (linkCount s) (lacks s σ t) (λ l h. go l h (ℕ-discrete (targetOf s l) t)), both-false (any (linkCount s) (comes s σ t)), both-false (not (placed σ t)))
+      where
+        go : (l : ℕ) → l < linkCount s → Dec (targetOf s l ≡ t) → both (eqb (targetOf s l) t) (not (placed σ (sourceOf s l))) ≡ false
+        go l h (yes e) = rw (g .ready l h e) (both-false (eqb (targetOf s l) t))
+        go l h (no e) = rw (ne-eqb (targetOf s l) t e)
+
+    pub keyed-beside : {q : List ℕ} → Keyed s σ q → KeyedBeside s σ′ t q
+    keyed-beside c =
+        record {
+          blocked = c .keys .blocked;
+          on = now-on s σ t k a f g;
+          partly = c .keys .fresh t (g .task) .partly ∙ not-partly;
+          fresh = λ u h n p. stays-fresh u n p (c .keys .fresh u h);
+          waiting = λ i h o. waits i h o (c .keys .fresh (targetOf s i) (g .ranged .target i h));
+          blank = c .keys .blank;
+        }

@@ -1,17 +1,18 @@
 -- The key of a task says in one number who goes first: by priority, then by level, then by the lower task number.
 -- The table of keys holds, for each task, the key that it has while it is ready, and 256 behind the one that it has while it is partly ready.
 use Prim.Native.Nat.{ℕ, _+_, _*_, _-_, _≤_, _<_}
+use mathlib.Core.Bool.{true, false}
 use mathlib.Core.Path.{_≡_}
 use mathlib.Core.Logic.{_≢_}
 use mathlib.Core.Option.{Option}
 use mathlib.Core.List.{List}
 use lib.ListN.{getD}
-use Rattle.folds.specs.Folds.{pick}
+use Rattle.folds.specs.Folds.{pick, any}
 use Rattle.keys.specs.Keys.{indexOf, Blocked}
 use Rattle.sheet.specs.Sheet.{Sheet, taskCount, linkCount, sourceOf, targetOf}
 use Rattle.graph.specs.Graph.{level}
-use Rattle.planner.specs.Schedule.{Schedule, finishOf}
-use Rattle.planner.specs.Placing.{ready, partlyReady, priority}
+use Rattle.planner.specs.Schedule.{Schedule, placed, finishOf}
+use Rattle.planner.specs.Placing.{comes, ready, partlyReady, priority}
 
 unfoldable pub keyOf : Sheet → Schedule → ℕ → ℕ
 keyOf s σ t = (priority s σ t * 33554432 + level s t + 1) * 256 + (255 - t)
@@ -61,14 +62,25 @@ pub record Keyed (s : Sheet) (σ : Schedule) (q : List ℕ) : Type 0 where
 pub record Passed (s : Sheet) (t l u : ℕ) : Type 0 where
   pub none-leads : (i : ℕ) → l ≤ i → i < linkCount s → sourceOf s i ≡ t → targetOf s i ≢ u
 
+-- u is not placed, a link from a placed task leads to it, and the table holds the keys from before that one was placed: u was not ready, and its key was no greater
+pub record Waiting (s : Sheet) (σ : Schedule) (q : List ℕ) (u : ℕ) : Type 0 where
+  pub free : placed σ u ≡ false
+  pub known : any (linkCount s) (comes s σ u) ≡ true
+  pub ready : getD q u 0 ≡ 0
+  pub partly : getD q (256 + u) 0 ≤ keyOf s σ u
+
 -- .. but not those of the tasks to which the links from t lead, from number l on
 pub record KeyedPast (s : Sheet) (σ : Schedule) (t l : ℕ) (q : List ℕ) : Type 0 where
   pub blocked : Blocked q
   pub fresh : (u : ℕ) → u < taskCount s → Passed s t l u → Fresh s σ q u
+  pub waiting : (i : ℕ) → l ≤ i → i < linkCount s → sourceOf s i ≡ t → Waiting s σ q (targetOf s i)
   pub blank : (u : ℕ) → taskCount s ≤ u → u < 256 → Blank q u
 
--- .. nor those of t
+-- .. nor those of t, which is placed now and was ready before
 pub record KeyedBeside (s : Sheet) (σ : Schedule) (t : ℕ) (q : List ℕ) : Type 0 where
   pub blocked : Blocked q
+  pub on : placed σ t ≡ true
+  pub partly : getD q (256 + t) 0 ≡ 0
   pub fresh : (u : ℕ) → u < taskCount s → u ≢ t → Passed s t 0 u → Fresh s σ q u
+  pub waiting : (i : ℕ) → i < linkCount s → sourceOf s i ≡ t → Waiting s σ q (targetOf s i)
   pub blank : (u : ℕ) → taskCount s ≤ u → u < 256 → Blank q u

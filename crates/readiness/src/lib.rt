@@ -12,7 +12,7 @@ ghost use Rattle.planner.specs.Placing.{ready, partlyReady, arrival, priority, 
 ghost use Rattle.levelling.specs.Found.{Levelled};
 ghost use Rattle.schedule.specs.Layout.{scheduleIn};
 ghost use Rattle.arrivals.specs.Kept.{Kept};
-ghost use Rattle.readiness.specs.Keyed.{keyOf, taskOf, Early, Renewed, Keyed, KeyedPast, KeyedBeside};
+ghost use Rattle.readiness.specs.Keyed.{keyOf, taskOf, Early, Renewed, Waiting, Keyed, KeyedPast, KeyedBeside};
 use chains::End;
 use sheet::tables;
 use words::Found;
@@ -104,6 +104,25 @@ fn renew_task(w: &[u32], q: &mut [u64], t: usize)
     keys::put(q, 256 + t, partly);
 }
 
+// The keys of t, to which a link from the task just placed leads: it was not ready before, and its key only rises.
+fn renew_target(w: &[u32], q: &mut [u64], t: usize)
+    requires { ⌜ Kept (now w) ⌝ }
+    requires { ⌜ Levelled (sheetIn (now w)) (now w) ⌝ }
+    requires { ⌜ Early (scheduleIn (now w)) ⌝ }
+    requires { ⌜ t < taskCount (sheetIn (now w)) ⌝ }
+    requires { ⌜ Blocked (now q) ⌝ }
+    requires { ⌜ Waiting (sheetIn (now w)) (scheduleIn (now w)) (now q) t ⌝ }
+    ensures { λ _. ⌜ Renewed (sheetIn (now (w .entry))) (scheduleIn (now (w .entry))) (now (q .entry)) (now (q .exit)) t ⌝ }
+{
+    let key = key_of(w, t);
+    if workspace::word(w, 6688 + t) == workspace::word(w, 6176 + t) {
+        keys::raise(q, t, key);
+        keys::put(q, 256 + t, 0);
+    } else {
+        keys::raise(q, 256 + t, key);
+    }
+}
+
 // The keys of the tasks to which the links from t lead.
 fn renew_targets(w: &[u32], q: &mut [u64], t: usize)
     requires { ⌜ Kept (now w) ⌝ }
@@ -116,7 +135,7 @@ fn renew_targets(w: &[u32], q: &mut [u64], t: usize)
     let m = tables::links(w);
     let mut l = chains::first(w, End::Source, t);
     while l < m {
-        renew_task(w, q, tables::target(w, l));
+        renew_target(w, q, tables::target(w, l));
         l = chains::next(w, End::Source, l);
     }
 }
@@ -130,7 +149,7 @@ pub fn renew(w: &[u32], q: &mut [u64], t: usize)
     requires { ⌜ KeyedBeside (sheetIn (now w)) (scheduleIn (now w)) t (now q) ⌝ }
     ensures { λ _. ⌜ Keyed (sheetIn (now (w .entry))) (scheduleIn (now (w .entry))) (now (q .exit)) ⌝ }
 {
-    renew_task(w, q, t);
+    keys::put(q, t, 0);
     renew_targets(w, q, t);
 }
 

@@ -7,6 +7,7 @@ use Rattle.sheet.specs.Sheet.{Sheet, taskCount, workOf}
 use Rattle.planner.specs.Schedule.{Schedule}
 use Rattle.planner.specs.Placing.{startOn, barred}
 use Rattle.planner.specs.Planner.{placedFrom}
+use Rattle.arrivals.specs.Steps.{Placeable}
 use Rattle.readiness.specs.Keyed.{Early, Keyed, KeyedBeside}
 use Rattle.readiness.proofs.Renewing.{keyed-beside}
 use Rattle.turns.specs.Turns.{Timely}
@@ -19,8 +20,8 @@ pub still-task : {s s′ : Sheet} {t : ℕ} → t < taskCount s → s′ ≡ s �
 still-task task same = rw same task
 
 -- t was placed on k: its keys and its successors' are to be renewed
-pub placed-beside : {s s′ : Sheet} {σ σ′ : Schedule} {q : List ℕ} (t k : ℕ) → Keyed s σ q → s′ ≡ s → σ′ ≡ placedFrom s (barred s) σ t k (startOn s σ t k) → KeyedBeside s′ σ′ t q
-placed-beside {s} {s′} {σ} {σ′} {q} t k keyed same put =
+pub placed-beside : {s s′ : Sheet} {σ σ′ : Schedule} {q : List ℕ} (t k : ℕ) → Placeable s σ t k → Keyed s σ q → s′ ≡ s → σ′ ≡ placedFrom s (barred s) σ t k (startOn s σ t k) → KeyedBeside s′ σ′ t q
+placed-beside {s} {s′} {σ} {σ′} {q} t k can keyed same put =
     let a = startOn s σ t k in
     subst (λ (x : Sheet). KeyedBeside x σ′ t q) (sym same)
-    (subst (λ (τ : Schedule). KeyedBeside s τ t q) (sym put) (keyed-beside s σ t k a (a + workOf s t) keyed))
+    (subst (λ (τ : Schedule). KeyedBeside s τ t q) (sym put) (keyed-beside s σ t k a (a + workOf s t) can keyed))

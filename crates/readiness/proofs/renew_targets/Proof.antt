@@ -1,5 +1,5 @@
 -- `renew_targets` (src/lib.rt) keeps its contract.
-use Rattle.readiness.proofs.Renewing.{Walking, walk-begins, walk-more, walk-done}
+use Rattle.readiness.proofs.Renewing.{Walking, walk-begins, target-waits, walk-more, walk-done}
 use Prim.Native.Nat.{_-_}
 use native.Mathlib.Omega.{arith}
 use Rattle.schedule.specs.Layout.{scheduleIn}
@@ -20,8 +20,8 @@ loop-holds c = let a = c .before .before .before .before in walk-begins (a .pre 
 target-requires : tie.Need-target-requires Inv-loop μ-loop
 target-requires c κs = let a = c .before .before .before .before .before .before .before in (a .pre .0 .loaded, omega (arith, c .before .loop-test .taken, c .before .before .before .before .links .ensures .0))
 
-renew-task-requires : tie.Need-renew-task-requires Inv-loop μ-loop
-renew-task-requires c κs = let a = c .before .before .before .before .before .before .before .before in (a .pre .0, (a .pre .1 .0, (a .pre .1 .1 .0, (omega (arith, c .target .ensures .0, c .target .ensures .1), c .before .before .before .loop .inv .keys .blocked))))
+renew-target-requires : tie.Need-renew-target-requires Inv-loop μ-loop
+renew-target-requires c κs = let a = c .before .before .before .before .before .before .before .before in (a .pre .0, (a .pre .1 .0, (a .pre .1 .1 .0, (omega (arith, c .target .ensures .0, c .target .ensures .1), (c .before .before .before .loop .inv .keys .blocked, target-waits (a .args .t) (c .target .ensures .0) (omega (arith, c .before .before .loop-test .taken, c .before .before .before .before .before .links .ensures .0)) (c .before .before .before .loop .inv))))))
 
 next-requires : tie.Need-next-requires Inv-loop μ-loop
 next-requires c κs = let a = c .before .before .before .before .before .before .before .before .before .before .before in (a .pre .0 .loaded, (a .pre .0 .caches .outward, omega (arith, c .before .before .before .before .before .loop-test .taken, c .before .before .before .before .before .before .before .before .links .ensures .0)))
@@ -30,7 +30,7 @@ loop-less : tie.Need-loop-less Inv-loop μ-loop
 loop-less c = omega (arith, c .next .ensures .2, c .before .before .before .before .before .before .loop-test .taken)
 
 loop-again : tie.Need-loop-again Inv-loop μ-loop
-loop-again c = let a = c .before .before .before .before .before .before .before .before .before .before .before .before in walk-more (a .pre .0 .caches .outward) (a .pre .0 .ranged) (a .args .t) (a .pre .1 .1 .1 .0) (omega (arith, c .before .before .before .before .before .before .loop-test .taken, c .before .before .before .before .before .before .before .before .before .links .ensures .0)) (c .next .ensures .0) (c .next .ensures .1) (c .before .before .before .before .target .ensures .0) (c .before .before .before .renew-task .ensures) (c .before .before .before .before .before .before .before .loop .inv)
+loop-again c = let a = c .before .before .before .before .before .before .before .before .before .before .before .before in walk-more (a .pre .0 .caches .outward) (a .pre .0 .ranged) (a .args .t) (a .pre .1 .1 .1 .0) (a .pre .0 .single) (omega (arith, c .before .before .before .before .before .before .loop-test .taken, c .before .before .before .before .before .before .before .before .before .links .ensures .0)) (c .next .ensures .0) (c .next .ensures .1) (c .before .before .before .before .target .ensures .0) (c .before .before .before .renew-target .ensures) (c .before .before .before .before .before .before .before .loop .inv)
 
 returns : tie.Need-returns Inv-loop μ-loop
 returns c = walk-done (omega (arith, c .loop-test .left, c .before .before .before .links .ensures .0)) (c .before .loop .inv)
@@ -45,7 +45,7 @@ renew-targets-spec =
     (λ c κs. search needs)
     loop-holds
     target-requires
-    renew-task-requires
+    renew-target-requires
     next-requires
     loop-less
     loop-again
