@@ -12,7 +12,7 @@ use Rattle.folds.specs.Folds.{sum}
 use Rattle.folds.proofs.Laws.{sum-rises}
 use Rattle.folds.proofs.Loops.{sum-one}
 use Rattle.sheet.specs.Sheet.{Sheet, taskCount, linkCount, targetOf}
-use Rattle.chains.specs.Chains.{Chained}
+use Rattle.chains.specs.Chains.{headOf, nextOf, Chained}
 use Rattle.chains.specs.declared.End.the-variants.{Target}
 use Rattle.chains.proofs.Walks.{own-first, own-next, sum-first, sum-next}
 use Rattle.arrivals.specs.Kept.{countedBy, into, oneBy, Gathered}
@@ -36,7 +36,7 @@ module _ {s : Sheet} {w : List ℕ} (chained : Chained Target s w) (gathered : G
   unfolding countedBy
   leads-own l e = rw (eq-eqb (targetOf s l) t e)
 
-  pub walk-begins : {l : ℕ} → l ≡ getD w (2576 + t) 0 → l ≤ linkCount s → Walking s t 0 l
+  pub walk-begins : {l : ℕ} → l ≡ headOf Target w t → l ≤ linkCount s → Walking s t 0 l
   walk-begins e h = record { here = h; own = own-first chained t t-in leads leads-else e; walked = sum-first chained t t-in leads leads-else e h }
 
   module _ {i l : ℕ} (g : Walking s t i l) where
@@ -51,7 +51,7 @@ module _ {s : Sheet} {w : List ℕ} (chained : Chained Target s w) (gathered : G
             the-end : (l < linkCount s → ⊥) → l ≡ linkCount s
             the-end q = omega (arith, g .here)
 
-    pub walk-more : {l′ : ℕ} → l < linkCount s → l′ ≡ getD w (2832 + l) 0 → l < l′ → l′ ≤ linkCount s → Walking s t (i + 1) l′
+    pub walk-more : {l′ : ℕ} → l < linkCount s → l′ ≡ nextOf Target w l → l < l′ → l′ ≤ linkCount s → Walking s t (i + 1) l′
     walk-more h e more f =
         record {
           here = f;

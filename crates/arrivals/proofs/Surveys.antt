@@ -23,10 +23,10 @@ use Rattle.planner.proofs.Ready.{ready-source}
 use Rattle.schedule.specs.Layout.{scheduleIn}
 use Rattle.schedule.proofs.Rows.{schedule-frame}
 use Rattle.chains.specs.Frames.{Only}
-use Rattle.chains.specs.Chains.{Chained}
+use Rattle.chains.specs.Chains.{headOf, nextOf, Chained}
 use Rattle.chains.specs.declared.End.the-variants.{Target}
 use Rattle.chains.proofs.Frames.{only-none, only-set, only-trans, only-sheet, only-loaded}
-use Rattle.chains.proofs.Walks.{chained-frame}
+use Rattle.chains.proofs.Walks.{chained-frame, next-frame}
 use Rattle.arrivals.specs.Kept.{countedBy, intoFrom, oneBy, known, Gathered, SurveyedTo, Surveyed, Kept}
 use Rattle.arrivals.specs.Steps.{Zero}
 use Rattle.arrivals.proofs.Numbered.{Walking, walk-begins, walk-ended, walk-more, walk-there}
@@ -147,7 +147,7 @@ module _ (w₀ : List ℕ) (loaded : Loaded w₀) (chained : Chained Target (she
   abbrev σ : Schedule
   σ = scheduleIn w₀
 
-  pub survey-begins : {l : ℕ} → l ≡ getD w₀ (2576 + t) 0 → l ≤ linkCount s → SurveyedTo s σ t 0 w₀ → Surveying w₀ t 0 l w₀
+  pub survey-begins : {l : ℕ} → l ≡ headOf Target w₀ t → l ≤ linkCount s → SurveyedTo s σ t 0 w₀ → Surveying w₀ t 0 l w₀
   survey-begins {l} e h d =
       record { only = only-none 7760 7792 w₀; walk = walk-begins chained gathered t t-in e h; surveyed = survey-skip s σ t 0 l w₀ (omega arith) (λ j p q. chained .head-none t t-in j (rw e at q)) d }
 
@@ -178,10 +178,10 @@ module _ (w₀ : List ℕ) (loaded : Loaded w₀) (chained : Chained Target (she
       pub then-next : l < linkCount s → Loaded w′ × (Chained Target (sheetIn w′) w′ × (l < linkCount (sheetIn w′)))
       then-next h = (survey-loaded loaded few only′, (survey-inward loaded few only′ chained, rw (survey-sheet loaded few only′) h))
 
-      pub survey-more : {l′ : ℕ} → l < linkCount s → l′ ≡ getD w′ (2832 + l) 0 → l′ ≤ linkCount (sheetIn w′) → l < l′ → SurveyedTo (sheetIn w) (scheduleIn w) t (l + 1) w′ → Surveying w₀ t (i + 1) l′ w′
+      pub survey-more : {l′ : ℕ} → l < linkCount s → l′ ≡ nextOf Target w′ l → l′ ≤ linkCount (sheetIn w′) → l < l′ → SurveyedTo (sheetIn w) (scheduleIn w) t (l + 1) w′ → Surveying w₀ t (i + 1) l′ w′
       survey-more {l′} h e few′ more d =
           let links = ranged w₀ loaded .few-links in
-          let q : l′ ≡ getD w₀ (2832 + l) 0 = e ∙ only′ .low (2832 + l) (omega arith) in
+          let q : l′ ≡ nextOf Target w₀ l = e ∙ next-frame Target w₀ w′ l (only′ .low (2832 + l) (omega arith)) in
           let f : l′ ≤ linkCount s = rw (survey-sheet loaded few only′) at few′ in
           let d′ : SurveyedTo s σ t (l + 1) w′ =
           subst (λ (z : Schedule). SurveyedTo s z t (l + 1) w′) there-schedule (subst (λ (z : Sheet). SurveyedTo z (scheduleIn w) t (l + 1) w′) there-sheet d) in

@@ -17,10 +17,10 @@ use Rattle.sheet.proofs.Rows.{ranged}
 use Rattle.planner.specs.Schedule.{Schedule, placed}
 use Rattle.schedule.specs.Layout.{scheduleIn}
 use Rattle.schedule.proofs.Rows.{schedule-frame}
-use Rattle.chains.specs.Chains.{Chained}
+use Rattle.chains.specs.Chains.{headOf, nextOf, Chained}
 use Rattle.chains.specs.declared.End.the-variants.{Source}
 use Rattle.chains.proofs.Frames.{same-sheet, same-loaded}
-use Rattle.chains.proofs.Walks.{chained-frame}
+use Rattle.chains.proofs.Walks.{chained-frame, next-frame}
 use Rattle.arrivals.specs.Kept.{countedBy, known, Gathered, Single, Counted, Ends}
 use Rattle.arrivals.specs.Steps.{upTo, Beside, Landed}
 use Rattle.arrivals.proofs.Fours.{four-cong}
@@ -103,7 +103,7 @@ pub record Walking (w₀ : List ℕ) (t l : ℕ) (w : List ℕ) : Type 0 where
   pub counted : Counted (sheetIn w₀) (scheduleIn w₀) (upTo (sheetIn w₀) (scheduleIn w₀) t l) w
 
 module _ (w₀ : List ℕ) (loaded : Loaded w₀) (chained : Chained Source (sheetIn w₀) w₀) (few : getD w₀ 4881 0 ≤ 256) (t : ℕ) (t-in : t < taskCount (sheetIn w₀)) where
-  pub walk-begins : {l : ℕ} → l ≡ getD w₀ (4896 + t) 0 → l ≤ linkCount (sheetIn w₀) → Counted (sheetIn w₀) (scheduleIn w₀) (upTo (sheetIn w₀) (scheduleIn w₀) t 0) w₀ → Walking w₀ t l w₀
+  pub walk-begins : {l : ℕ} → l ≡ headOf Source w₀ t → l ≤ linkCount (sheetIn w₀) → Counted (sheetIn w₀) (scheduleIn w₀) (upTo (sheetIn w₀) (scheduleIn w₀) t 0) w₀ → Walking w₀ t l w₀
   walk-begins {l} e h d =
       let s = sheetIn w₀ in
       let σ = scheduleIn w₀ in
@@ -155,13 +155,13 @@ module _ (w₀ : List ℕ) (loaded : Loaded w₀) (chained : Chained Source (she
       pub after-link : l < linkCount (sheetIn w₀) → l < linkCount (sheetIn w′)
       after-link h = rw after-sheet h
 
-      pub walk-more : {l′ : ℕ} → l < linkCount (sheetIn w₀) → l′ ≡ getD w′ (5152 + l) 0 → l′ ≤ linkCount (sheetIn w′) → l < l′
+      pub walk-more : {l′ : ℕ} → l < linkCount (sheetIn w₀) → l′ ≡ nextOf Source w′ l → l′ ≤ linkCount (sheetIn w′) → l < l′
           → Counted (sheetIn w) (scheduleIn w) (upTo (sheetIn w) (scheduleIn w) t (l + 1)) w′ → Walking w₀ t l′ w′
       walk-more {l′} h e few′ more d =
           let links = ranged w₀ loaded .few-links in
           let s = sheetIn w₀ in
           let σ = scheduleIn w₀ in
-          let q : l′ ≡ getD w₀ (5152 + l) 0 = e ∙ f .low (5152 + l) (omega arith) ∙ g .beside .low (5152 + l) (omega arith) in
+          let q : l′ ≡ nextOf Source w₀ l = e ∙ next-frame Source w₀ w′ l (f .low (2832 + l) (omega arith) ∙ g .beside .low (2832 + l) (omega arith)) in
           let d′ : Counted s σ (upTo s σ t (l + 1)) w′ =
           subst (λ (z : Schedule). Counted s z (upTo s z t (l + 1)) w′) walk-schedule (subst (λ (z : Sheet). Counted z (scheduleIn w) (upTo z (scheduleIn w) t (l + 1)) w′) walk-sheet d) in
           record {

@@ -1,6 +1,6 @@
 -- Chains built from the last link to the first.
-use Prim.Native.Nat.{ℕ, _+_, _≤_, _<_}
-use mathlib.Core.Path.{_≡_, ap, ap₂, sym, _∙_, subst}
+use Prim.Native.Nat.{ℕ, _+_, _*_, _%_, _≤_, _<_}
+use mathlib.Core.Path.{_≡_, refl, ap, sym, _∙_, subst}
 use mathlib.Core.Logic.{_≢_}
 use mathlib.Core.List.{List}
 use native.Mathlib.Omega.{arith}
@@ -10,50 +10,69 @@ use lib.Seq.{getD-set-same, getD-set-other}
 use Rattle.workspace.specs.Area.{fixed}
 use Rattle.sheet.specs.Sheet.{Sheet, taskCount, linkCount}
 use Rattle.sheet.specs.Tables.{sheetIn, Loaded, Ranged}
-use Rattle.chains.specs.Frames.{Only}
-use Rattle.chains.specs.Chains.{endBy, headAt, Chained, ChainedFrom}
+use Rattle.sheet.proofs.Rows.{ranged}
+use Rattle.chains.specs.Chains.{endBy, half, rest, headOf, nextOf, Rechained, Chained, ChainedFrom}
 use Rattle.chains.specs.declared.End.{End}
 use Rattle.chains.specs.declared.End.the-variants.{Source, Target}
 use Rattle.chains.proofs.Frames.{only-none, only-set, only-trans, only-sheet}
-
-pub head-place : (e : End) → (2576 ≤ headAt e) × (headAt e ≤ 4896)
-head-place Source = (omega arith, omega arith)
-head-place Target = (omega arith, omega arith)
 
 pub end-below : (e : End) {s : Sheet} → Ranged s → (l : ℕ) → l < linkCount s → endBy e s l < taskCount s
 end-below Source r = r .source
 end-below Target r = r .target
 
--- the first links of the tasks below n, which stand from word `at` on, are all m
-pub record Headed (at m n : ℕ) (w : List ℕ) : Type 0 where
-  pub is : (t : ℕ) → t < n → getD w (at + t) 0 ≡ m
+pub rechained-none : (e : End) (w : List ℕ) → Rechained e w w
+rechained-none e w = record { only = only-none 2576 3856 w; under = λ i. refl }
 
-pub headed-none : (at m : ℕ) (w : List ℕ) → Headed at m 0 w
-headed-none at m w = record { is = λ t h. absurd (omega arith) }
+pub rechained-trans : {e : End} {u v w : List ℕ} → Rechained e u v → Rechained e v w → Rechained e u w
+rechained-trans p q = record { only = only-trans (p .only) (q .only); under = λ i. q .under i ∙ p .under i }
 
-pub headed-more : {w : List ℕ} {at m n v : ℕ} → v ≡ m → at + n < length w → Headed at m n w → Headed at m (n + 1) (set w (at + n) v)
-headed-more {w} {at} {m} {n} {v} q l z = record { is = λ i h. go i h (ℕ-discrete i n) }
+pub rechained-set : {e : End} {w w′ : List ℕ} (j v : ℕ) → 2576 ≤ j → j < 3856 → j < length w′ → rest e v ≡ rest e (getD w′ j 0) → Rechained e w w′ → Rechained e w (set w′ j v)
+rechained-set {e} {w} {w′} j v h g l q p = record { only = only-set j v h g (p .only); under = λ i. under′ i (ℕ-discrete i j) }
   where
-    go : (i : ℕ) → i < n + 1 → Dec (i ≡ n) → getD (set w (at + n) v) (at + i) 0 ≡ m
-    go i h (yes d) = rw d (getD-set-same w (at + n) v 0 l ∙ q)
-    go i h (no d) = getD-set-other w (at + n) (at + i) v 0 (λ x. d (omega arith)) ∙ z .is i (omega arith)
+    under′ : (i : ℕ) → Dec (i ≡ j) → rest e (getD (set w′ j v) i 0) ≡ rest e (getD w i 0)
+    under′ i (yes d) = ap (λ (x : ℕ). rest e (getD (set w′ j v) x 0)) d ∙ ap (rest e) (getD-set-same w′ j v 0 l) ∙ q ∙ ap (λ (x : ℕ). rest e (getD w′ x 0)) (sym d) ∙ p .under i
+    under′ i (no d) = ap (rest e) (getD-set-other w′ j i v 0 d) ∙ p .under i
+
+-- a word with y in the half of the chains of e
+pub upper-half : {e : End} (x y : ℕ) → e ≡ Source → y < 65536 → (half e (x % 65536 + 65536 * y) ≡ y) × (rest e (x % 65536 + 65536 * y) ≡ rest e x) × (x % 65536 + 65536 * y < 4294967296)
+upper-half x y q h = rw q (omega arith, omega arith, omega arith)
+
+pub lower-half : {e : End} (x y : ℕ) → e ≡ Target → y < 65536 → (half e y ≡ y) × (rest e y ≡ rest e x) × (y < 4294967296)
+lower-half x y q h = rw q (omega arith, refl, omega arith)
+
+-- the first links of the tasks below n are all m
+pub record Headed (e : End) (m n : ℕ) (w : List ℕ) : Type 0 where
+  pub is : (t : ℕ) → t < n → headOf e w t ≡ m
+
+pub headed-none : (e : End) (m : ℕ) (w : List ℕ) → Headed e m 0 w
+headed-none e m w = record { is = λ t h. absurd (omega arith) }
+
+pub headed-more : {e : End} {w : List ℕ} {m n : ℕ} (v : ℕ) → half e v ≡ m → 2576 + n < length w → Headed e m n w → Headed e m (n + 1) (set w (2576 + n) v)
+unfolding headOf
+headed-more {e} {w} {m} {n} v q l z = record { is = λ i h. go i h (ℕ-discrete i n) }
+  where
+    go : (i : ℕ) → i < n + 1 → Dec (i ≡ n) → half e (getD (set w (2576 + n) v) (2576 + i) 0) ≡ m
+    go i h (yes d) = ap (λ (x : ℕ). half e (getD (set w (2576 + n) v) (2576 + x) 0)) d ∙ ap (half e) (getD-set-same w (2576 + n) v 0 l) ∙ q
+    go i h (no d) = ap (half e) (getD-set-other w (2576 + n) (2576 + i) v 0 (λ x. d (omega arith))) ∙ z .is i (omega arith)
 
 -- then no link is in a chain
-pub chain-none : (e : End) {s : Sheet} {w : List ℕ} {at m n : ℕ} → at ≡ headAt e → m ≡ linkCount s → taskCount s ≤ n → Headed at m n w → ChainedFrom e s (linkCount s) w
-chain-none e {s} {w} {at} {m} {n} p q r z =
+pub chain-none : {e : End} {s : Sheet} {w : List ℕ} {m n : ℕ} → m ≡ linkCount s → taskCount s ≤ n → Headed e m n w → ChainedFrom e s (linkCount s) w
+chain-none {e} {s} {w} {m} {n} q r z =
     record {
-      head-few = λ t h. omega (arith, first t h);
-      head-low = λ t h. omega (arith, first t h);
-      head-own = λ t h k. absurd (omega (arith, first t h));
-      head-none = λ t h i k g. absurd (omega (arith, first t h));
+      head-few = λ t h. omega (arith, z .is t (omega arith));
+      head-low = λ t h. omega (arith, z .is t (omega arith));
+      head-own = λ t h k. absurd (omega (arith, z .is t (omega arith)));
+      head-none = λ t h i k g. absurd (omega (arith, z .is t (omega arith)));
       next-few = λ i h k. absurd (omega arith);
       next-more = λ i h k. absurd (omega arith);
       next-own = λ i h k. absurd (omega arith);
       next-none = λ i h k. absurd (omega arith);
     }
-  where
-    first : (t : ℕ) → t < taskCount s → getD w (headAt e + t) 0 ≡ m
-    first t h = rw (← p) (z .is t (omega arith))
+
+-- the first link of a task fits a half
+pub head-small : {e : End} {w : List ℕ} {l t r : ℕ} → Loaded w → ChainedFrom e (sheetIn w) l w → t < taskCount (sheetIn w) → r ≡ half e (getD w (2576 + t) 0) → r < 65536
+unfolding headOf
+head-small {e} {w} {l} {t} h d t-in q = omega (arith, d .head-few t t-in, ranged w h .few-links)
 
 pub chain-whole : {e : End} {s : Sheet} {l : ℕ} {w : List ℕ} → l ≡ 0 → ChainedFrom e s l w → Chained e s w
 chain-whole q d =
@@ -67,71 +86,44 @@ chain-whole q d =
       next-none = λ i h. d .next-none i (omega arith) h;
     }
 
-module _ (e : End) (s : Sheet) (w : List ℕ) (l : ℕ) (long : fixed ≤ length w) (ranged : Ranged s) (l-in : l < linkCount s) (d : ChainedFrom e s (l + 1) w) where
-  abbrev a : ℕ
-  a = endBy e s l
-
-  abbrev h : ℕ
-  h = getD w (headAt e + endBy e s l) 0
-
-  abbrev new : List ℕ
-  new = set (set w (headAt e + 256 + l) (getD w (headAt e + endBy e s l) 0)) (headAt e + endBy e s l) l
-
-  a-in : (endBy e s l < taskCount s) × (taskCount s ≤ 256) × (linkCount s ≤ 1024) × (2576 ≤ headAt e) × (headAt e ≤ 4896)
-  a-in = (end-below e ranged l l-in, ranged .few-tasks, ranged .few-links, head-place e .0, head-place e .1)
-
-  head-here : getD new (headAt e + a) 0 ≡ l
-  head-here = let x = a-in in getD-set-same (set w (headAt e + 256 + l) h) (headAt e + a) l 0 (simp length-set (omega arith))
-
-  head-else : (t : ℕ) → t < taskCount s → t ≢ a → getD new (headAt e + t) 0 ≡ getD w (headAt e + t) 0
-  head-else t k n =
-      let x = a-in in
-      getD-set-other (set w (headAt e + 256 + l) h) (headAt e + a) (headAt e + t) l 0 (λ q. n (omega arith)) ∙ getD-set-other w (headAt e + 256 + l) (headAt e + t) h 0 (omega arith)
-
-  next-here : getD new (headAt e + 256 + l) 0 ≡ h
-  next-here =
-      let x = a-in in
-      getD-set-other (set w (headAt e + 256 + l) h) (headAt e + a) (headAt e + 256 + l) l 0 (omega arith) ∙ getD-set-same w (headAt e + 256 + l) h 0 (omega arith)
-
-  next-else : (i : ℕ) → i ≢ l → getD new (headAt e + 256 + i) 0 ≡ getD w (headAt e + 256 + i) 0
-  next-else i n =
-      let x = a-in in
-      getD-set-other (set w (headAt e + 256 + l) h) (headAt e + a) (headAt e + 256 + i) l 0 (omega arith) ∙ getD-set-other w (headAt e + 256 + l) (headAt e + 256 + i) h 0 (λ q. n (omega arith))
-
-  few : (t : ℕ) → t < taskCount s → Dec (t ≡ a) → getD new (headAt e + t) 0 ≤ linkCount s
+-- link l put before the chain of a
+module _ {e : End} {s : Sheet} {w : List ℕ} (new : List ℕ) {l a : ℕ} (l-in : l < linkCount s) (a-is : a ≡ endBy e s l) (a-in : a < taskCount s) (d : ChainedFrom e s (l + 1) w)
+    (head-here : headOf e new a ≡ l) (head-else : (t : ℕ) → t < taskCount s → t ≢ a → headOf e new t ≡ headOf e w t)
+    (next-here : nextOf e new l ≡ headOf e w a) (next-else : (i : ℕ) → i ≢ l → nextOf e new i ≡ nextOf e w i) where
+  few : (t : ℕ) → t < taskCount s → Dec (t ≡ a) → headOf e new t ≤ linkCount s
   few t k (yes q) = rw (q, head-here) (omega arith)
   few t k (no q) = rw (head-else t k q) (d .head-few t k)
 
-  low : (t : ℕ) → t < taskCount s → Dec (t ≡ a) → l ≤ getD new (headAt e + t) 0
+  low : (t : ℕ) → t < taskCount s → Dec (t ≡ a) → l ≤ headOf e new t
   low t k (yes q) = rw (q, head-here) (omega arith)
   low t k (no q) = rw (head-else t k q) (omega (arith, d .head-low t k))
 
-  own : (t : ℕ) → t < taskCount s → Dec (t ≡ a) → getD new (headAt e + t) 0 < linkCount s → endBy e s (getD new (headAt e + t) 0) ≡ t
-  own t k (yes q) g = ap (λ (x : ℕ). endBy e s (getD new (headAt e + x) 0)) q ∙ ap (endBy e s) head-here ∙ sym q
+  own : (t : ℕ) → t < taskCount s → Dec (t ≡ a) → headOf e new t < linkCount s → endBy e s (headOf e new t) ≡ t
+  own t k (yes q) g = ap (λ (x : ℕ). endBy e s (headOf e new x)) q ∙ ap (endBy e s) head-here ∙ sym (q ∙ a-is)
   own t k (no q) g = ap (endBy e s) (head-else t k q) ∙ d .head-own t k (rw (head-else t k q) at g)
 
-  none : (t : ℕ) → t < taskCount s → Dec (t ≡ a) → (i : ℕ) → l ≤ i → i < getD new (headAt e + t) 0 → Dec (i ≡ l) → endBy e s i ≢ t
-  none t k (yes q) i p g r f = absurd (omega (arith, head-here, ap (λ (z : ℕ). getD new (headAt e + z) 0) q))
-  none t k (no q) i p g (yes r) f = q (sym f ∙ ap (endBy e s) r)
+  none : (t : ℕ) → t < taskCount s → Dec (t ≡ a) → (i : ℕ) → l ≤ i → i < headOf e new t → Dec (i ≡ l) → endBy e s i ≢ t
+  none t k (yes q) i p g r f = absurd (omega (arith, head-here, ap (headOf e new) q))
+  none t k (no q) i p g (yes r) f = q (sym f ∙ ap (endBy e s) r ∙ sym a-is)
   none t k (no q) i p g (no r) f = d .head-none t k i (omega arith) (rw (head-else t k q) at g) f
 
-  nfew : (i : ℕ) → l ≤ i → i < linkCount s → Dec (i ≡ l) → getD new (headAt e + 256 + i) 0 ≤ linkCount s
-  nfew i p k (yes q) = rw (q, next-here) (d .head-few a (a-in .0))
+  nfew : (i : ℕ) → l ≤ i → i < linkCount s → Dec (i ≡ l) → nextOf e new i ≤ linkCount s
+  nfew i p k (yes q) = rw (q, next-here) (d .head-few a a-in)
   nfew i p k (no q) = rw (next-else i q) (d .next-few i (omega arith) k)
 
-  nmore : (i : ℕ) → l ≤ i → i < linkCount s → Dec (i ≡ l) → i < getD new (headAt e + 256 + i) 0
-  nmore i p k (yes q) = rw (q, next-here) (omega (arith, d .head-low a (a-in .0)))
+  nmore : (i : ℕ) → l ≤ i → i < linkCount s → Dec (i ≡ l) → i < nextOf e new i
+  nmore i p k (yes q) = rw (q, next-here) (omega (arith, d .head-low a a-in))
   nmore i p k (no q) = rw (next-else i q) (d .next-more i (omega arith) k)
 
-  nown : (i : ℕ) → l ≤ i → i < linkCount s → Dec (i ≡ l) → getD new (headAt e + 256 + i) 0 < linkCount s → endBy e s (getD new (headAt e + 256 + i) 0) ≡ endBy e s i
+  nown : (i : ℕ) → l ≤ i → i < linkCount s → Dec (i ≡ l) → nextOf e new i < linkCount s → endBy e s (nextOf e new i) ≡ endBy e s i
   nown i p k (yes q) g =
-      let z : getD new (headAt e + 256 + i) 0 ≡ h = ap (λ (x : ℕ). getD new (headAt e + 256 + x) 0) q ∙ next-here in
-      ap (endBy e s) z ∙ d .head-own a (a-in .0) (rw z at g) ∙ ap (endBy e s) (sym q)
+      let z : nextOf e new i ≡ headOf e w a = ap (nextOf e new) q ∙ next-here in
+      ap (endBy e s) z ∙ d .head-own a a-in (rw z at g) ∙ a-is ∙ ap (endBy e s) (sym q)
   nown i p k (no q) g = ap (endBy e s) (next-else i q) ∙ d .next-own i (omega arith) k (rw (next-else i q) at g)
 
-  nnone : (i : ℕ) → l ≤ i → i < linkCount s → Dec (i ≡ l) → (j : ℕ) → i < j → j < getD new (headAt e + 256 + i) 0 → endBy e s j ≢ endBy e s i
+  nnone : (i : ℕ) → l ≤ i → i < linkCount s → Dec (i ≡ l) → (j : ℕ) → i < j → j < nextOf e new i → endBy e s j ≢ endBy e s i
   nnone i p k (yes q) j x y f =
-      d .head-none a (a-in .0) j (omega arith) (omega (arith, next-here, ap (λ (z : ℕ). getD new (headAt e + 256 + z) 0) q)) (f ∙ ap (endBy e s) q)
+      d .head-none a a-in j (omega arith) (omega (arith, next-here, ap (nextOf e new) q)) (f ∙ ap (endBy e s) q ∙ sym a-is)
   nnone i p k (no q) j x y f = d .next-none i (omega arith) k j x (rw (next-else i q) at y) f
 
   chain-more : ChainedFrom e s l new
@@ -147,33 +139,33 @@ module _ (e : End) (s : Sheet) (w : List ℕ) (l : ℕ) (long : fixed ≤ length
         next-none = λ i p k. nnone i p k (ℕ-discrete i l);
       }
 
-  -- as the code writes it: t is the end, g the first link of t until now
-  pub chained-by : (w₂ : List ℕ) {t at g x y : ℕ} → t ≡ endBy e s l → at ≡ headAt e → g ≡ getD w (at + t) 0 → x ≡ g → y ≡ l → w₂ ≡ set (set w (at + 256 + l) x) (at + t) y
-      → Only (headAt e) (headAt e + 1280) w w₂ × ChainedFrom e s l w₂
-  chained-by w₂ {t} {at} {g} {x} {y} et ea eg ex ey q =
-      let p : w₂ ≡ new =
-      q ∙ ap₂ (λ (u v : ℕ). set (set w (at + 256 + l) u) (at + t) v) (ex ∙ eg) ey
-      ∙ ap₂ (λ (u v : ℕ). set (set w (u + 256 + l) (getD w (u + v) 0)) (u + v) l) ea et in
-      let z = a-in in (
-        subst (Only (headAt e) (headAt e + 1280) w) (sym p)
-            (only-set (headAt e + endBy e s l) l (omega arith) (omega arith)
-            (only-set (headAt e + 256 + l) (getD w (headAt e + endBy e s l) 0) (omega arith) (omega arith) (only-none (headAt e) (headAt e + 1280) w))),
-        subst (ChainedFrom e s l) (sym p) chain-more,
-      )
+-- as the code writes it: a is the end, x and y were the words of a and l, and v and u are
+pub chained-by : {e : End} {s : Sheet} {w : List ℕ} {l a x y : ℕ} (u v : ℕ) → fixed ≤ length w → Ranged s → l < linkCount s → a ≡ endBy e s l → a < taskCount s → ChainedFrom e s (l + 1) w
+    → x ≡ getD w (2576 + a) 0 → y ≡ getD w (2832 + l) 0 → half e u ≡ half e x → rest e u ≡ rest e y → half e v ≡ l → rest e v ≡ rest e x
+    → Rechained e w (set (set w (2832 + l) u) (2576 + a) v) × ChainedFrom e s l (set (set w (2832 + l) u) (2576 + a) v)
+unfolding headOf nextOf
+chained-by {e} {s} {w} {l} {a} {x} {y} u v long r l-in a-is a-in d ex ey uh ur vh vr = (
+  rechained-set (2576 + a) v (omega arith) (omega (arith, r .few-tasks)) (simp length-set (omega (arith, r .few-tasks))) (vr ∙ ap (rest e) (ex ∙ sym (away (2576 + a) (omega (arith, r .few-tasks)))))
+      (rechained-set (2832 + l) u (omega arith) (omega (arith, r .few-links)) (omega (arith, r .few-links)) (ur ∙ ap (rest e) ey) (rechained-none e w)),
+  chain-more _ l-in a-is a-in d
+      (ap (half e) (getD-set-same (set w (2832 + l) u) (2576 + a) v 0 (simp length-set (omega (arith, r .few-tasks)))) ∙ vh)
+      (λ t k n. ap (half e) (getD-set-other (set w (2832 + l) u) (2576 + a) (2576 + t) v 0 (λ q. n (omega arith)) ∙ away (2576 + t) (omega (arith, r .few-tasks))))
+      (ap (half e) (getD-set-other (set w (2832 + l) u) (2576 + a) (2832 + l) v 0 (omega (arith, r .few-tasks)) ∙ getD-set-same w (2832 + l) u 0 (omega (arith, r .few-links))) ∙ uh ∙ ap (half e) ex)
+      (λ i n. ap (half e) (getD-set-other (set w (2832 + l) u) (2576 + a) (2832 + i) v 0 (omega (arith, r .few-tasks)) ∙ away (2832 + i) (λ q. n (omega arith)))),
+)
+  where
+    away : (i : ℕ) → i ≢ 2832 + l → getD (set w (2832 + l) u) i 0 ≡ getD w i 0
+    away i n = getD-set-other w (2832 + l) i u 0 n
 
 -- the chains of an area whose sheet is as it was
-pub chains-still : {e : End} {l l′ : ℕ} {w w′ : List ℕ} → Loaded w → Only (headAt e) (headAt e + 1280) w w′ → l ≡ l′ → ChainedFrom e (sheetIn w) l w′ → ChainedFrom e (sheetIn w′) l′ w′
+pub chains-still : {e : End} {l l′ : ℕ} {w w′ : List ℕ} → Loaded w → Rechained e w w′ → l ≡ l′ → ChainedFrom e (sheetIn w) l w′ → ChainedFrom e (sheetIn w′) l′ w′
 chains-still {e} {l} {l′} {w} {w′} h o q d =
-    subst (λ (s : Sheet). ChainedFrom e s l′ w′) (sym (only-sheet (omega (arith, head-place e)) h o)) (subst (λ (x : ℕ). ChainedFrom e (sheetIn w) x w′) q d)
+    subst (λ (s : Sheet). ChainedFrom e s l′ w′) (sym (only-sheet (omega arith) h (o .only))) (subst (λ (x : ℕ). ChainedFrom e (sheetIn w) x w′) q d)
 
 -- a link more in the chains
-pub chains-more : {e : End} {l : ℕ} {w w′ w″ : List ℕ} → Loaded w → Only (headAt e) (headAt e + 1280) w w′ → Only (headAt e) (headAt e + 1280) w′ w″ × ChainedFrom e (sheetIn w′) l w″
-    → Only (headAt e) (headAt e + 1280) w w″ × ChainedFrom e (sheetIn w) l w″
-chains-more {e} {l} {w} {w′} {w″} h o d =
-    (only-trans o (d .0), subst (λ (s : Sheet). ChainedFrom e s l w″) (only-sheet (omega (arith, head-place e)) h o) (d .1))
+pub chains-more : {e : End} {l : ℕ} {w w′ w″ : List ℕ} → Loaded w → Rechained e w w′ → Rechained e w′ w″ × ChainedFrom e (sheetIn w′) l w″ → Rechained e w w″ × ChainedFrom e (sheetIn w) l w″
+chains-more {e} {l} {w} {w′} {w″} h o d = (rechained-trans o (d .0), subst (λ (s : Sheet). ChainedFrom e s l w″) (only-sheet (omega arith) h (o .only)) (d .1))
 
 -- unchained, and then chained
-pub chains-done : {e : End} {w w′ w″ : List ℕ} → Loaded w → Only (headAt e) (headAt e + 1280) w w′ → Only (headAt e) (headAt e + 1280) w′ w″ × Chained e (sheetIn w′) w″
-    → Only (headAt e) (headAt e + 1280) w w″ × Chained e (sheetIn w) w″
-chains-done {e} {w} {w′} {w″} h o d =
-    (only-trans o (d .0), subst (λ (s : Sheet). Chained e s w″) (only-sheet (omega (arith, head-place e)) h o) (d .1))
+pub chains-done : {e : End} {w w′ w″ : List ℕ} → Loaded w → Rechained e w w′ → Rechained e w′ w″ × Chained e (sheetIn w′) w″ → Rechained e w w″ × Chained e (sheetIn w) w″
+chains-done {e} {w} {w′} {w″} h o d = (rechained-trans o (d .0), subst (λ (s : Sheet). Chained e s w″) (only-sheet (omega arith) h (o .only)) (d .1))

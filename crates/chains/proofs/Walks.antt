@@ -9,35 +9,50 @@ use Rattle.folds.specs.Folds.{sum}
 use Rattle.folds.proofs.Loops.{sum-more}
 use Rattle.folds.proofs.Laws.{sum-skip}
 use Rattle.sheet.specs.Sheet.{Sheet, taskCount, linkCount}
-use Rattle.chains.specs.Chains.{endBy, headAt, Chained}
+use Rattle.chains.specs.Chains.{endBy, half, headOf, nextOf, Rechained, Chained}
 use Rattle.chains.specs.declared.End.{End}
+use Rattle.chains.specs.declared.End.the-variants.{Source, Target}
 
--- the chains stand in other words as they did
-pub chained-frame : {e : End} {s : Sheet} {w w′ : List ℕ} → taskCount s ≤ 256 → linkCount s ≤ 1024 → ((i : ℕ) → headAt e ≤ i → i < headAt e + 1280 → getD w′ i 0 ≡ getD w i 0) → Chained e s w → Chained e s w′
-chained-frame {e} {s} {w} {w′} n m f d =
-    record {
-      head-few = λ t h. rw (f (headAt e + t) (omega arith) (omega arith)) (d .head-few t h);
-      head-own = λ t h. rw (f (headAt e + t) (omega arith) (omega arith)) (d .head-own t h);
-      head-none = λ t h. rw (f (headAt e + t) (omega arith) (omega arith)) (d .head-none t h);
-      next-few = λ l h. rw (f (headAt e + 256 + l) (omega arith) (omega arith)) (d .next-few l h);
-      next-more = λ l h. rw (f (headAt e + 256 + l) (omega arith) (omega arith)) (d .next-more l h);
-      next-own = λ l h. rw (f (headAt e + 256 + l) (omega arith) (omega arith)) (d .next-own l h);
-      next-none = λ l h. rw (f (headAt e + 256 + l) (omega arith) (omega arith)) (d .next-none l h);
-    }
+-- the chains of e, where their halves of the words are as they were
+module _ {e : End} {s : Sheet} {w w′ : List ℕ} where
+  chained-same : ((t : ℕ) → t < taskCount s → headOf e w′ t ≡ headOf e w t) → ((l : ℕ) → l < linkCount s → nextOf e w′ l ≡ nextOf e w l) → Chained e s w → Chained e s w′
+  chained-same f g d =
+      record {
+        head-few = λ t h. rw (f t h) (d .head-few t h);
+        head-own = λ t h. rw (f t h) (d .head-own t h);
+        head-none = λ t h. rw (f t h) (d .head-none t h);
+        next-few = λ l h. rw (g l h) (d .next-few l h);
+        next-more = λ l h. rw (g l h) (d .next-more l h);
+        next-own = λ l h. rw (g l h) (d .next-own l h);
+        next-none = λ l h. rw (g l h) (d .next-none l h);
+      }
+
+  pub chained-frame : taskCount s ≤ 256 → linkCount s ≤ 1024 → ((i : ℕ) → 2576 ≤ i → i < 3856 → getD w′ i 0 ≡ getD w i 0) → Chained e s w → Chained e s w′
+  unfolding headOf nextOf
+  chained-frame n m f = chained-same (λ t h. ap (half e) (f (2576 + t) (omega arith) (omega arith))) (λ l h. ap (half e) (f (2832 + l) (omega arith) (omega arith)))
+
+-- the links into tasks stay chained while those out of tasks are
+pub chained-under : {s : Sheet} {w w′ : List ℕ} → Rechained Source w w′ → Chained Target s w → Chained Target s w′
+unfolding headOf nextOf
+chained-under r = chained-same (λ t h. r .under (2576 + t)) (λ l h. r .under (2832 + l))
+
+pub next-frame : (e : End) (w w′ : List ℕ) (l : ℕ) → getD w′ (2832 + l) 0 ≡ getD w (2832 + l) 0 → nextOf e w′ l ≡ nextOf e w l
+unfolding nextOf
+next-frame e w w′ l q = ap (half e) q
 
 -- a sum to which only the links of t give something
 module _ {e : End} {s : Sheet} {w : List ℕ} (d : Chained e s w) (t : ℕ) (t-in : t < taskCount s) (f : ℕ → ℕ) (else : (l : ℕ) → l < linkCount s → endBy e s l ≢ t → f l ≡ 0) where
-  pub own-first : {l : ℕ} → l ≡ getD w (headAt e + t) 0 → l < linkCount s → endBy e s l ≡ t
+  pub own-first : {l : ℕ} → l ≡ headOf e w t → l < linkCount s → endBy e s l ≡ t
   own-first q h = rw q (d .head-own t t-in (rw q at h))
 
-  pub sum-first : {l : ℕ} → l ≡ getD w (headAt e + t) 0 → l ≤ linkCount s → 0 ≡ sum l f
+  pub sum-first : {l : ℕ} → l ≡ headOf e w t → l ≤ linkCount s → 0 ≡ sum l f
   unfolding sum
   sum-first {l} q h = let z : l ≡ 0 + l = omega arith in ap (λ (k : ℕ). 0) z ∙ rest z
     where
       rest : l ≡ 0 + l → 0 ≡ sum l f
       rest z = omega (arith, sum-skip f 0 l (λ i p k. else i (omega arith) (d .head-none t t-in i (omega arith))), ap (λ (k : ℕ). sum k f) z)
 
-  module _ {l l′ : ℕ} (l-in : l < linkCount s) (own : endBy e s l ≡ t) (q : l′ ≡ getD w (headAt e + 256 + l) 0) (more : l < l′) (few : l′ ≤ linkCount s) where
+  module _ {l l′ : ℕ} (l-in : l < linkCount s) (own : endBy e s l ≡ t) (q : l′ ≡ nextOf e w l) (more : l < l′) (few : l′ ≤ linkCount s) where
     pub own-next : l′ < linkCount s → endBy e s l′ ≡ t
     own-next h = rw q (d .next-own l l-in (rw q at h)) ∙ own
 

@@ -1,11 +1,9 @@
 // The links out of each task and into each task, chained in rising number, so that a task's own links are walked without the others.
 ghost use mathlib.Core.Path.{_≡_};
 ghost use Prim.Native.Nat.{_+_, _<_, _≤_};
-ghost use lib.ListN.{getD};
 ghost use Rattle.sheet.specs.Sheet.{taskCount, linkCount};
 ghost use Rattle.sheet.specs.Tables.{sheetIn, Loaded};
-ghost use Rattle.chains.specs.Frames.{Only};
-ghost use Rattle.chains.specs.Chains.{endBy, headAt, Chained, ChainedFrom};
+ghost use Rattle.chains.specs.Chains.{endBy, half, rest, headOf, nextOf, Rechained, Chained, ChainedFrom};
 use sheet::tables;
 
 // The end of a link by which it is chained: its source, for the links out of a task, or its target, for those into one.
@@ -25,27 +23,38 @@ fn end_of(w: &[u32], e: End, l: usize) -> usize
     }
 }
 
-// Where the chains stand.
-fn heads(e: End) -> usize
-    ensures { λ r. ⌜ (r ≡ headAt e) × (2576 ≤ r) × (r ≤ 4896) ⌝ }
+// The half of a word that one end's chains have: the upper for the links out of tasks, the lower for those into them.
+fn half(e: End, x: usize) -> usize
+    ensures { λ r. ⌜ r ≡ half e x ⌝ }
 {
     match e {
-        End::Source => 4896,
-        End::Target => 2576,
+        End::Source => x / 65536,
+        End::Target => x % 65536,
+    }
+}
+
+// The word with y in that half. The links into tasks are chained first, with nothing above them.
+fn with_half(e: End, x: usize, y: usize) -> usize
+    requires { ⌜ y < 65536 ⌝ }
+    ensures { λ r. ⌜ (half e r ≡ y) × (rest e r ≡ rest e x) × (r < 4294967296) ⌝ }
+{
+    match e {
+        End::Source => x % 65536 + 65536 * y,
+        End::Target => y,
     }
 }
 
 // No link is in a chain.
 fn unchain(w: &mut [u32], e: End)
     requires { ⌜ Loaded (now w) ⌝ }
-    ensures { λ _. ⌜ Only (headAt e) (headAt e + 1280) (now (w .entry)) (now (w .exit)) × ChainedFrom e (sheetIn (now (w .entry))) (linkCount (sheetIn (now (w .entry)))) (now (w .exit)) ⌝ }
+    ensures { λ _. ⌜ Rechained e (now (w .entry)) (now (w .exit)) × ChainedFrom e (sheetIn (now (w .entry))) (linkCount (sheetIn (now (w .entry)))) (now (w .exit)) ⌝ }
 {
     let n = tables::tasks(w);
     let m = tables::links(w);
-    let at = heads(e);
     let mut t: usize = 0;
     while t < n {
-        w[at + t] = workspace::narrow(m);
+        let x = workspace::word(w, 2576 + t);
+        w[2576 + t] = workspace::narrow(with_half(e, x, m));
         t += 1;
     }
 }
@@ -55,20 +64,20 @@ fn chain_one(w: &mut [u32], e: End, l: usize)
     requires { ⌜ Loaded (now w) ⌝ }
     requires { ⌜ l < linkCount (sheetIn (now w)) ⌝ }
     requires { ⌜ ChainedFrom e (sheetIn (now w)) (l + 1) (now w) ⌝ }
-    ensures { λ _. ⌜ Only (headAt e) (headAt e + 1280) (now (w .entry)) (now (w .exit)) × ChainedFrom e (sheetIn (now (w .entry))) l (now (w .exit)) ⌝ }
+    ensures { λ _. ⌜ Rechained e (now (w .entry)) (now (w .exit)) × ChainedFrom e (sheetIn (now (w .entry))) l (now (w .exit)) ⌝ }
 {
     let t = end_of(w, e, l);
-    let at = heads(e);
-    let h = workspace::word(w, at + t);
-    w[at + 256 + l] = workspace::narrow(h);
-    w[at + t] = workspace::narrow(l);
+    let x = workspace::word(w, 2576 + t);
+    let y = workspace::word(w, 2832 + l);
+    w[2832 + l] = workspace::narrow(with_half(e, y, half(e, x)));
+    w[2576 + t] = workspace::narrow(with_half(e, x, l));
 }
 
 // All links go into the chains, the last first.
 fn chain_all(w: &mut [u32], e: End)
     requires { ⌜ Loaded (now w) ⌝ }
     requires { ⌜ ChainedFrom e (sheetIn (now w)) (linkCount (sheetIn (now w))) (now w) ⌝ }
-    ensures { λ _. ⌜ Only (headAt e) (headAt e + 1280) (now (w .entry)) (now (w .exit)) × Chained e (sheetIn (now (w .entry))) (now (w .exit)) ⌝ }
+    ensures { λ _. ⌜ Rechained e (now (w .entry)) (now (w .exit)) × Chained e (sheetIn (now (w .entry))) (now (w .exit)) ⌝ }
 {
     let mut l = tables::links(w);
     while 0 < l {
@@ -79,7 +88,7 @@ fn chain_all(w: &mut [u32], e: End)
 
 pub fn chain(w: &mut [u32], e: End)
     requires { ⌜ Loaded (now w) ⌝ }
-    ensures { λ _. ⌜ Only (headAt e) (headAt e + 1280) (now (w .entry)) (now (w .exit)) × Chained e (sheetIn (now (w .entry))) (now (w .exit)) ⌝ }
+    ensures { λ _. ⌜ Rechained e (now (w .entry)) (now (w .exit)) × Chained e (sheetIn (now (w .entry))) (now (w .exit)) ⌝ }
 {
     unchain(w, e);
     chain_all(w, e);
@@ -90,9 +99,9 @@ pub fn first(w: &[u32], e: End, t: usize) -> usize
     requires { ⌜ Loaded (now w) ⌝ }
     requires { ⌜ Chained e (sheetIn (now w)) (now w) ⌝ }
     requires { ⌜ t < taskCount (sheetIn (now w)) ⌝ }
-    ensures { λ r. ⌜ (r ≡ getD (now (w .entry)) (headAt e + t) 0) × (r ≤ linkCount (sheetIn (now (w .entry)))) ⌝ }
+    ensures { λ r. ⌜ (r ≡ headOf e (now (w .entry)) t) × (r ≤ linkCount (sheetIn (now (w .entry)))) ⌝ }
 {
-    workspace::word(w, heads(e) + t)
+    half(e, workspace::word(w, 2576 + t))
 }
 
 // The next link of the same task as l, or the number of links.
@@ -100,7 +109,7 @@ pub fn next(w: &[u32], e: End, l: usize) -> usize
     requires { ⌜ Loaded (now w) ⌝ }
     requires { ⌜ Chained e (sheetIn (now w)) (now w) ⌝ }
     requires { ⌜ l < linkCount (sheetIn (now w)) ⌝ }
-    ensures { λ r. ⌜ (r ≡ getD (now (w .entry)) (headAt e + 256 + l) 0) × (r ≤ linkCount (sheetIn (now (w .entry)))) × (l < r) ⌝ }
+    ensures { λ r. ⌜ (r ≡ nextOf e (now (w .entry)) l) × (r ≤ linkCount (sheetIn (now (w .entry)))) × (l < r) ⌝ }
 {
-    workspace::word(w, heads(e) + 256 + l)
+    half(e, workspace::word(w, 2832 + l))
 }

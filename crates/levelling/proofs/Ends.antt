@@ -13,7 +13,7 @@ use Rattle.sheet.specs.Sheet.{Sheet, taskCount, linkCount, sourceOf, targetOf}
 use Rattle.sheet.specs.Tables.{sheetIn}
 use Rattle.graph.specs.Graph.{circle}
 use Rattle.chains.specs.Frames.{Only}
-use Rattle.chains.specs.Chains.{Chained}
+use Rattle.chains.specs.Chains.{Rechained, Chained}
 use Rattle.chains.specs.declared.End.the-variants.{Target}
 use Rattle.chains.proofs.Frames.{only-trans}
 use Rattle.peeling.specs.Words.{Held, Outside, inQueue, doneBy}
@@ -84,17 +84,17 @@ module _ (s : Sheet) (k : ℕ) (w : List ℕ) (declared : Declared s) (p : Peele
       omega (arith, p .peel .queued .count, queued-few (p .peel .queued), sum-ones (taskCount s))
 
 -- the whole, from what its parts say
-pub peel-asks : {w w₁ : List ℕ} → Held w → Only 2576 3856 w w₁ × Chained Target (sheetIn w) w₁ → Held w₁ × Chained Target (sheetIn w₁) w₁
-peel-asks {w} {w₁} h d = let k = only-kept (d .0) in (kept-held h k, subst (λ (s : Sheet). Chained Target s w₁) (sym (kept-sheet h k)) (d .1))
+pub peel-asks : {w w₁ : List ℕ} → Held w → Rechained Target w w₁ × Chained Target (sheetIn w) w₁ → Held w₁ × Chained Target (sheetIn w₁) w₁
+peel-asks {w} {w₁} h d = let k = only-kept (d .0 .only) in (kept-held h k, subst (λ (s : Sheet). Chained Target s w₁) (sym (kept-sheet h k)) (d .1))
 
-pub find-goes : {w w₁ w₂ : List ℕ} → Held w → Only 2576 3856 w w₁ × Chained Target (sheetIn w) w₁ → Outside w₁ w₂ → Held w₂ × Chained Target (sheetIn w₂) w₂
+pub find-goes : {w w₁ w₂ : List ℕ} → Held w → Rechained Target w w₁ × Chained Target (sheetIn w) w₁ → Outside w₁ w₂ → Held w₂ × Chained Target (sheetIn w₂) w₂
 find-goes {w} {w₁} {w₂} h d b =
     let q = peel-asks h d in
     (outside-held (q .0) b, outside-own (λ (s : Sheet). Chained Target s w₂) (q .0) b (chain-here (q .0) (q .1) b))
 
-pub levels-free : {w w₁ w₂ : List ℕ} {k n : ℕ} → Held w → Only 2576 3856 w w₁ × Chained Target (sheetIn w) w₁ → Outside w₁ w₂ × Peeled (sheetIn w₁) k k 0 0 w₂ → n ≡ taskCount (sheetIn w₂) → k ≡ n → LevelsAre w w₂ Nothing
+pub levels-free : {w w₁ w₂ : List ℕ} {k n : ℕ} → Held w → Rechained Target w w₁ × Chained Target (sheetIn w) w₁ → Outside w₁ w₂ × Peeled (sheetIn w₁) k k 0 0 w₂ → n ≡ taskCount (sheetIn w₂) → k ≡ n → LevelsAre w w₂ Nothing
 levels-free {w} {w₁} {w₂} {k} {n} h c d e q =
-    let b : Only 2320 4624 w w₁ = only-kept (c .0) in
+    let b : Only 2320 4624 w w₁ = only-kept (c .0 .only) in
     let same : sheetIn w₁ ≡ sheetIn w = kept-sheet h b in
     let kept : Only 2320 4624 w w₂ = only-trans b (d .0 .kept) in
     let p : Peeled (sheetIn w) k k 0 0 w₂ = subst (λ (s : Sheet). Peeled s k k 0 0 w₂) same (d .1) in
@@ -105,9 +105,9 @@ levels-free {w} {w₁} {w₂} {k} {n} h c d e q =
       kept = kept;
     }
 
-pub levels-found : {w w₁ w₂ w₃ : List ℕ} {k n : ℕ} {r : Found} → Held w → Only 2576 3856 w w₁ → Outside w₁ w₂ × Peeled (sheetIn w₁) k k 0 0 w₂ → n ≡ taskCount (sheetIn w₂) → (k ≡ n → ⊥) → Outside w₂ w₃ × (foundOf r ≡ circle (sheetIn w₂)) → LevelsAre w w₃ r
+pub levels-found : {w w₁ w₂ w₃ : List ℕ} {k n : ℕ} {r : Found} → Held w → Rechained Target w w₁ → Outside w₁ w₂ × Peeled (sheetIn w₁) k k 0 0 w₂ → n ≡ taskCount (sheetIn w₂) → (k ≡ n → ⊥) → Outside w₂ w₃ × (foundOf r ≡ circle (sheetIn w₂)) → LevelsAre w w₃ r
 levels-found {w} {w₁} {w₂} {w₃} {k} {n} {r} h o d e q t =
-    let b : Only 2320 4624 w w₁ = only-kept o in
+    let b : Only 2320 4624 w w₁ = only-kept (o .only) in
     let same : sheetIn w₁ ≡ sheetIn w = kept-sheet h b in
     let kept : Only 2320 4624 w w₂ = only-trans b (d .0 .kept) in
     let same₂ : sheetIn w₂ ≡ sheetIn w = kept-sheet h kept in

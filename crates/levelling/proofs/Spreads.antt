@@ -17,7 +17,7 @@ use Rattle.folds.proofs.Loops.{first-passed, first-at}
 use Rattle.sheet.specs.Sheet.{Sheet, taskCount, linkCount, sourceOf, targetOf}
 use Rattle.sheet.specs.Tables.{sheetIn}
 use Rattle.graph.specs.Graph.{reaches, onCircle, circle}
-use Rattle.chains.specs.Chains.{Chained}
+use Rattle.chains.specs.Chains.{headOf, nextOf, Chained}
 use Rattle.chains.specs.declared.End.the-variants.{Target}
 use Rattle.peeling.specs.Words.{Held, Outside, Queued, pushed, doneBy, doneUpTo}
 use Rattle.peeling.specs.Peeling.{Emptied, Noted, Search, Searched, Spreading}
@@ -142,7 +142,7 @@ pub record SpreadTo (w₀ : List ℕ) (goal v k l : ℕ) (w : List ℕ) : Type 0
   pub own : l < linkCount (sheetIn w₀) → targetOf (sheetIn w₀) l ≡ v
   pub spreading : Spreading (sheetIn w₀) goal (getD w₀ (4368 + v) 0) k l v w
 
-pub spread-starts : (w : List ℕ) (goal v k r : ℕ) → Held w → Chained Target (sheetIn w) w → Spreading (sheetIn w) goal (getD w (4368 + v) 0) k 0 v w → r ≡ getD w (2576 + v) 0 → SpreadTo w goal v k r w
+pub spread-starts : (w : List ℕ) (goal v k r : ℕ) → Held w → Chained Target (sheetIn w) w → Spreading (sheetIn w) goal (getD w (4368 + v) 0) k 0 v w → r ≡ headOf Target w v → SpreadTo w goal v k r w
 spread-starts w goal v k r h d p e =
     record {
       outside = outside-none w;
@@ -164,7 +164,7 @@ spread-closes {w₀} {w} {goal} {v} {k} {l} {u} h p g e q =
     spread-back (sheetIn w₀) (loaded-declared (h .loaded)) (h .few-tasks) goal (getD w₀ (4368 + v) 0) l v k w (p .spreading) g (p .own g) (ap (λ (s : Sheet). sourceOf s l) (sym (outside-sheet h (p .outside))) ∙ sym e ∙ q)
 
 pub spread-goes : {w₀ w w′ : List ℕ} {goal v k k′ l u r : ℕ} → Held w₀ → Chained Target (sheetIn w₀) w₀ → SpreadTo w₀ goal v k l w → l < linkCount (sheetIn w₀) → u ≡ sourceOf (sheetIn w) l → (u ≡ goal → ⊥)
-    → Outside w w′ × Noted (taskCount (sheetIn w)) k u k′ w w′ → r ≡ getD w′ (2832 + l) 0 → SpreadTo w₀ goal v k′ r w′
+    → Outside w w′ × Noted (taskCount (sheetIn w)) k u k′ w w′ → r ≡ nextOf Target w′ l → SpreadTo w₀ goal v k′ r w′
 spread-goes {w₀} {w} {w′} {goal} {v} {k} {k′} {l} {u} {r} h d p g e o t q =
     let b : Outside w₀ w′ = outside-trans (p .outside) (t .0) in
     let c : Chained Target (sheetIn w₀) w′ = chain-here h d b in
@@ -179,7 +179,7 @@ spread-goes {w₀} {w} {w′} {goal} {v} {k} {k′} {l} {u} {r} h d p g e o t q 
       spreading = spread-hop (sheetIn w₀) w′ goal (getD w₀ (4368 + v) 0) k′ (l + 1) r v m (let x = c .next-more l g in omega arith) (λ j a x y z. c .next-none l g j (omega arith) (rw q at y) (z ∙ sym to));
     }
 
-pub spread-less : {w₀ w w′ : List ℕ} {goal v k l r : ℕ} → Held w₀ → Chained Target (sheetIn w₀) w₀ → SpreadTo w₀ goal v k l w → l < linkCount (sheetIn w₀) → Outside w w′ → r ≡ getD w′ (2832 + l) 0 → l < r
+pub spread-less : {w₀ w w′ : List ℕ} {goal v k l r : ℕ} → Held w₀ → Chained Target (sheetIn w₀) w₀ → SpreadTo w₀ goal v k l w → l < linkCount (sheetIn w₀) → Outside w w′ → r ≡ nextOf Target w′ l → l < r
 spread-less {w₀} {w} {w′} {goal} {v} {k} {l} {r} h d p g t e =
     let c : Chained Target (sheetIn w₀) w′ = chain-here h d (outside-trans (p .outside) t) in
     let x = c .next-more l g in

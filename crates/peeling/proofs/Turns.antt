@@ -7,7 +7,7 @@ use lib.ListN.{getD, set}
 use Rattle.sheet.specs.Sheet.{Sheet, taskCount, linkCount, workOf, sourceOf, targetOf, costOf}
 use Rattle.sheet.specs.Tables.{sheetIn, Loaded}
 use Rattle.sheet.proofs.Rows.{ranged}
-use Rattle.chains.specs.Chains.{Chained}
+use Rattle.chains.specs.Chains.{headOf, nextOf, Chained}
 use Rattle.chains.specs.declared.End.the-variants.{Target}
 use Rattle.peeling.specs.Words.{Held, Outside, pushed}
 use Rattle.peeling.specs.Peeling.{Peeled, Walking, Counted, Filled}
@@ -43,7 +43,7 @@ pub record WalkTo (w₀ : List ℕ) (v k l : ℕ) (w : List ℕ) : Type 0 where
   pub own : l < linkCount (sheetIn w₀) → targetOf (sheetIn w₀) l ≡ v
   pub walking : Walking (sheetIn w₀) (getD w₀ (4368 + v) 0) k l v 0 0 w
 
-pub walk-starts : (w : List ℕ) (v k r : ℕ) → Held w → Chained Target (sheetIn w) w → Walking (sheetIn w) (getD w (4368 + v) 0) k 0 v 0 0 w → r ≡ getD w (2576 + v) 0 → WalkTo w v k r w
+pub walk-starts : (w : List ℕ) (v k r : ℕ) → Held w → Chained Target (sheetIn w) w → Walking (sheetIn w) (getD w (4368 + v) 0) k 0 v 0 0 w → r ≡ headOf Target w v → WalkTo w v k r w
 walk-starts w v k r h d p e =
     let q = walks.walk-begins (sheetIn w) w (loaded-declared (h .loaded)) (h .few-tasks) (h .long) (getD w (4368 + v) 0) k v r d p e in
     record { outside = outside-none w; here = q .0; own = q .1; walking = q .2 }
@@ -72,7 +72,7 @@ chain-here {w₀} {w} h d b = outside-chained (sheetIn w₀) w₀ w (h .few-task
 
 -- a turn, and on to the next link
 pub walk-turns : {w₀ w w′ : List ℕ} {v k k′ l r : ℕ} → Held w₀ → Chained Target (sheetIn w₀) w₀ → WalkTo w₀ v k l w → l < linkCount (sheetIn w₀)
-    → Outside w w′ × Walking (sheetIn w) (getD w (4368 + v) 0) k′ (l + 1) v 0 0 w′ → r ≡ getD w′ (2832 + l) 0 → WalkTo w₀ v k′ r w′
+    → Outside w w′ × Walking (sheetIn w) (getD w (4368 + v) 0) k′ (l + 1) v 0 0 w′ → r ≡ nextOf Target w′ l → WalkTo w₀ v k′ r w′
 walk-turns {w₀} {w} {w′} {v} {k} {k′} {l} {r} h d p g t e =
     let b : Outside w₀ w′ = outside-trans (p .outside) (t .0) in
     let h′ = outside-held h b in
@@ -82,7 +82,7 @@ walk-turns {w₀} {w} {w′} {v} {k} {k′} {l} {r} h d p g t e =
     record { outside = b; here = m .0; own = m .1; walking = m .2 }
 
 -- the links left become fewer
-pub walk-less : {w₀ w w′ : List ℕ} {v k l r : ℕ} → Held w₀ → Chained Target (sheetIn w₀) w₀ → WalkTo w₀ v k l w → l < linkCount (sheetIn w₀) → Outside w w′ → r ≡ getD w′ (2832 + l) 0 → l < r
+pub walk-less : {w₀ w w′ : List ℕ} {v k l r : ℕ} → Held w₀ → Chained Target (sheetIn w₀) w₀ → WalkTo w₀ v k l w → l < linkCount (sheetIn w₀) → Outside w w′ → r ≡ nextOf Target w′ l → l < r
 walk-less {w₀} {w} {w′} {v} {k} {l} {r} h d p g t e =
     let b : Outside w₀ w′ = outside-trans (p .outside) t in
     walks.walk-far (sheetIn w₀) w′ (loaded-declared (h .loaded)) (h .few-tasks) (outside-held h b .long) l r (chain-here h d b) g e

@@ -14,7 +14,7 @@ use Rattle.workspace.specs.Area.{fixed}
 use Rattle.folds.specs.Folds.{both, either}
 use Rattle.folds.proofs.Tests.{both-false, either-true, either-false}
 use Rattle.sheet.specs.Sheet.{Sheet, taskCount, linkCount, workOf, sourceOf, targetOf, costOf}
-use Rattle.chains.specs.Chains.{Chained}
+use Rattle.chains.specs.Chains.{headOf, nextOf, Chained}
 use Rattle.chains.specs.declared.End.the-variants.{Target}
 use Rattle.peeling.specs.Words.{Outside, pushed, doneBy, doneUpTo}
 use Rattle.peeling.specs.Peeling.{Peeled, Walking}
@@ -208,21 +208,21 @@ module _ (s : Sheet) (w : List ℕ) (declared : Declared s) (few : taskCount s �
   walking-hop i k j j′ v p h none =
       record { peel = peel-same (doneUpTo s i j v w) (doneUpTo s i j′ v w) (λ l g. up-hop s i v l w j j′ h (none l g)) (p .peel); task = p .task; here = p .here; own = p .own }
 
-  pub walk-begins : (i k v h : ℕ) → Chained Target s w → Walking s i k 0 v 0 0 w → h ≡ getD w (2576 + v) 0 → (h ≤ linkCount s) × (h < linkCount s → targetOf s h ≡ v) × Walking s i k h v 0 0 w
+  pub walk-begins : (i k v h : ℕ) → Chained Target s w → Walking s i k 0 v 0 0 w → h ≡ headOf Target w v → (h ≤ linkCount s) × (h < linkCount s → targetOf s h ≡ v) × Walking s i k h v 0 0 w
   walk-begins i k v h d p e = (
     rw e (d .head-few v (p .task)),
     λ g. ap (targetOf s) e ∙ d .head-own v (p .task) (rw e at g),
     walking-hop i k 0 h v p (omega arith) (λ l g a b. d .head-none v (p .task) l (rw e at b)),
   )
 
-  pub walk-more : (i k v l h : ℕ) → Chained Target s w → Walking s i k (l + 1) v 0 0 w → l < linkCount s → targetOf s l ≡ v → h ≡ getD w (2832 + l) 0 → (h ≤ linkCount s) × (h < linkCount s → targetOf s h ≡ v) × Walking s i k h v 0 0 w
+  pub walk-more : (i k v l h : ℕ) → Chained Target s w → Walking s i k (l + 1) v 0 0 w → l < linkCount s → targetOf s l ≡ v → h ≡ nextOf Target w l → (h ≤ linkCount s) × (h < linkCount s → targetOf s h ≡ v) × Walking s i k h v 0 0 w
   walk-more i k v l h d p g to e = (
     rw e (d .next-few l g),
     λ a. ap (targetOf s) e ∙ d .next-own l g (rw e at a) ∙ to,
     walking-hop i k (l + 1) h v p (let x = d .next-more l g in omega arith) (λ j a b q r. d .next-none l g j (omega arith) (rw e at q) (r ∙ sym to)),
   )
 
-  pub walk-far : (l h : ℕ) → Chained Target s w → l < linkCount s → h ≡ getD w (2832 + l) 0 → l < h
+  pub walk-far : (l h : ℕ) → Chained Target s w → l < linkCount s → h ≡ nextOf Target w l → l < h
   walk-far l h d g e = let x = d .next-more l g in omega arith
 
   pub walk-done : (i k v l : ℕ) → Walking s i k l v 0 0 w → linkCount s ≤ l → Peeled s (i + 1) k 0 0 w

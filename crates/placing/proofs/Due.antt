@@ -3,10 +3,9 @@ use Prim.Native.Nat.{ℕ, zero, suc, _+_, _≤_, _<_}
 use mathlib.Core.Path.{_≡_, refl, ap, subst, _∙_}
 use mathlib.Core.List.{List}
 use native.Mathlib.Omega.{arith}
-use lib.ListN.{getD}
 use Rattle.sheet.specs.Sheet.{Sheet, taskCount, linkCount, sourceOf, targetOf}
 use Rattle.planner.specs.Schedule.{Schedule}
-use Rattle.chains.specs.Chains.{Chained}
+use Rattle.chains.specs.Chains.{headOf, nextOf, Chained}
 use Rattle.chains.specs.declared.End.the-variants.{Source}
 use Rattle.chains.proofs.Walks.{sum-first, sum-next}
 use Rattle.placing.specs.Choosing.{knownInto, dueBy, fourIn, Small, MoreDue, DuesTo}
@@ -55,14 +54,14 @@ module _ (s : Sheet) (σ : Schedule) (v : ℕ) where
     added-due = record { each = each-due; few = few-due }
 
 module _ {s : Sheet} {σ : Schedule} {w : List ℕ} (d : Chained Source s w) (t : ℕ) (t-in : t < taskCount s) where
-  pub dues-first : {l : ℕ} → l ≡ getD w (4896 + t) 0 → l ≤ linkCount s → DuesTo s σ t l noCounts
+  pub dues-first : {l : ℕ} → l ≡ headOf Source w t → l ≤ linkCount s → DuesTo s σ t l noCounts
   dues-first {l} q few =
       record {
         each = λ j h. none-counted j ∙ sum-first d t t-in (dueBy s σ t (Four j)) (λ i g. due-else s σ t (Four j) i) q few;
         few = λ j. omega (arith, none-counted j);
       }
 
-  pub dues-next : {l l′ v : ℕ} {x y : Counts} → l < linkCount s → sourceOf s l ≡ t → l′ ≡ getD w (5152 + l) 0 → l < l′ → l′ ≤ linkCount s → v ≡ targetOf s l
+  pub dues-next : {l l′ v : ℕ} {x y : Counts} → l < linkCount s → sourceOf s l ≡ t → l′ ≡ nextOf Source w l → l < l′ → l′ ≤ linkCount s → v ≡ targetOf s l
       → DuesTo s σ t l x → MoreDue s σ v x y → DuesTo s σ t l′ y
   dues-next {l} {l′} {v} {x} {y} l-in own q more few ev h m =
       record {

@@ -15,6 +15,8 @@ use Rattle.folds.proofs.Laws.{any-found, any-some, greatest-le, greatest-skip, 
 use Rattle.folds.proofs.Tests.{both-parts, parts-both}
 use Rattle.sheet.specs.Sheet.{Sheet, linkCount, sourceOf, targetOf}
 use Rattle.sheet.specs.Tables.{sheetIn}
+use Rattle.chains.specs.Chains.{headOf, nextOf}
+use Rattle.chains.specs.declared.End.the-variants.{Target}
 use Rattle.planner.specs.Schedule.{Schedule, stands, placeOf}
 use Rattle.planner.specs.Placing.{holdsBy, holdsPredecessor}
 use Rattle.planner.proofs.Ready.{ready-source}
@@ -98,7 +100,7 @@ module _ (w : List ℕ) (t : ℕ) (c : Choosing w t) where
       let z : a + (b - a) ≡ b = omega arith in
       sym (greatest-skip (linkKey s σ t) a (b - a) (λ i p q. else-key i (none i p (omega arith)))) ∙ ap (λ (n : ℕ). greatest n (linkKey s σ t)) z
 
-  pub join-begins : {l : ℕ} → l ≡ getD w (2576 + t) 0 → l ≤ linkCount s → Joining s σ t 0 l 0
+  pub join-begins : {l : ℕ} → l ≡ headOf Target w t → l ≤ linkCount s → Joining s σ t 0 l 0
   join-begins {l} e h =
       record {
         walk = walk-begins (c .kept .caches .inward) (c .kept .caches .gathered) t (c .task) e h;
@@ -116,7 +118,7 @@ module _ (w : List ℕ) (t : ℕ) (c : Choosing w t) where
         let e = ek ∙ ap (placeOf σ) eu in
         (omega (arith, e, link-open l h (g .walk .own h), c .kept .few-opened), rw e (link-holds l h (g .walk .own h)))
 
-    pub join-more : {l′ u k v best′ : ℕ} → l < linkCount s → l′ ≡ getD w (2832 + l) 0 → l < l′ → l′ ≤ linkCount s → u ≡ sourceOf s l → k ≡ placeOf σ u → v ≡ joinKey s σ t k → best′ ≡ max best v → Joining s σ t (i + 1) l′ best′
+    pub join-more : {l′ u k v best′ : ℕ} → l < linkCount s → l′ ≡ nextOf Target w l → l < l′ → l′ ≤ linkCount s → u ≡ sourceOf s l → k ≡ placeOf σ u → v ≡ joinKey s σ t k → best′ ≡ max best v → Joining s σ t (i + 1) l′ best′
     join-more {l′} h e more f eu ek ev eb =
         record {
           walk = walk-more (c .kept .caches .inward) (c .kept .caches .gathered) t (c .task) (g .walk) h e more f;

@@ -4,11 +4,11 @@ use mathlib.Core.Path.{_≡_, refl, sym, ap, ap₂, _∙_}
 use mathlib.Core.Logic.{_≢_}
 use mathlib.Core.List.{List, [], _++_, append-assoc, append-nil}
 use native.Mathlib.Omega.{arith}
-use lib.ListN.{length, getD, length-append}
+use lib.ListN.{length, length-append}
 use Rattle.folds.specs.Folds.{sum, gather}
 use Rattle.folds.proofs.Loops.{gather-zero, gather-one}
 use Rattle.sheet.specs.Sheet.{Sheet, taskCount, linkCount}
-use Rattle.chains.specs.Chains.{endBy, headAt, Chained}
+use Rattle.chains.specs.Chains.{endBy, headOf, nextOf, Chained}
 use Rattle.chains.specs.declared.End.{End}
 
 pub gather-cong : {X : Type 0} (n : ℕ) (f g : ℕ → List X) → ((i : ℕ) → i < n → f i ≡ g i) → gather n f ≡ gather n g
@@ -36,12 +36,12 @@ gather-skip f a (suc d) h =
 
 -- a walk along the chain of t, where only the links of t give something
 module _ {X : Type 0} {e : End} {s : Sheet} {w : List ℕ} (d : Chained e s w) (t : ℕ) (t-in : t < taskCount s) (f : ℕ → List X) (else : (l : ℕ) → endBy e s l ≢ t → f l ≡ []) where
-  pub gather-first : {l : ℕ} → l ≡ getD w (headAt e + t) 0 → gather l f ≡ []
+  pub gather-first : {l : ℕ} → l ≡ headOf e w t → gather l f ≡ []
   gather-first {l} q =
       let z : 0 + l ≡ l = omega arith in
       ap (λ (k : ℕ). gather k f) (sym z) ∙ gather-skip f 0 l (λ i p k. else i (d .head-none t t-in i (omega arith))) ∙ gather-zero f
 
-  pub gather-next : {l l′ : ℕ} → l < linkCount s → endBy e s l ≡ t → l′ ≡ getD w (headAt e + 256 + l) 0 → l < l′ → gather l′ f ≡ gather l f ++ f l
+  pub gather-next : {l l′ : ℕ} → l < linkCount s → endBy e s l ≡ t → l′ ≡ nextOf e w l → l < l′ → gather l′ f ≡ gather l f ++ f l
   gather-next {l} {l′} h own q more =
       let z : l + 1 + (l′ - (l + 1)) ≡ l′ = omega arith in
       ap (λ (k : ℕ). gather k f) (sym z)

@@ -10,7 +10,7 @@ use lib.ListN.{length, getD, length-append}
 use Rattle.folds.specs.Folds.{gather}
 use Rattle.sheet.specs.Sheet.{Sheet, taskCount, linkCount}
 use Rattle.sheet.specs.Tables.{sheetIn}
-use Rattle.chains.specs.Chains.{endBy, headAt, Chained}
+use Rattle.chains.specs.Chains.{endBy, headOf, nextOf, Chained}
 use Rattle.chains.specs.declared.End.{End}
 use Rattle.chains.specs.declared.End.the-variants.{Source, Target}
 use Rattle.bundle.specs.Writing.{bundleBytes, claimBytes}
@@ -39,10 +39,10 @@ pub record Walk (e : End) (s : Sheet) (t l : ℕ) : Type 0 where
   pub own : l < linkCount s → endBy e s l ≡ t
 
 module _ {e : End} {s : Sheet} {w : List ℕ} (d : Chained e s w) (t : ℕ) (t-in : t < taskCount s) where
-  pub walk-starts : {l : ℕ} → l ≡ getD w (headAt e + t) 0 → l ≤ linkCount s → Walk e s t l
+  pub walk-starts : {l : ℕ} → l ≡ headOf e w t → l ≤ linkCount s → Walk e s t l
   walk-starts {l} q h = record { here = h; own = λ k. rw q (d .head-own t t-in (rw q at k)) }
 
-  pub walk-on : {l l′ : ℕ} → Walk e s t l → l < linkCount s → l′ ≡ getD w (headAt e + 256 + l) 0 → l′ ≤ linkCount s → Walk e s t l′
+  pub walk-on : {l l′ : ℕ} → Walk e s t l → l < linkCount s → l′ ≡ nextOf e w l → l′ ≤ linkCount s → Walk e s t l′
   walk-on {l} {l′} g h q few = record { here = few; own = λ k. rw q (d .next-own l h (rw q at k)) ∙ g .own h }
 
 module _ (s : Sheet) (σ : Schedule) where

@@ -4,14 +4,14 @@ use mathlib.Core.Path.{_≡_, refl, sym, ap, _∙_}
 use mathlib.Core.Bool.{true}
 use mathlib.Core.List.{List, [], _∷_}
 use native.Mathlib.Omega.{arith}
-use lib.ListN.{length, getD, set}
+use lib.ListN.{length, set}
 use Rattle.folds.specs.Folds.{gather}
 use Rattle.folds.proofs.Lists.{gather-part}
 use Rattle.folds.proofs.Loops.{gather-zero, gather-one}
 use Rattle.numbers.specs.Number.{numberBytes, stored}
 use Rattle.numbers.proofs.Laws.{stored-one, stored-then}
 use Rattle.sheet.specs.Sheet.{Sheet, taskCount, linkCount}
-use Rattle.chains.specs.Chains.{endBy, headAt, Chained}
+use Rattle.chains.specs.Chains.{endBy, headOf, nextOf, Chained}
 use Rattle.chains.specs.declared.End.{End}
 use Rattle.chains.specs.declared.End.the-variants.{Source, Target}
 use Rattle.bundle.specs.Writing.{claimBytes, bundleBytes}
@@ -57,7 +57,7 @@ module _ (s : Sheet) (σ : Schedule) where
     pub filled : Filled (messageBytes s σ e k t) old start l out at
 
   module _ {e : End} {w : List ℕ} (d : Chained e s w) (k t : ℕ) (t-in : t < taskCount s) (old : List ℕ) (start : ℕ) where
-    pub putting-starts : {l : ℕ} → l ≡ getD w (headAt e + t) 0 → l ≤ linkCount s → Putting e k t old start l old start
+    pub putting-starts : {l : ℕ} → l ≡ headOf e w t → l ≤ linkCount s → Putting e k t old start l old start
     putting-starts q h =
         record {
           walk = walk-starts d t t-in q h;
@@ -70,7 +70,7 @@ module _ (s : Sheet) (σ : Schedule) where
 
     pub putting-on : {l l′ : ℕ} {out last : List ℕ} {at r : ℕ} → Putting e k t old start l out at → l < linkCount s
         → Laid out at (messageBytes s σ e k (endBy e s l) l) last r → length last ≡ length out
-        → l′ ≡ getD w (headAt e + 256 + l) 0 → l′ ≤ linkCount s → l < l′ → Putting e k t old start l′ last r
+        → l′ ≡ nextOf e w l → l′ ≤ linkCount s → l < l′ → Putting e k t old start l′ last r
     putting-on {l} {l′} g h p long q few more =
         let f = messageBytes s σ e k t in
         let own = g .walk .own h in

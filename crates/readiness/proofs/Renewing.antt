@@ -20,7 +20,7 @@ use Rattle.planner.specs.Schedule.{Schedule, placed, finishOf, put}
 use Rattle.planner.specs.Placing.{comes, lacks, satisfied, ready, partlyReady, arrivalBy, arrival, priority}
 use Rattle.planner.proofs.Ready.{ready-source}
 use Rattle.planner.proofs.Schedules.{finish-other, placed-other}
-use Rattle.chains.specs.Chains.{Chained}
+use Rattle.chains.specs.Chains.{headOf, nextOf, Chained}
 use Rattle.chains.specs.declared.End.the-variants.{Source}
 use Rattle.arrivals.specs.Kept.{Single}
 use Rattle.arrivals.specs.Steps.{Placeable}
@@ -121,7 +121,7 @@ module _ {s : Sheet} {σ : Schedule} where
 
   -- the links from t, chained
   module _ {w : List ℕ} (chained : Chained Source s w) (ranged : Ranged s) (t : ℕ) (h : t < taskCount s) where
-    pub walk-begins : {l : ℕ} {q : List ℕ} → l ≡ getD w (4896 + t) 0 → l ≤ linkCount s → KeyedPast s σ t 0 q → Walking s σ t l q
+    pub walk-begins : {l : ℕ} {q : List ℕ} → l ≡ headOf Source w t → l ≤ linkCount s → KeyedPast s σ t 0 q → Walking s σ t l q
     walk-begins {l} e few k =
         record {
           here = few;
@@ -138,7 +138,7 @@ module _ {s : Sheet} {σ : Schedule} where
         go p i b o (yes c) = absurd (chained .head-none t h i (omega (arith, e)) o)
         go p i b o (no c) = p .none-leads i (omega arith) b o
 
-    pub walk-more : Single s → {l l′ v : ℕ} {q q′ : List ℕ} → l < linkCount s → l′ ≡ getD w (5152 + l) 0 → l′ ≤ linkCount s → v ≡ targetOf s l → Renewed s σ q q′ v → Walking s σ t l q → Walking s σ t l′ q′
+    pub walk-more : Single s → {l l′ v : ℕ} {q q′ : List ℕ} → l < linkCount s → l′ ≡ nextOf Source w l → l′ ≤ linkCount s → v ≡ targetOf s l → Renewed s σ q q′ v → Walking s σ t l q → Walking s σ t l′ q′
     walk-more single {l} {l′} {v} b e few ev r g =
         record {
           here = few;

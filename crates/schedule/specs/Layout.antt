@@ -2,7 +2,6 @@
 --
 --   3856 + t place, 4112 + t start and 4368 + t finish of task t; 4624 + i task placed at turn i (256 each)
 --   4880 processors opened, 4881 tasks placed
---   4896 + t first link out of task t, 5152 + l next link out of the same task as link l
 --   6176 + t number and 6432 + t bytes of all links into task t
 --   of the links into task t from placed tasks: 6688 + t number, 6944 + t latest reach, which comes from processor 7456 + t,
 --   7200 + t latest reach from any other processor

@@ -16,12 +16,12 @@ use Rattle.planner.specs.Placing.{barred}
 use Rattle.planner.specs.Planner.{turns, plannedBy, planned}
 use Rattle.levelling.specs.Found.{Levelled}
 use Rattle.schedule.specs.Layout.{scheduleIn}
-use Rattle.schedule.proofs.Rows.{schedule-frame, levelled-frame, order-long}
-use Rattle.chains.specs.Chains.{Chained}
+use Rattle.schedule.proofs.Rows.{schedule-frame, order-long}
+use Rattle.chains.specs.Chains.{Rechained, Chained}
 use Rattle.chains.specs.Frames.{Only}
 use Rattle.chains.specs.declared.End.the-variants.{Source, Target}
-use Rattle.chains.proofs.Frames.{same-sheet, same-loaded}
-use Rattle.chains.proofs.Walks.{chained-frame}
+use Rattle.chains.proofs.Frames.{same-sheet, same-loaded, only-sheet, only-loaded}
+use Rattle.chains.proofs.Walks.{chained-frame, chained-under}
 use Rattle.arrivals.specs.Kept.{Single, Caches}
 use Rattle.arrivals.specs.Steps.{Zero, Blank, GatheredTo}
 use Rattle.arrivals.proofs.Gathering.{gather-none, gathered-all}
@@ -62,41 +62,41 @@ module _ {w w₁ : List ℕ} (loaded : Loaded w) (levelled : Levelled (sheetIn w
     zero₂ : Zero 7712 (7792 + 4 * taskCount s) w₂
     zero₂ = subst (λ (x : Sheet). Zero 7712 (7792 + 4 * taskCount x) w₂) sheet₁ zero
 
-    module _ {w₃ : List ℕ} (o₃ : Only 4896 6176 w₂ w₃) (outward : Chained Source (sheetIn w₂) w₃) where
-      low₃ : (i : ℕ) → i < 3856 → getD w₃ i 0 ≡ getD w i 0
-      low₃ i h = o₃ .low i (omega arith) ∙ low₂ i h
+    module _ {w₃ : List ℕ} (o₃ : Rechained Source w₂ w₃) (outward : Chained Source (sheetIn w₂) w₃) where
+      low₃ : (i : ℕ) → i < 2576 → getD w₃ i 0 ≡ getD w i 0
+      low₃ i h = o₃ .only .low i h ∙ low₂ i (omega arith)
 
       long₃ : length w₃ ≡ length w
-      long₃ = o₃ .long ∙ long₂
+      long₃ = o₃ .only .long ∙ long₂
 
       pub loaded₃ : Loaded w₃
-      loaded₃ = same-loaded w w₃ loaded low₃ long₃
+      loaded₃ = only-loaded (omega arith) loaded₂ (o₃ .only)
 
       sheet₃ : sheetIn w₃ ≡ s
-      sheet₃ = same-sheet w w₃ loaded low₃
+      sheet₃ = only-sheet (omega arith) loaded₂ (o₃ .only) ∙ sheet₂
 
       pub gather₃ : GatheredTo (sheetIn w₃) 0 w₃
-      gather₃ = subst (λ (x : Sheet). GatheredTo x 0 w₃) (sym sheet₃) (gather-none blank₂ (o₃ .high))
+      gather₃ = subst (λ (x : Sheet). GatheredTo x 0 w₃) (sym sheet₃) (gather-none blank₂ (λ i h. o₃ .only .high i (omega arith)))
 
       module _ {w₄ : List ℕ} (o₄ : Only 6176 6688 w₃ w₄) (gathered : GatheredTo (sheetIn w₃) (linkCount (sheetIn w₃)) w₄) where
-        low₄ : (i : ℕ) → i < 3856 → getD w₄ i 0 ≡ getD w i 0
+        low₄ : (i : ℕ) → i < 2576 → getD w₄ i 0 ≡ getD w i 0
         low₄ i h = o₄ .low i (omega arith) ∙ low₃ i h
 
         long₄ : length w₄ ≡ length w
         long₄ = o₄ .long ∙ long₃
 
         loaded₄ : Loaded w₄
-        loaded₄ = same-loaded w w₄ loaded low₄ long₄
+        loaded₄ = only-loaded (omega arith) loaded₃ o₄
 
         sheet₄ : sheetIn w₄ ≡ s
-        sheet₄ = same-sheet w w₄ loaded low₄
+        sheet₄ = only-sheet (omega arith) loaded₃ o₄ ∙ sheet₃
 
         -- the words of the schedule are those of w₁
-        kept₄ : (i : ℕ) → i < 4896 → getD w₄ i 0 ≡ getD w₁ i 0
-        kept₄ i h = o₄ .low i (omega arith) ∙ o₃ .low i h ∙ o₂ .low i (omega arith)
+        kept₄ : (i : ℕ) → 3856 ≤ i → i < 4896 → getD w₄ i 0 ≡ getD w₁ i 0
+        kept₄ i l h = o₄ .low i (omega arith) ∙ o₃ .only .high i l ∙ o₂ .low i (omega arith)
 
         schedule₄ : scheduleIn w₄ ≡ empty s
-        schedule₄ = schedule-frame w₁ w₄ (loaded₁ .tasks) (omega (arith, e₁ .placed)) (kept₄ 0 (omega arith)) (λ i h l. kept₄ i l) ∙ e₁ .schedule
+        schedule₄ = schedule-frame w₁ w₄ (loaded₁ .tasks) (omega (arith, e₁ .placed)) (low₄ 0 (omega arith) ∙ sym (low₁ 0 (omega arith))) kept₄ ∙ e₁ .schedule
 
         empty₄ : (u : ℕ) → placeOf (scheduleIn w₄) u ≡ 16
         unfolding placeOf
@@ -107,26 +107,31 @@ module _ {w w₁ : List ℕ} (loaded : Loaded w) (levelled : Levelled (sheetIn w
         standing₄ u e = absurd (omega (arith, empty₄ u, ltb-true (placeOf (scheduleIn w₄) u) 16 e))
 
         high₄ : (i : ℕ) → 6688 ≤ i → getD w₄ i 0 ≡ getD w₂ i 0
-        high₄ i h = o₄ .high i h ∙ o₃ .high i (omega arith)
+        high₄ i h = o₄ .high i h ∙ o₃ .only .high i (omega arith)
+
+        inward₄ : Chained Target s w₄
+        inward₄ =
+            let r = ranged w loaded in
+            chained-frame (r .few-tasks) (r .few-links) (λ i h l. o₄ .low i (omega arith)) (chained-under o₃ (chained-frame (r .few-tasks) (r .few-links) (λ i h l. low₂ i l) (levelled .inward)))
 
         caches₄ : Caches s (scheduleIn w₄) w₄
         caches₄ =
             let r = ranged w loaded in
             record {
               outward = chained-frame (r .few-tasks) (r .few-links) (λ i h l. o₄ .low i (omega arith)) (subst (λ (x : Sheet). Chained Source x w₃) sheet₂ outward);
-              inward = chained-frame (r .few-tasks) (r .few-links) (λ i h l. low₄ i (omega arith)) (levelled .inward);
+              inward = inward₄;
               gathered = gathered-all (subst (λ (x : Sheet). GatheredTo x (linkCount x) w₄) sheet₃ gathered);
               counted = counted-zero s (scheduleIn w₄) empty₄ w₄ zero₂ high₄ blank₂;
               ends = ends-zero s (scheduleIn w₄) empty₄ w₄ zero₂ high₄;
               closed = closed-zero s (scheduleIn w₄) empty₄;
             }
 
-        going₄ : Going w 0 w₄
-        going₄ =
+        pub going-first : Going w₄ 0 w₄
+        going-first =
             record {
-              long = long₄;
-              low = low₄;
-              sheet = sheet₄;
+              long = refl;
+              low = λ i h. refl;
+              sheet = refl;
               kept =
                   record {
                     loaded = loaded₄;
@@ -136,15 +141,10 @@ module _ {w w₁ : List ℕ} (loaded : Loaded w) (levelled : Levelled (sheetIn w
                     standing = standing₄;
                     caches = subst (λ (x : Sheet). Caches x (scheduleIn w₄) w₄) (sym sheet₄) caches₄;
                   };
-              levelled = subst (λ (x : Sheet). Levelled x w₄) (sym sheet₄) (levelled-frame (ranged w loaded .few-tasks) (ranged w loaded .few-links) low₄ levelled);
+              levelled = subst (λ (x : Sheet). Levelled x w₄) (sym sheet₄) (record { inward = inward₄; levels = λ t h. low₄ (2320 + t) (omega (arith, ranged w loaded .few-tasks)) ∙ levelled .levels t h });
               timely = subst (Timely 0) (sym schedule₄) (empty-timely s);
-              placed = omega (arith, kept₄ 4881 (omega arith), e₁ .placed);
+              placed = omega (arith, kept₄ 4881 (omega arith) (omega arith), e₁ .placed);
             }
-
-        pub going-first : Going w₄ 0 w₄
-        going-first =
-            let g = going₄ in
-            record { long = refl; low = λ i h. refl; sheet = refl; kept = g .kept; levelled = g .levelled; timely = g .timely; placed = g .placed }
 
         planned-by : {a : Answer Schedule} → a ≡ turns (sheetIn w₄) (barred (sheetIn w₄)) (taskCount (sheetIn w₄)) (scheduleIn w₄) → a ≡ planned s
         unfolding planned plannedBy
@@ -157,7 +157,7 @@ module _ {w w₁ : List ℕ} (loaded : Loaded w) (levelled : Levelled (sheetIn w
               let sheet : sheetIn w₅ ≡ s = g .sheet ∙ sheet₄ in
               record {
                 long = g .long ∙ long₄;
-                low = λ i h. g .low i h ∙ low₄ i h;
+                low = λ i h. g .low i (omega arith) ∙ low₄ i h;
                 loaded = g .kept .loaded;
                 sheet = sheet;
                 outward = subst (λ (x : Sheet). Chained Source x w₅) sheet (g .kept .caches .outward);

@@ -127,7 +127,7 @@ module _ {w w₁ : List ℕ} {j t k a f p o : ℕ} (u : Putting w j t k a f p o)
       task₃ = rw sheet₃ (u .can .task)
 
       chain₃ : Chained Source s w₃
-      chain₃ = chained-frame (range .few-tasks) (range .few-links) (λ i h l. high₃ i (omega arith) ∙ low₂ i (omega arith)) (u .going .kept .caches .outward)
+      chain₃ = chained-frame (range .few-tasks) (range .few-links) (λ i h l. low₃ i l) (u .going .kept .caches .outward)
 
       pub outward₃ : Chained Source (sheetIn w₃) w₃
       outward₃ = subst (λ (x : Sheet). Chained Source x w₃) (sym sheet₃) chain₃

@@ -50,7 +50,7 @@ pub record Emptied (w₀ w : List ℕ) : Type 0 where
 -- what a planned area has besides its schedule: sheet and levels as they were, the chains of links, and small numbers
 pub record Afterwards (w₀ w : List ℕ) : Type 0 where
   pub long : length w ≡ length w₀
-  pub low : (i : ℕ) → i < 3856 → getD w i 0 ≡ getD w₀ i 0
+  pub low : (i : ℕ) → i < 2576 → getD w i 0 ≡ getD w₀ i 0
   pub loaded : Loaded w
   pub sheet : sheetIn w ≡ sheetIn w₀
   pub outward : Chained Source (sheetIn w₀) w

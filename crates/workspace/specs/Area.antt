@@ -4,7 +4,8 @@
 --   16 + t work + 65536 * store of task t (256)
 --   272 + l source + 256 * target + 65536 * cost, and 1296 + l bytes of link l (1,024 each)
 --   2320 + t level of task t (256)
---   2576 + t first link into task t (256), 2832 + l next link into the target of link l (1,024)
+--   2576 + t first link into task t + 65536 * first link out of it (256)
+--   2832 + l next link into the same task as link l + 65536 * next link out of the same task (1,024)
 --   3856 to 8815 for one after the other: a bit for each pair of tasks while a sheet is read, the search for circles and
 --   levels, and what the planner or the checker keeps
 use Prim.Native.Nat.{ℕ, _≤_, _<_}

@@ -1,7 +1,7 @@
 -- `chain` (src/lib.rt) keeps its contract.
 use mathlib.Core.Path.{ap, sym}
 use native.Mathlib.Omega.{arith}
-use Rattle.chains.proofs.Building.{chains-done, chains-still, head-place}
+use Rattle.chains.proofs.Building.{chains-done, chains-still}
 use Rattle.sheet.specs.Sheet.{linkCount}
 use borrow.Author.Needs.{needs}
 use Rattle.chains.proofs.Frames.{only-loaded, only-sheet}
@@ -9,7 +9,7 @@ use Rattle.chains.proofs.chain.Statement.{statement}
 use Rattle.chains.proofs.chain.Tie as tie
 
 chain-all-requires : tie.Need-chain-all-requires
-chain-all-requires c κs = (only-loaded (omega (arith, head-place (c .before .before .before .before .before .before .args .e))) (c .before .before .before .before .before .before .pre) (c .before .before .before .unchain .ensures .0), chains-still (c .before .before .before .before .before .before .pre) (c .before .before .before .unchain .ensures .0) (ap linkCount (sym (only-sheet (omega (arith, head-place (c .before .before .before .before .before .before .args .e))) (c .before .before .before .before .before .before .pre) (c .before .before .before .unchain .ensures .0)))) (c .before .before .before .unchain .ensures .1))
+chain-all-requires c κs = (only-loaded (omega arith) (c .before .before .before .before .before .before .pre) (c .before .before .before .unchain .ensures .0 .only), chains-still (c .before .before .before .before .before .before .pre) (c .before .before .before .unchain .ensures .0) (ap linkCount (sym (only-sheet (omega arith) (c .before .before .before .before .before .before .pre) (c .before .before .before .unchain .ensures .0 .only)))) (c .before .before .before .unchain .ensures .1))
 
 returns : tie.Need-returns
 returns c = chains-done (c .before .before .before .before .before .before .before .before .before .pre) (c .before .before .before .before .before .before .unchain .ensures .0) (c .before .before .chain-all .ensures)

@@ -1,22 +1,25 @@
 -- `first` (src/lib.rt) keeps its contract.
-use Prim.Native.Nat.{_+_, ℕ}
 use mathlib.Core.Path.{_∙_, ap}
 use native.Mathlib.Omega.{arith}
-use lib.ListN.{getD}
-use borrow.Author.Needs.{needs}
 use denote.Ref.{now}
 use Rattle.sheet.proofs.Rows.{task-index}
+use Rattle.chains.specs.Chains.{half, headOf}
+use borrow.Author.Needs.{needs}
 use Rattle.chains.proofs.first.Statement.{statement}
 use Rattle.chains.proofs.first.Tie as tie
 
 add-word : tie.Need-add-word
-add-word c = omega (arith, task-index (now (c .before .before .args .w)) (c .before .before .args .t) (c .before .before .pre .0) (c .before .before .pre .1 .1), c .heads .ensures)
+add-word c = omega (arith, task-index (now (c .before .args .w)) (c .before .args .t) (c .before .pre .0) (c .before .pre .1 .1))
 
 word-requires : tie.Need-word-requires
-word-requires c κs = omega (arith, task-index (now (c .before .before .args .w)) (c .before .before .args .t) (c .before .before .pre .0) (c .before .before .pre .1 .1), c .heads .ensures, c .before .before .pre .0 .long)
+word-requires c κs = omega (arith, task-index (now (c .before .args .w)) (c .before .args .t) (c .before .pre .0) (c .before .pre .1 .1), c .before .pre .0 .long)
 
 returns : tie.Need-returns
-returns c = let e = c .word .ensures .0 ∙ ap (λ (x : ℕ). getD (now (c .before .before .before .args .w)) (x + c .before .before .before .args .t) 0) (c .before .heads .ensures .0) in (e, rw e (c .before .before .before .pre .1 .0 .head-few (c .before .before .before .args .t) (c .before .before .before .pre .1 .1)))
+unfolding headOf
+returns c =
+    let s = c .before .before .before in
+    let q = c .half .ensures ∙ ap (half (s .args .e)) (c .before .word .ensures .0) in
+    (q, rw q (s .pre .1 .0 .head-few (s .args .t) (s .pre .1 .1)))
 
 pub first-spec : {M : Type 1} → statement M
-first-spec = tie.close (tie.spec (λ c κs. search needs) add-word word-requires returns)
+first-spec = tie.close (tie.spec add-word word-requires (λ c κs. search needs) returns)
