@@ -11,10 +11,9 @@ use Rattle.folds.proofs.Laws.{sum-zeros, greatest-le}
 use Rattle.sheet.specs.Sheet.{Sheet, taskCount, linkCount, sourceOf, targetOf}
 use Rattle.planner.specs.Schedule.{Schedule, placed, stands, placeOf}
 use Rattle.planner.specs.Placing.{reachBy, endBy, endOf, storeBy, bytesBy, storeOn}
-use Rattle.arrivals.specs.Kept.{countedBy, into, intoFrom, intoOff, waits, oneBy, known, Counted, Ends, Closed}
-use Rattle.arrivals.specs.Steps.{Zero, Blank}
+use Rattle.arrivals.specs.Kept.{keptLength, countedBy, into, intoFrom, intoOff, waits, oneBy, known, Counted, Ends, Closed}
+use Rattle.arrivals.specs.Steps.{Zero}
 use Rattle.arrivals.proofs.Fours.{four-zero}
-use Rattle.arrivals.proofs.Clearing.{blank-word}
 
 module _ (s : Sheet) (σ : Schedule) (free : (u : ℕ) → placeOf σ u ≡ 16) where
   not-placed : (u : ℕ) → placed σ u ≡ false
@@ -52,25 +51,25 @@ module _ (s : Sheet) (σ : Schedule) (free : (u : ℕ) → placeOf σ u ≡ 16) 
         sum-zeros (linkCount s) (bytesBy s σ k) (λ l g. rw (nowhere-on (targetOf s l) k h)),
       )
 
-  -- in words that were cleared (w) and stand as they did
-  module _ (w′ : List ℕ) {w : List ℕ} (zero : Zero 7712 (7792 + 4 * taskCount s) w) (same : (i : ℕ) → 6688 ≤ i → getD w′ i 0 ≡ getD w i 0) where
-    z : (i : ℕ) → 7712 ≤ i → i < 7792 + 4 * taskCount s → getD w′ i 0 ≡ 0
-    z i h l = same i (omega arith) ∙ zero .at i h l
+  -- in words of 0
+  module _ (kept : List ℕ) (few : taskCount s ≤ 256) (zero : Zero 512 keptLength kept) where
+    z : (i : ℕ) → 512 ≤ i → i < keptLength → getD kept i 0 ≡ 0
+    z = zero .at
 
-    pub counted-zero : Blank (taskCount s) 5 w → Counted s σ (known s σ) w′
-    counted-zero b =
+    pub counted-zero : Counted s σ (known s σ) kept
+    counted-zero =
         record {
-          seen = λ t h. same (6688 + t) (omega arith) ∙ blank-word b 2 t (omega arith) h ∙ sym (no-sum (into s t) oneBy);
-          arrived = λ t h. same (6944 + t) (omega arith) ∙ blank-word b 3 t (omega arith) h ∙ sym (no-most (into s t) (reachBy s σ));
-          main = λ t h. same (6944 + t) (omega arith) ∙ blank-word b 3 t (omega arith) h ∙ sym (no-most (intoFrom s σ t (getD w′ (7456 + t) 0)) (reachBy s σ));
-          off = λ t h. same (7200 + t) (omega arith) ∙ blank-word b 4 t (omega arith) h ∙ sym (no-most (intoOff s σ t (getD w′ (7456 + t) 0)) (reachBy s σ));
-          pending = λ k h. z (7744 + k) (omega arith) (omega arith) ∙ sym (no-sum (waits s σ k) oneBy);
-          packed = λ t j h g. z (7792 + (4 * t + j)) (omega arith) (omega arith) ∙ sym (four-zero _ (λ i p. no-sum (intoFrom s σ t (4 * j + i)) oneBy));
+          seen = λ t h. z (512 + t) (omega arith) (omega arith) ∙ sym (no-sum (into s t) oneBy);
+          arrived = λ t h. z (768 + t) (omega arith) (omega arith) ∙ sym (no-most (into s t) (reachBy s σ));
+          main = λ t h. z (768 + t) (omega arith) (omega arith) ∙ sym (no-most (intoFrom s σ t (getD kept (1280 + t) 0)) (reachBy s σ));
+          off = λ t h. z (1024 + t) (omega arith) (omega arith) ∙ sym (no-most (intoOff s σ t (getD kept (1280 + t) 0)) (reachBy s σ));
+          pending = λ k h. z (1568 + k) (omega arith) (omega arith) ∙ sym (no-sum (waits s σ k) oneBy);
+          packed = λ t j h g. z (1616 + (4 * t + j)) (omega arith) (omega arith) ∙ sym (four-zero _ (λ i p. no-sum (intoFrom s σ t (4 * j + i)) oneBy));
         }
 
-    pub ends-zero : Ends s σ w′
+    pub ends-zero : Ends s σ kept
     ends-zero =
-        record { ends = λ k h. z (7712 + k) (omega arith) (omega arith) ∙ sym (no-end k h); stores = λ k h. z (7728 + k) (omega arith) (omega arith) ∙ sym (no-store k h) }
+        record { ends = λ k h. z (1536 + k) (omega arith) (omega arith) ∙ sym (no-end k h); stores = λ k h. z (1552 + k) (omega arith) (omega arith) ∙ sym (no-store k h) }
 
   pub closed-zero : Closed s σ
   closed-zero l h e = absurd (true≢false (sym e ∙ not-placed (targetOf s l)))

@@ -23,7 +23,7 @@ pub record Walking (s : Sheet) (t i l : ℕ) : Type 0 where
   pub own : l < linkCount s → targetOf s l ≡ t
   pub walked : i ≡ sum l (countedBy (into s t) oneBy (λ l. true))
 
-module _ {s : Sheet} {w : List ℕ} (chained : Chained Target s w) (gathered : Gathered s w) (t : ℕ) (t-in : t < taskCount s) where
+module _ {s : Sheet} {w kept : List ℕ} (chained : Chained Target s w) (gathered : Gathered s kept) (t : ℕ) (t-in : t < taskCount s) where
   -- 1 for a link into t
   abbrev leads : ℕ → ℕ
   leads = countedBy (into s t) oneBy (λ l. true)
@@ -41,7 +41,7 @@ module _ {s : Sheet} {w : List ℕ} (chained : Chained Target s w) (gathered : G
 
   module _ {i l : ℕ} (g : Walking s t i l) where
     -- there is a link more
-    pub walk-there : {n : ℕ} → n ≡ getD w (6176 + t) 0 → i < n → l < linkCount s
+    pub walk-there : {n : ℕ} → n ≡ getD kept t 0 → i < n → l < linkCount s
     walk-there e h = go (decLt l (linkCount s))
       where
         go : Dec (l < linkCount s) → l < linkCount s
@@ -60,7 +60,7 @@ module _ {s : Sheet} {w : List ℕ} (chained : Chained Target s w) (gathered : G
         }
 
     -- all of t's links were walked, and so there is none at l
-    pub walk-ended : {n : ℕ} → n ≡ getD w (6176 + t) 0 → n ≤ i → l ≡ linkCount s
+    pub walk-ended : {n : ℕ} → n ≡ getD kept t 0 → n ≤ i → l ≡ linkCount s
     walk-ended e h = go (decLt l (linkCount s))
       where
         go : Dec (l < linkCount s) → l ≡ linkCount s

@@ -8,7 +8,6 @@ use native.Mathlib.Decide.{ℕ-discrete}
 use borrow.Author.Tests.{eq-eqb, ne-eqb}
 use lib.ListN.{length, getD, set, length-set}
 use lib.Seq.{getD-set-same, getD-set-other}
-use Rattle.workspace.specs.Area.{fixed}
 use Rattle.folds.specs.Folds.{both}
 use Rattle.folds.proofs.Tests.{pick-le}
 use Rattle.folds.proofs.Laws.{sum-le}
@@ -18,7 +17,7 @@ use Rattle.planner.specs.Schedule.{Schedule, put, stands}
 use Rattle.planner.specs.Placing.{endOf, storeBy, bytesBy, storeOn}
 use Rattle.chains.specs.Frames.{Only}
 use Rattle.chains.proofs.Frames.{only-none, only-set}
-use Rattle.arrivals.specs.Kept.{known, Gathered, Counted, Surveyed, Ends}
+use Rattle.arrivals.specs.Kept.{keptLength, known, Gathered, Counted, Surveyed, Ends}
 use Rattle.arrivals.specs.Steps.{Placeable, Released, Enough}
 use Rattle.arrivals.proofs.Placing.{end-put, store-put, store-else, waits-put}
 
@@ -33,52 +32,52 @@ store-small s σ k ranged =
       sum-le (linkCount s) 65535 (bytesBy s σ k) (λ l h. pick-le (both (stands σ (targetOf s l) k) (not (stands σ (sourceOf s l) k))) (bytesOf s l) 0 65535 (omega (arith, ranged .sizes l h)) (omega arith)),
     )
 
-module _ (s : Sheet) (σ : Schedule) (w : List ℕ) (t k a f : ℕ) (long : fixed ≤ length w) (g : Placeable s σ t k) (late : endOf s σ k ≤ f)
+module _ (s : Sheet) (σ : Schedule) (w : List ℕ) (t k a f : ℕ) (long : keptLength ≤ length w) (g : Placeable s σ t k) (late : endOf s σ k ≤ f)
     (gathered : Gathered s w) (counted : Counted s σ (known s σ) w) (surveyed : Surveyed s σ t w) (ends : Ends s σ w) where
   -- the store of k with t there
-  pub store-with : getD w (7728 + k) 0 + storeOf s t + getD w (6432 + t) 0 ≡ storeOn s (put σ t k a f) k + getD w (7760 + k) 0
+  pub store-with : getD w (1552 + k) 0 + storeOf s t + getD w (256 + t) 0 ≡ storeOn s (put σ t k a f) k + getD w (1584 + k) 0
   store-with = rw (ends .stores k (g .on), gathered .bytes t (g .task), surveyed .bytes k (g .on)) (sym (store-put s σ t k a f g))
 
   module _ (x : ℕ) (ex : x ≡ storeOn s (put σ t k a f) k) where
     abbrev new : List ℕ
-    new = set (set w (7712 + k) f) (7728 + k) x
+    new = set (set w (1536 + k) f) (1552 + k) x
 
-    settled-only : Only 7712 7744 w new
+    settled-only : Only 1536 1568 w new
     settled-only =
         let h = g .on in
-        only-set (7728 + k) x (omega arith) (omega arith) (only-set (7712 + k) f (omega arith) (omega arith) (only-none 7712 7744 w))
+        only-set (1552 + k) x (omega arith) (omega arith) (only-set (1536 + k) f (omega arith) (omega arith) (only-none 1536 1568 w))
 
-    end-at : (j : ℕ) → j < 16 → Dec (j ≡ k) → getD new (7712 + j) 0 ≡ endOf s (put σ t k a f) j
+    end-at : (j : ℕ) → j < 16 → Dec (j ≡ k) → getD new (1536 + j) 0 ≡ endOf s (put σ t k a f) j
     end-at j h (yes e) =
         let p = g .on in
-        rw e (getD-set-other (set w (7712 + k) f) (7728 + k) (7712 + k) x 0 (omega arith) ∙ getD-set-same w (7712 + k) f 0 (omega arith)
+        rw e (getD-set-other (set w (1536 + k) f) (1552 + k) (1536 + k) x 0 (omega arith) ∙ getD-set-same w (1536 + k) f 0 (omega arith)
         ∙ sym (end-put s σ t k a f g k p ∙ rw (eq-eqb k k refl) (omega arith)))
     end-at j h (no e) =
         let p = g .on in
-        getD-set-other (set w (7712 + k) f) (7728 + k) (7712 + j) x 0 (omega arith) ∙ getD-set-other w (7712 + k) (7712 + j) f 0 (λ q. e (omega arith)) ∙ ends .ends j h
+        getD-set-other (set w (1536 + k) f) (1552 + k) (1536 + j) x 0 (omega arith) ∙ getD-set-other w (1536 + k) (1536 + j) f 0 (λ q. e (omega arith)) ∙ ends .ends j h
         ∙ sym (end-put s σ t k a f g j h ∙ rw (ne-eqb k j (λ q. e (sym q))) (omega arith))
 
-    store-at : (j : ℕ) → j < 16 → Dec (j ≡ k) → getD new (7728 + j) 0 ≡ storeOn s (put σ t k a f) j
+    store-at : (j : ℕ) → j < 16 → Dec (j ≡ k) → getD new (1552 + j) 0 ≡ storeOn s (put σ t k a f) j
     store-at j h (yes e) =
         let p = g .on in
-        rw e (getD-set-same (set w (7712 + k) f) (7728 + k) x 0 (simp length-set (omega arith)) ∙ ex)
+        rw e (getD-set-same (set w (1536 + k) f) (1552 + k) x 0 (simp length-set (omega arith)) ∙ ex)
     store-at j h (no e) =
         let p = g .on in
-        getD-set-other (set w (7712 + k) f) (7728 + k) (7728 + j) x 0 (λ q. e (omega arith)) ∙ getD-set-other w (7712 + k) (7728 + j) f 0 (omega arith) ∙ ends .stores j h
+        getD-set-other (set w (1536 + k) f) (1552 + k) (1552 + j) x 0 (λ q. e (omega arith)) ∙ getD-set-other w (1536 + k) (1552 + j) f 0 (omega arith) ∙ ends .stores j h
         ∙ sym (store-else s σ t k a f g j h e)
 
     settled-ends : Ends s (put σ t k a f) new
     settled-ends = record { ends = λ j h. end-at j h (ℕ-discrete j k); stores = λ j h. store-at j h (ℕ-discrete j k) }
 
   -- as the code writes it
-  pub settled-by : (w₂ : List ℕ) {f₁ x y z v r : ℕ} → f₁ ≡ f → x ≡ getD w (7728 + k) 0 → y ≡ storeOf s t → z ≡ getD w (6432 + t) 0 → v ≡ getD w (7760 + k) 0
-      → r ≡ x + y + z - v → w₂ ≡ set (set w (7712 + k) f₁) (7728 + k) r → Only 7712 7744 w w₂ × Ends s (put σ t k a f) w₂
+  pub settled-by : (w₂ : List ℕ) {f₁ x y z v r : ℕ} → f₁ ≡ f → x ≡ getD w (1552 + k) 0 → y ≡ storeOf s t → z ≡ getD w (256 + t) 0 → v ≡ getD w (1584 + k) 0
+      → r ≡ x + y + z - v → w₂ ≡ set (set w (1536 + k) f₁) (1552 + k) r → Only 1536 1568 w w₂ × Ends s (put σ t k a f) w₂
   settled-by w₂ {f₁} {x} {y} {z} {v} {r} ef ex ey ez ev er e =
       let er′ : r ≡ storeOn s (put σ t k a f) k = omega (arith, store-with) in
-      let e′ : w₂ ≡ set (set w (7712 + k) f) (7728 + k) r = e ∙ ap (λ (i : ℕ). set (set w (7712 + k) i) (7728 + k) r) ef in
-      (subst (Only 7712 7744 w) (sym e′) (settled-only r er′), subst (Ends s (put σ t k a f)) (sym e′) (settled-ends r er′))
+      let e′ : w₂ ≡ set (set w (1536 + k) f) (1552 + k) r = e ∙ ap (λ (i : ℕ). set (set w (1536 + k) i) (1552 + k) r) ef in
+      (subst (Only 1536 1568 w) (sym e′) (settled-only r er′), subst (Ends s (put σ t k a f)) (sym e′) (settled-ends r er′))
 
-  pub settled-sub : {x y z v : ℕ} → x ≡ getD w (7728 + k) 0 → y ≡ storeOf s t → z ≡ getD w (6432 + t) 0 → v ≡ getD w (7760 + k) 0 → (v ≤ x + y + z) × (x + y + z - v ≤ 83884800)
+  pub settled-sub : {x y z v : ℕ} → x ≡ getD w (1552 + k) 0 → y ≡ storeOf s t → z ≡ getD w (256 + t) 0 → v ≡ getD w (1584 + k) 0 → (v ≤ x + y + z) × (x + y + z - v ≤ 83884800)
   settled-sub ex ey ez ev =
       let q = store-with in
       let b = store-small s (put σ t k a f) k (g .ranged) in
@@ -91,24 +90,24 @@ module _ (s : Sheet) (σ : Schedule) (w : List ℕ) (t k a f : ℕ) (long : fixe
 pub released-none : (w : List ℕ) → Released 0 w w
 released-none w = record { long = refl; low = λ i h. refl; high = λ i h. refl; pending = λ i h. absurd (omega arith) }
 
-pub released-more : {j x y r : ℕ} {w w′ : List ℕ} → fixed ≤ length w → j < 16 → x ≡ getD w′ (7744 + j) 0 → y ≡ getD w′ (7776 + j) 0 → r ≡ x - y → Enough w → Released j w w′
-    → Released (j + 1) w (set w′ (7744 + j) r)
+pub released-more : {j x y r : ℕ} {w w′ : List ℕ} → keptLength ≤ length w → j < 16 → x ≡ getD w′ (1568 + j) 0 → y ≡ getD w′ (1600 + j) 0 → r ≡ x - y → Enough w → Released j w w′
+    → Released (j + 1) w (set w′ (1568 + j) r)
 released-more {j} {x} {y} {r} {w} {w′} long h ex ey er enough d =
     record {
-      long = length-set w′ (7744 + j) r ∙ d .long;
-      low = λ i k. getD-set-other w′ (7744 + j) i r 0 (omega arith) ∙ d .low i k;
-      high = λ i k. getD-set-other w′ (7744 + j) i r 0 (omega arith) ∙ d .high i (omega arith);
+      long = length-set w′ (1568 + j) r ∙ d .long;
+      low = λ i k. getD-set-other w′ (1568 + j) i r 0 (omega arith) ∙ d .low i k;
+      high = λ i k. getD-set-other w′ (1568 + j) i r 0 (omega arith) ∙ d .high i (omega arith);
       pending = λ i k. at i k (ℕ-discrete i j);
     }
   where
-    at : (i : ℕ) → i < j + 1 → Dec (i ≡ j) → getD (set w′ (7744 + j) r) (7744 + i) 0 + getD w (7776 + i) 0 ≡ getD w (7744 + i) 0
+    at : (i : ℕ) → i < j + 1 → Dec (i ≡ j) → getD (set w′ (1568 + j) r) (1568 + i) 0 + getD w (1600 + i) 0 ≡ getD w (1568 + i) 0
     at i k (yes e) =
-        rw (e, getD-set-same w′ (7744 + j) r 0 (omega (arith, d .long)))
-        (omega (arith, enough .most j h, d .high (7744 + j) (omega arith), d .high (7776 + j) (omega arith)))
-    at i k (no e) = rw (getD-set-other w′ (7744 + j) (7744 + i) r 0 (λ q. e (omega arith))) (d .pending i (omega arith))
+        rw (e, getD-set-same w′ (1568 + j) r 0 (omega (arith, d .long)))
+        (omega (arith, enough .most j h, d .high (1568 + j) (omega arith), d .high (1600 + j) (omega arith)))
+    at i k (no e) = rw (getD-set-other w′ (1568 + j) (1568 + i) r 0 (λ q. e (omega arith))) (d .pending i (omega arith))
 
-pub released-sub : {j x y : ℕ} {w w′ : List ℕ} → j < 16 → x ≡ getD w′ (7744 + j) 0 → y ≡ getD w′ (7776 + j) 0 → Enough w → Released j w w′ → y ≤ x
-released-sub {j} h ex ey enough d = omega (arith, enough .most j h, d .high (7744 + j) (omega arith), d .high (7776 + j) (omega arith))
+pub released-sub : {j x y : ℕ} {w w′ : List ℕ} → j < 16 → x ≡ getD w′ (1568 + j) 0 → y ≡ getD w′ (1600 + j) 0 → Enough w → Released j w w′ → y ≤ x
+released-sub {j} h ex ey enough d = omega (arith, enough .most j h, d .high (1568 + j) (omega arith), d .high (1600 + j) (omega arith))
 
 pub released-at : {j : ℕ} {w w′ : List ℕ} → j ≡ 16 → Released j w w′ → Released 16 w w′
 released-at {j} {w} {w′} e d = subst (λ (x : ℕ). Released x w w′) e d

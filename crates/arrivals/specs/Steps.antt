@@ -15,7 +15,7 @@ use Rattle.arrivals.specs.declared.Reach.{Reach}
 -- the words with one more link into v from k
 unfoldable pub countWords : List ℕ → ℕ → ℕ → ℕ → Reach → ℕ → ℕ → List ℕ
 countWords w v k seen reach pending number =
-    set (set (set (set (set (set w (6688 + v) seen) (6944 + v) (reach .most)) (7200 + v) (reach .other)) (7456 + v) (reach .at)) (7744 + k) pending) (7792 + (4 * v + k / 4)) number
+    set (set (set (set (set (set w (512 + v) seen) (768 + v) (reach .most)) (1024 + v) (reach .other)) (1280 + v) (reach .at)) (1568 + k) pending) (1616 + (4 * v + k / 4)) number
 
 -- counted are the links from placed tasks, but of those from t only the ones below i
 unfoldable pub upTo : Sheet → Schedule → ℕ → ℕ → ℕ → Bool
@@ -24,8 +24,8 @@ upTo s σ t i l = both (placed σ (sourceOf s l)) (either (not (eqb (sourceOf s 
 -- all but the words of the counted links is as it was
 pub record Beside (w w′ : List ℕ) : Type 0 where
   pub long : length w′ ≡ length w
-  pub low : (i : ℕ) → i < 6688 → getD w′ i 0 ≡ getD w i 0
-  pub mid : (i : ℕ) → 7712 ≤ i → i < 7744 → getD w′ i 0 ≡ getD w i 0
+  pub low : (i : ℕ) → i < 512 → getD w′ i 0 ≡ getD w i 0
+  pub mid : (i : ℕ) → 1536 ≤ i → i < 1568 → getD w′ i 0 ≡ getD w i 0
 
 -- t can go on k
 pub record Placeable (s : Sheet) (σ : Schedule) (t k : ℕ) : Type 0 where
@@ -48,23 +48,19 @@ pub record Landed (s : Sheet) (σ : Schedule) (t k f : ℕ) : Type 0 where
 -- the links into the task of this turn from the processors below j wait no more
 pub record Released (j : ℕ) (w w′ : List ℕ) : Type 0 where
   pub long : length w′ ≡ length w
-  pub low : (i : ℕ) → i < 7744 → getD w′ i 0 ≡ getD w i 0
-  pub high : (i : ℕ) → 7744 + j ≤ i → getD w′ i 0 ≡ getD w i 0
-  pub pending : (i : ℕ) → i < j → getD w′ (7744 + i) 0 + getD w (7776 + i) 0 ≡ getD w (7744 + i) 0
+  pub low : (i : ℕ) → i < 1568 → getD w′ i 0 ≡ getD w i 0
+  pub high : (i : ℕ) → 1568 + j ≤ i → getD w′ i 0 ≡ getD w i 0
+  pub pending : (i : ℕ) → i < j → getD w′ (1568 + i) 0 + getD w (1600 + i) 0 ≡ getD w (1568 + i) 0
 
 -- .. from each processor at most as many as wait
 pub record Enough (w : List ℕ) : Type 0 where
-  pub most : (j : ℕ) → j < 16 → getD w (7776 + j) 0 ≤ getD w (7744 + j) 0
+  pub most : (j : ℕ) → j < 16 → getD w (1600 + j) 0 ≤ getD w (1568 + j) 0
 
 -- the words from a up to e are 0
 pub record Zero (a e : ℕ) (w : List ℕ) : Type 0 where
   pub at : (i : ℕ) → a ≤ i → i < e → getD w i 0 ≡ 0
 
--- the words of n tasks are 0 in the first j of the tables of 256 words from 6176 on
-pub record Blank (n j : ℕ) (w : List ℕ) : Type 0 where
-  pub table : (i : ℕ) → i < j → Zero (6176 + 256 * i) (6176 + 256 * i + n) w
-
 -- the links below l are gathered
 pub record GatheredTo (s : Sheet) (l : ℕ) (w : List ℕ) : Type 0 where
-  pub number : (t : ℕ) → t < taskCount s → getD w (6176 + t) 0 ≡ sum l (countedBy (into s t) oneBy (λ i. true))
-  pub bytes : (t : ℕ) → t < taskCount s → getD w (6432 + t) 0 ≡ sum l (countedBy (into s t) (bytesOf s) (λ i. true))
+  pub number : (t : ℕ) → t < taskCount s → getD w t 0 ≡ sum l (countedBy (into s t) oneBy (λ i. true))
+  pub bytes : (t : ℕ) → t < taskCount s → getD w (256 + t) 0 ≡ sum l (countedBy (into s t) (bytesOf s) (λ i. true))

@@ -42,10 +42,9 @@ pub record JudgementIs (sheet bundle w last : List ℕ) (p n l limit : ℕ) (r :
   pub long : length last ≡ length w
   pub is : (s : Sheet) → Known s sheet p n l limit → 4352 ≤ length w → r ≡ verdictOf (checkedBytes s bundle)
 
--- any bytes, for the sheet in the tables of the work area, which also lies in its bytes; the tables stay
+-- any bytes, for the sheet in the tables of the work area, which also lies in its bytes
 pub record CheckIs (sheet bundle w last : List ℕ) (r : Verdict) : Type 0 where
   pub long : length last ≡ length w
-  pub low : (i : ℕ) → i < 3856 → getD last i 0 ≡ getD w i 0
   pub is : Fields (sheetIn w) sheet → r ≡ verdictOf (checkedBytes (sheetIn w) bundle)
 
 -- any bytes of a sheet and of a bundle

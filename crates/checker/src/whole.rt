@@ -76,7 +76,7 @@ fn judgement(
     }
 }
 
-// 21 to 30 of a bundle, for the sheet in the tables of the work area, whose bytes are given too. The words from 3856 on are used.
+// 21 to 30 of a bundle, for the sheet in the tables of the work area, whose bytes are given too. The words from 16 on are used.
 pub fn check(sheet: &[u8], bundle: &[u8], work: &mut [u32]) -> Verdict
     requires { ⌜ Loaded (now work) ⌝ }
     ensures { λ r. ⌜ CheckIs (now (sheet .entry)) (now (bundle .entry)) (now (work .entry)) (now (work .exit)) r ⌝ }
@@ -85,5 +85,5 @@ pub fn check(sheet: &[u8], bundle: &[u8], work: &mut [u32]) -> Verdict
     let n = sheet::tables::tasks(work);
     let l = sheet::tables::links(work);
     let limit = sheet::tables::limit(work);
-    judgement(sheet, bundle, &mut work[3856..], p, n, l, limit)
+    judgement(sheet, bundle, &mut work[16..], p, n, l, limit)
 }

@@ -20,7 +20,7 @@ use Rattle.messages.specs.Counting.{each}
 use Rattle.machine.specs.Machine.{State, processorOf, stampOf, next, moved, step, canStep, stampIn}
 use Rattle.machine.specs.Runs.{chosen, left}
 use Rattle.machine.proofs.Steps.{move-step, left-moved, stamp-sent, stamp-other}
-use Rattle.loaded.specs.Words.{nextIn, clockIn, storeIn, firstIn, codeOf, amountOf, endCode, placedWords, steppedWords, ranWords, sentWords, gotWords}
+use Rattle.loaded.specs.Words.{nextIn, clockIn, storeIn, firstIn, wordOf, endCode, placedWords, steppedWords, ranWords, sentWords, gotWords}
 use Rattle.machine.specs.Kept.{StepIs}
 use Rattle.machine.proofs.Kept.{goes, no-next, no-wait, none-of}
 use Rattle.loaded.specs.Keeps.{Keeps}
@@ -40,10 +40,10 @@ moved-at m d e f = record { long = m .long; next = m .next ∙ d; clock = m .clo
 
 -- what comes next in the programme, and what stands for it in the words
 data Coming (s : Sheet) (b : Bundle) (w : List ℕ) (σ : State) (k n : ℕ) : Type 0 where
-  comes : (c : Command) → next b σ k ≡ some c → processorOf σ k .position < length (programmeOf b k) → Known s c → getD w (2 * n) 0 ≡ codeOf c → getD w (2 * n + 1) 0 ≡ amountOf s c → Coming s b w σ k n
-  over : next b σ k ≡ none → getD w (2 * n) 0 ≡ endCode → Coming s b w σ k n
+  comes : (c : Command) → next b σ k ≡ some c → processorOf σ k .position < length (programmeOf b k) → Known s c → getD w n 0 ≡ wordOf s c → Coming s b w σ k n
+  over : next b σ k ≡ none → getD w n 0 ≡ endCode → Coming s b w σ k n
 
-module _ (w : List ℕ) (k : ℕ) (near : k < 16) (n : ℕ) (here : n ≡ nextIn w k % 4096) where
+module _ (w : List ℕ) (k : ℕ) (near : k < 16) (n : ℕ) (here : n ≡ nextIn w k % 4096) (x : ℕ) (there : x ≡ getD w n 0) (i : ℕ) (at : i ≡ x % 2048) where
   module _ (s : Sheet) (b : Bundle) (σ : State) (h : Keeps s b w σ) where
     abbrev p : ℕ
     p = processorOf σ k .position
@@ -59,24 +59,24 @@ module _ (w : List ℕ) (k : ℕ) (near : k < 16) (n : ℕ) (here : n ≡ nextIn
     coming =
         let d = h .programmed .decoded k near in
         let e : n ≡ firstIn w k + p = n-is ∙ h .next k near in
-        let f : 2 * n ≡ 2 * firstIn w k + 2 * p = omega arith in
         elim (decLt p (length (programmeOf b k))) [
           | yes l ↦
-              comes (getD (programmeOf b k) p (run 0)) (command-at (programmeOf b k) p l) l (d .known p l) (ap (λ (i : ℕ). getD w i 0) f ∙ d .code p l)
-              (ap (λ (i : ℕ). getD w (i + 1) 0) f ∙ d .amount p l)
+              comes (getD (programmeOf b k) p (run 0)) (command-at (programmeOf b k) p l) l (d .known p l) (ap (λ (i : ℕ). getD w i 0) e ∙ d .word p l)
           | no l ↦
               let q : p ≡ length (programmeOf b k) = omega (arith, h .inside k near) in
-              over (command-past (programmeOf b k) p (omega arith)) (ap (λ (i : ℕ). getD w i 0) (f ∙ ap (λ (i : ℕ). 2 * firstIn w k + 2 * i) q) ∙ d .end)
+              over (command-past (programmeOf b k) p (omega arith)) (ap (λ (i : ℕ). getD w i 0) (e ∙ ap (λ (i : ℕ). firstIn w k + i) q) ∙ d .end)
         ]
 
     -- a run
-    ran-on : getD w (2 * n) 0 < 2048 → Coming s b w σ k n → (true ≡ canStep s b σ k) × Keeps s b (ranWords w k (getD w (2 * n + 1) 0)) (chosen σ (step s b σ k))
+    ran-on : x < 134217728 → Coming s b w σ k n → (amount : ℕ) → amount ≡ getD w i 0 → (true ≡ canStep s b σ k) × Keeps s b (ranWords w k amount) (chosen σ (step s b σ k))
     unfolding ranWords steppedWords stampOf
-    ran-on q (over e f) = absurd (omega arith)
-    ran-on q (comes (send l) e i o f g) = absurd (omega arith)
-    ran-on q (comes (receive l) e i o f g) = absurd (omega arith)
-    ran-on q (comes (run t) e i o f g) =
-        let amount = getD w (2 * n + 1) 0 in
+    ran-on q (over e f) amount g = absurd (omega arith)
+    ran-on q (comes (send l) e j o f) amount g = let few = h .programmed .ranged .few-links in absurd (omega arith)
+    ran-on q (comes (receive l) e j o f) amount g = let few = h .programmed .ranged .few-links in absurd (omega arith)
+    ran-on q (comes (run t) e j o f) amount g =
+        let few = h .programmed .ranged .few-tasks in
+        let slot : i ≡ 1120 + t = omega arith in
+        let is : amount ≡ workOf s t + 65536 * storeOf s t = g ∙ ap (λ (y : ℕ). getD w y 0) slot ∙ h .programmed .works t o in
         let r = h .room k near in
         let wf : workOf s t < 65536 = h .programmed .ranged .works t o in
         let sf : storeOf s t < 65536 = h .programmed .ranged .stores t o in
@@ -89,43 +89,43 @@ module _ (w : List ℕ) (k : ℕ) (near : k < 16) (n : ℕ) (here : n ≡ nextIn
         in
         let less : left b (moved s σ k (run t) 0) each + 1 ≡ left b σ each = left-moved s b σ k (run t) 0 (h .processors) e each in
         goes Keeps s b v σ k (moved s σ k (run t) 0) (move-step s b σ k (run t) 0 e refl)
-        (keeps-moved s b w σ h k near (run t) e 0 i wf sf (omega (arith, r .0)) v m
+        (keeps-moved s b w σ h k near (run t) e 0 j wf sf (omega (arith, r .0)) v m
         (λ l j. ap stampIn (placed-stamp w k (nextIn w k + 1) (max (clockIn w k) 0 + amount % 65536) (storeIn w k + amount / 65536) long near (96 + l) (omega arith)) ∙ h .stamp l j)
         (λ l x j. omega (arith, h .roomy l x j)))
 
     -- a send
-    sent-on : 2048 ≤ getD w (2 * n) 0 → getD w (2 * n) 0 < 4096 → Coming s b w σ k n → (i : ℕ) → i ≡ getD w (2 * n) 0 % 2048
-        → (true ≡ canStep s b σ k) × Keeps s b (sentWords w k (getD w (2 * n + 1) 0) i) (chosen σ (step s b σ k))
+    sent-on : 134217728 ≤ x → x < 268435456 → Coming s b w σ k n → (true ≡ canStep s b σ k) × Keeps s b (sentWords w k (x / 2048 % 65536) i) (chosen σ (step s b σ k))
     unfolding sentWords steppedWords stampOf
-    sent-on a z (over e f) i q = absurd (omega arith)
-    sent-on a z (comes (run t) e j o f g) i q = absurd (omega arith)
-    sent-on a z (comes (receive l) e j o f g) i q = absurd (omega arith)
-    sent-on a z (comes (send l) e j o f g) i q =
+    sent-on a z (over e f) = absurd (omega arith)
+    sent-on a z (comes (run t) e j o f) = let few = h .programmed .ranged .few-tasks in absurd (omega arith)
+    sent-on a z (comes (receive l) e j o f) = let few = h .programmed .ranged .few-links in absurd (omega arith)
+    sent-on a z (comes (send l) e j o f) =
         let few = h .programmed .ranged .few-links in
         let slot : i ≡ 96 + l = omega arith in
-        subst (λ (y : ℕ). (true ≡ canStep s b σ k) × Keeps s b (sentWords w k (getD w (2 * n + 1) 0) y) (chosen σ (step s b σ k))) (sym slot) on
+        subst (λ (y : ℕ). (true ≡ canStep s b σ k) × Keeps s b (sentWords w k (x / 2048 % 65536) y) (chosen σ (step s b σ k))) (sym slot) on
       where
-        on : (true ≡ canStep s b σ k) × Keeps s b (sentWords w k (getD w (2 * n + 1) 0) (96 + l)) (chosen σ (step s b σ k))
+        on : (true ≡ canStep s b σ k) × Keeps s b (sentWords w k (x / 2048 % 65536) (96 + l)) (chosen σ (step s b σ k))
         on =
-            let amount = getD w (2 * n + 1) 0 in
             let few = h .programmed .ranged .few-links in
+            let amount = x / 2048 % 65536 in
+            let cf : costOf s l < 65536 = h .programmed .ranged .costs l o in
+            let is : amount ≡ costOf s l = omega arith in
             let r = h .room k near in
             let here = n-is in
-            let cf : costOf s l < 65536 = h .programmed .ranged .costs l o in
-            let x = (clockIn w k + amount + 1) % 4294967296 in
-            let u = set w (96 + l) x in
+            let stamp = (clockIn w k + amount + 1) % 4294967296 in
+            let u = set w (96 + l) stamp in
             let v = placedWords u k (nextIn u k + 1) (max (clockIn u k) 0 + 0) (storeIn u k + 0) in
             let bounds = h .programmed .high k near in
             let lw = long in
             let lu : 1120 ≤ length u = simp length-set long in
-            let away : (i : ℕ) → (i ≡ 96 + l → ⊥) → getD u i 0 ≡ getD w i 0 = λ i d. getD-set-other w (96 + l) i x 0 d in
+            let away : (i : ℕ) → (i ≡ 96 + l → ⊥) → getD u i 0 ≡ getD w i 0 = λ i d. getD-set-other w (96 + l) i stamp 0 d in
             let clock : clockIn u k ≡ clockIn w k = away (4 * k + 1) (λ i. omega arith) in
             let store : storeIn u k ≡ storeIn w k = away (4 * k + 2) (λ i. omega arith) in
             let ahead : nextIn u k ≡ nextIn w k = away (4 * k) (λ i. omega arith) in
             let y = placed-moved u k (nextIn u k + 1) (max (clockIn u k) 0 + 0) (storeIn u k + 0) lu near (linkCount s) in
             let m : Moved (linkCount s) w v k (nextIn w k + 1) (max (processorOf σ k .clock) 0 + 0) (processorOf σ k .store + 0) =
             record {
-              long = y .long ∙ length-set w (96 + l) x;
+              long = y .long ∙ length-set w (96 + l) stamp;
               next = y .next ∙ omega (arith, h .next k near, h .inside k near);
               clock = y .clock ∙ omega (arith, h .clock k near, r .0);
               store = y .store ∙ omega (arith, h .store k near, r .1);
@@ -135,8 +135,9 @@ module _ (w : List ℕ) (k : ℕ) (near : k < 16) (n : ℕ) (here : n ≡ nextIn
             let high : (i : ℕ) → getD v (96 + i) 0 ≡ getD u (96 + i) 0 = λ i. placed-stamp u k (nextIn u k + 1) (max (clockIn u k) 0 + 0) (storeIn u k + 0) lu near (96 + i) (omega arith) in
             let kept : (i : ℕ) → (i ≡ l → ⊥) → getD v (96 + i) 0 ≡ getD w (96 + i) 0 = λ i d. high i ∙ away (96 + i) (λ y. d (omega arith)) in
             let less : left b (moved s σ k (send l) 0) each + 1 ≡ left b σ each = left-moved s b σ k (send l) 0 (h .processors) e each in
-            let stamp-is : x ≡ suc (processorOf σ k .clock + costOf s l) = omega (arith, h .clock k near, r .0) in
-            let put : getD v (96 + l) 0 ≡ x = high l ∙ getD-set-same w (96 + l) x 0 (omega arith) in
+            let now : clockIn w k + amount + 1 ≡ suc (processorOf σ k .clock + costOf s l) = omega (arith, h .clock k near) in
+            let stamp-is : stamp ≡ suc (processorOf σ k .clock + costOf s l) = omega (arith, r .0) in
+            let put : getD v (96 + l) 0 ≡ stamp = high l ∙ getD-set-same w (96 + l) stamp 0 (omega arith) in
             let mine = stamp-sent s σ k l 0 (omega (arith, h .stamps)) in
             let theirs = stamp-other s σ k l 0 in
             goes Keeps s b v σ k (moved s σ k (send l) 0) (move-step s b σ k (send l) 0 e refl)
@@ -153,89 +154,84 @@ module _ (w : List ℕ) (k : ℕ) (near : k < 16) (n : ℕ) (here : n ≡ nextIn
             ]))
 
     -- a receive
-    got-on : 4096 ≤ getD w (2 * n) 0 → Coming s b w σ k n → (i : ℕ) → i ≡ getD w (2 * n) 0 % 2048 → (f : Bool) → f ≡ not (eqb (getD w i 0) 0)
-        → (f ≡ canStep s b σ k) × Keeps s b (pick f (gotWords w k (getD w (2 * n + 1) 0) i) w) (chosen σ (step s b σ k))
+    got-on : 268435456 ≤ x → Coming s b w σ k n → (f : Bool) → f ≡ not (eqb (getD w i 0) 0)
+        → (f ≡ canStep s b σ k) × Keeps s b (pick f (gotWords w k (x / 2048 % 65536) i) w) (chosen σ (step s b σ k))
     unfolding gotWords steppedWords stampOf
-    got-on z (over e g) i q f u =
+    got-on z (over e g) f u =
         let slot : i ≡ 95 = omega arith in
         let none-there : getD w i 0 ≡ 0 = ap (λ (j : ℕ). getD w j 0) slot ∙ h .programmed .nothing in
         let off : f ≡ false = u ∙ ap not (eq-eqb (getD w i 0) 0 none-there) in
-        subst (λ (y : Bool). (y ≡ canStep s b σ k) × Keeps s b (pick y (gotWords w k (getD w (2 * n + 1) 0) i) w) (chosen σ (step s b σ k))) (sym off) (no-next Keeps s b w σ k h e)
-    got-on z (comes (run t) e j o g a) i q f u = absurd (omega arith)
-    got-on z (comes (send l) e j o g a) i q f u = let few = h .programmed .ranged .few-links in absurd (omega arith)
-    got-on z (comes (receive l) e j o g a) i q f u = by f (getD w i 0) refl u (ap (λ (y : ℕ). stampIn (getD w y 0)) slot ∙ h .stamp l o)
+        subst (λ (y : Bool). (y ≡ canStep s b σ k) × Keeps s b (pick y (gotWords w k (x / 2048 % 65536) i) w) (chosen σ (step s b σ k))) (sym off) (no-next Keeps s b w σ k h e)
+    got-on z (comes (run t) e j o g) f u = let few = h .programmed .ranged .few-tasks in absurd (omega arith)
+    got-on z (comes (send l) e j o g) f u = let few = h .programmed .ranged .few-links in absurd (omega (arith, h .programmed .ranged .costs l o))
+    got-on z (comes (receive l) e j o g) f u = by f (getD w i 0) refl u (ap (λ (y : ℕ). stampIn (getD w y 0)) slot ∙ h .stamp l o)
       where
         slot : i ≡ 96 + l
         slot = let few = h .programmed .ranged .few-links in omega arith
 
-        by : (f : Bool) (x : ℕ) → getD w i 0 ≡ x → f ≡ not (eqb (getD w i 0) 0) → stampIn (getD w i 0) ≡ stampOf σ l
-            → (f ≡ canStep s b σ k) × Keeps s b (pick f (gotWords w k (getD w (2 * n + 1) 0) i) w) (chosen σ (step s b σ k))
-        by false x y u v =
+        is : x / 2048 % 65536 ≡ bytesOf s l
+        is = let few = h .programmed .ranged .few-links in omega (arith, h .programmed .ranged .sizes l o)
+
+        by : (f : Bool) (y : ℕ) → getD w i 0 ≡ y → f ≡ not (eqb (getD w i 0) 0) → stampIn (getD w i 0) ≡ stampOf σ l
+            → (f ≡ canStep s b σ k) × Keeps s b (pick f (gotWords w k (x / 2048 % 65536) i) w) (chosen σ (step s b σ k))
+        by false y q u v =
             let zero-there : getD w i 0 ≡ 0 = eqb-true (getD w i 0) 0 (not-false (eqb (getD w i 0) 0) (sym u)) in
             no-wait Keeps s b w σ k h (receive l) e (sym v ∙ ap stampIn zero-there)
-        by true zero y u v = absurd (true≢false (u ∙ ap not (eq-eqb (getD w i 0) 0 y)))
-        by true (suc x) y u t =
-            let amount = getD w (2 * n + 1) 0 in
+        by true zero q u v = absurd (true≢false (u ∙ ap not (eq-eqb (getD w i 0) 0 q)))
+        by true (suc y) q u t =
+            let amount = x / 2048 % 65536 in
+            let size : amount ≡ bytesOf s l = is in
             let r = h .room k near in
             let here = n-is in
-            let got : stampOf σ l ≡ some x = sym t ∙ ap stampIn y in
+            let got : stampOf σ l ≡ some y = sym t ∙ ap stampIn q in
             let bf : bytesOf s l < 65536 = h .programmed .ranged .sizes l o in
-            let late = h .roomy l x got in
+            let late = h .roomy l y got in
             let bounds = h .programmed .high k near in
             let v = placedWords w k (nextIn w k + 1) (max (clockIn w k) (getD w i 0 - 1) + 0) (storeIn w k + amount) in
-            let m : Moved (linkCount s) w v k (nextIn w k + 1) (max (processorOf σ k .clock) x + 0) (processorOf σ k .store + bytesOf s l) =
+            let m : Moved (linkCount s) w v k (nextIn w k + 1) (max (processorOf σ k .clock) y + 0) (processorOf σ k .store + bytesOf s l) =
             moved-at (placed-moved w k (nextIn w k + 1) (max (clockIn w k) (getD w i 0 - 1) + 0) (storeIn w k + amount) long near (linkCount s)) (omega (arith, h .next k near, h .inside k near))
             (omega (arith, h .clock k near, r .0)) (omega (arith, h .store k near, r .1))
             in
-            let less : left b (moved s σ k (receive l) x) each + 1 ≡ left b σ each = left-moved s b σ k (receive l) x (h .processors) e each in
-            goes Keeps s b v σ k (moved s σ k (receive l) x) (move-step s b σ k (receive l) x e got)
-            (keeps-moved s b w σ h k near (receive l) e x j (omega arith) bf late v m
+            let less : left b (moved s σ k (receive l) y) each + 1 ≡ left b σ each = left-moved s b σ k (receive l) y (h .processors) e each in
+            goes Keeps s b v σ k (moved s σ k (receive l) y) (move-step s b σ k (receive l) y e got)
+            (keeps-moved s b w σ h k near (receive l) e y j (omega arith) bf late v m
             (λ c o. ap stampIn (placed-stamp w k (nextIn w k + 1) (max (clockIn w k) (getD w i 0 - 1) + 0) (storeIn w k + amount) long near (96 + c) (omega arith)) ∙ h .stamp c o)
-            (λ c y o. omega (arith, h .roomy c y o)))
+            (λ c a o. omega (arith, h .roomy c a o)))
 
   ran-long : (amount : ℕ) → length (ranWords w k amount) ≡ length w
   unfolding ranWords
   ran-long amount = length-stepped w k _ _ _
 
-  sent-long : (amount i : ℕ) → length (sentWords w k amount i) ≡ length w
+  sent-long : length (sentWords w k (x / 2048 % 65536) i) ≡ length w
   unfolding sentWords
-  sent-long amount i = length-stepped (set w i ((clockIn w k + amount + 1) % 4294967296)) k 0 0 0 ∙ length-set w i _
+  sent-long = length-stepped (set w i ((clockIn w k + x / 2048 % 65536 + 1) % 4294967296)) k 0 0 0 ∙ length-set w i _
 
-  got-long : (amount i : ℕ) (f : Bool) → length (pick f (gotWords w k amount i) w) ≡ length w
+  got-long : (f : Bool) → length (pick f (gotWords w k (x / 2048 % 65536) i) w) ≡ length w
   unfolding gotWords
-  got-long amount i true = length-stepped w k _ _ _
-  got-long amount i false = refl
+  got-long true = length-stepped w k _ _ _
+  got-long false = refl
 
-  module _ (code amount : ℕ) (ec : code ≡ getD w (2 * n) 0) (ea : amount ≡ getD w (2 * n + 1) 0) (v : List ℕ) where
-    pub ran : code < 2048 → v ≡ ranWords w k amount → StepIs Keeps w v k true
-    ran q g =
+  module _ (v : List ℕ) where
+    pub ran : x < 134217728 → (amount : ℕ) → amount ≡ getD w i 0 → v ≡ ranWords w k amount → StepIs Keeps w v k true
+    ran q amount e g =
         record {
           long = ap length g ∙ ran-long amount;
           same = λ f. absurd (true≢false f);
-          agrees =
-              λ s b σ h.
-              subst (λ (x : List ℕ). (true ≡ canStep s b σ k) × Keeps s b x (chosen σ (step s b σ k))) (sym (g ∙ ap (ranWords w k) ea))
-              (ran-on s b σ h (omega arith) (coming s b σ h));
+          agrees = λ s b σ h. subst (λ (u : List ℕ). (true ≡ canStep s b σ k) × Keeps s b u (chosen σ (step s b σ k))) (sym g) (ran-on s b σ h q (coming s b σ h) amount e);
         }
 
-    pub sent : 2048 ≤ code → code < 4096 → (i : ℕ) → i ≡ code % 2048 → v ≡ sentWords w k amount i → StepIs Keeps w v k true
-    sent a z i q g =
+    pub sent : 134217728 ≤ x → x < 268435456 → v ≡ sentWords w k (x / 2048 % 65536) i → StepIs Keeps w v k true
+    sent a z g =
         record {
-          long = ap length g ∙ sent-long amount i;
+          long = ap length g ∙ sent-long;
           same = λ f. absurd (true≢false f);
-          agrees =
-              λ s b σ h.
-              subst (λ (x : List ℕ). (true ≡ canStep s b σ k) × Keeps s b x (chosen σ (step s b σ k))) (sym (g ∙ ap (λ (x : ℕ). sentWords w k x i) ea))
-              (sent-on s b σ h (omega arith) (omega arith) (coming s b σ h) i (q ∙ ap (λ (x : ℕ). x % 2048) ec));
+          agrees = λ s b σ h. subst (λ (u : List ℕ). (true ≡ canStep s b σ k) × Keeps s b u (chosen σ (step s b σ k))) (sym g) (sent-on s b σ h a z (coming s b σ h));
         }
 
-    pub got : 4096 ≤ code → (i : ℕ) → i ≡ code % 2048 → (f : Bool) → f ≡ not (eqb (getD w i 0) 0) → v ≡ pick f (gotWords w k amount i) w → StepIs Keeps w v k f
-    got z i q f u g =
+    pub got : 268435456 ≤ x → (f : Bool) → f ≡ not (eqb (getD w i 0) 0) → v ≡ pick f (gotWords w k (x / 2048 % 65536) i) w → StepIs Keeps w v k f
+    got z f u g =
         record {
-          long = ap length g ∙ got-long amount i f;
-          same = λ e. g ∙ ap (λ (x : Bool). pick x (gotWords w k amount i) w) e;
-          agrees =
-              λ s b σ h.
-              subst (λ (x : List ℕ). (f ≡ canStep s b σ k) × Keeps s b x (chosen σ (step s b σ k))) (sym (g ∙ ap (λ (x : ℕ). pick f (gotWords w k x i) w) ea))
-              (got-on s b σ h (omega arith) (coming s b σ h) i (q ∙ ap (λ (x : ℕ). x % 2048) ec) f u);
+          long = ap length g ∙ got-long f;
+          same = λ e. g ∙ ap (λ (y : Bool). pick y (gotWords w k (x / 2048 % 65536) i) w) e;
+          agrees = λ s b σ h. subst (λ (y : List ℕ). (f ≡ canStep s b σ k) × Keeps s b y (chosen σ (step s b σ k))) (sym g) (got-on s b σ h z (coming s b σ h) f u);
         }

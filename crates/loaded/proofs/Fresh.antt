@@ -1,6 +1,6 @@
 -- The fresh state in words.
-use Prim.Native.Nat.{ℕ, zero, suc, _+_, _*_, _/_, _%_, _≤_, _<_, min}
-use mathlib.Core.Path.{_≡_, refl, sym, ap, _∙_}
+use Prim.Native.Nat.{ℕ, zero, suc, _+_, _*_, _%_, _≤_, _<_, min}
+use mathlib.Core.Path.{_≡_, refl, sym, ap, _∙_, subst}
 use mathlib.Core.Option.{Option, none, Option·none-ne-some}
 use mathlib.Core.Logic.{_⊎_, inl, ⊎-elim}
 use mathlib.Core.List.{List, [], _∷_}
@@ -13,6 +13,7 @@ use Rattle.folds.proofs.Tests.{below-suc, equal-or}
 use Rattle.folds.proofs.Lists.{getD-replicate}
 use Rattle.folds.proofs.Laws.{sum-rises}
 use Rattle.workspace.specs.Area.{fixed, ClearIs}
+use Rattle.numbers.specs.Number.{numberAt}
 use Rattle.sheet.specs.Sheet.{Sheet, taskCount, linkCount}
 use Rattle.bundle.specs.Bundle.{Command, Bundle, programmeCount, programmeOf}
 use Rattle.bundle.specs.Lies.{Lies}
@@ -21,11 +22,11 @@ use Rattle.messages.proofs.Weights.{weigh-each}
 use Rattle.machine.specs.Machine.{Processor, freshProcessor, freshState, processorOf, stampOf, stampIn}
 use Rattle.machine.specs.Runs.{left}
 use Rattle.machine.proofs.Runs.{fresh-processor, fresh-left}
-use Rattle.loaded.specs.Words.{nextIn, clockIn, storeIn, firstIn, lastIn}
+use Rattle.loaded.specs.Words.{nextIn, clockIn, storeIn, firstIn, lastIn, WorksIn}
 use Rattle.loaded.specs.Keeps.{Decoded, Keeps}
 use Rattle.loaded.specs.Loads.{ProgrammeIs, LoadIs}
 use Rattle.loaded.proofs.Loading.{decoded-same}
-use Rattle.loaded.specs.Opened.{Opens, Opened, WipeIs, EmptyIs, OneIs, Given, AllIs}
+use Rattle.loaded.specs.Opened.{Opens, Opened, Blank, WipeIs, WorksIs, EmptyIs, OneIs, Given, AllIs}
 
 -- the words that are there are cleared up to the last stamp, and the count of links is put
 pub wiped : (w v last : List ℕ) (e l : ℕ) → l ≤ 1024 → e ≡ min (length w) (96 + l) → ClearIs w v 0 e → last ≡ set v 80 (l % 4294967296) → WipeIs w last l
@@ -39,6 +40,28 @@ wiped w v last e l few q r el =
             zeros = λ i h d. ap (λ (x : List ℕ). getD x i 0) el ∙ getD-set-other v 80 i (l % 4294967296) 0 d ∙ r .zeros i (omega arith) (omega arith);
           };
     }
+
+-- the numbers of the tasks, one by one
+pub works-none : (sheet w : List ℕ) → WorksIs sheet w w 0
+works-none sheet w = record { long = refl; works = λ f t h. absurd (omega arith); other = λ i h. refl }
+
+pub works-more : (sheet v w u : List ℕ) (t work store : ℕ) → t < 256 → WorksIs sheet v w t → work ≡ numberAt 2 sheet (7 + 5 * t) → work < 65536 → store ≡ numberAt 2 sheet (9 + 5 * t) → store < 65536
+    → u ≡ set w (1120 + t) ((work + 65536 * store) % 4294967296) → WorksIs sheet v u (t + 1)
+works-more sheet v w u t work store near g ew fw es fs el =
+    record {
+      long = ap length el ∙ length-set w (1120 + t) _ ∙ g .long;
+      works =
+          λ f j l.
+          ⊎-elim (λ (h : j < t). same (1120 + j) (λ z. omega arith) ∙ g .works f j h)
+          (λ (q : j ≡ t). rw q (ap (λ (x : List ℕ). getD x (1120 + t) 0) el ∙ getD-set-same w (1120 + t) _ 0 (omega (arith, g .long)) ∙ omega arith)) (below-suc (rw add-one at l));
+      other = λ i h. same i (λ z. omega arith) ∙ g .other i h;
+    }
+  where
+    same : (i : ℕ) → (i ≡ 1120 + t → ⊥) → getD u i 0 ≡ getD w i 0
+    same i d = ap (λ (x : List ℕ). getD x i 0) el ∙ getD-set-other w (1120 + t) i _ 0 d
+
+pub works-all : (sheet w last : List ℕ) (n t : ℕ) → t ≡ n → WorksIs sheet w last t → WorksIs sheet w last n
+works-all sheet w last n t e g = subst (λ (x : ℕ). WorksIs sheet w last x) e g
 
 -- processor k put before the first command of a programme from the index x to the index y
 module _ (w last : List ℕ) (k x y : ℕ) (el : last ≡ set (set (set w (4 * k) x) (4 * k + 3) x) (64 + k) y) where
@@ -113,7 +136,7 @@ emptying-starts v c =
       other = λ i h. refl;
     }
 
-pub emptying-more : (v w u : List ℕ) (c k : ℕ) → c ≤ 560 → k < 16 → Emptying v w c k
+pub emptying-more : (v w u : List ℕ) (c k : ℕ) → c < 4096 → k < 16 → Emptying v w c k
     → u ≡ set (set (set w (4 * k) (c % 4294967296)) (4 * k + 3) (c % 4294967296)) (64 + k) (c % 4294967296) → Emptying v u c (k + 1)
 emptying-more v w u c k most near g en =
     let fits : fixed ≤ length v → fixed ≤ length w = λ f. omega (arith, g .long) in
@@ -138,16 +161,17 @@ emptying-more v w u c k most near g en =
       other = λ i h. placed-high w u k c c el near i h ∙ g .other i h;
     }
 
-pub emptied : (w v last : List ℕ) (c k : ℕ) → c ≤ 560 → 16 ≤ k → v ≡ set w (2 * c) (4191 % 4294967296) → Emptying v last c k → EmptyIs w last c
+pub emptied : (w v last : List ℕ) (c k : ℕ) → c < 4096 → 16 ≤ k → v ≡ set w c (268435551 % 4294967296) → Emptying v last c k → EmptyIs w last c
 emptied w v last c k most all ev g =
     record {
       long = g .long ∙ lv;
       opened =
-          λ s long behind blank.
+          λ s long ranged behind blank works.
           let f : fixed ≤ length v = omega (arith, lv) in
-          let same : (i : ℕ) → i < 96 + linkCount s → getD v i 0 ≡ getD w i 0 = λ i h. ap (λ (l : List ℕ). getD l i 0) ev ∙ getD-set-other w (2 * c) i 4191 0 (λ z. omega arith) in
-          let low : (i : ℕ) → i < 96 + linkCount s → (i ≡ 80 → ⊥) → getD v i 0 ≡ 0 = λ i h d. same i h ∙ blank .zeros i h d in
-          let end : getD last (2 * c) 0 ≡ 4191 = g .other (2 * c) (omega arith) ∙ ap (λ (l : List ℕ). getD l (2 * c) 0) ev ∙ getD-set-same w (2 * c) 4191 0 (omega arith) in
+          let few = ranged .few-links in
+          let same : (i : ℕ) → i < 1376 → getD v i 0 ≡ getD w i 0 = λ i h. ap (λ (l : List ℕ). getD l i 0) ev ∙ getD-set-other w c i 268435551 0 (λ z. omega arith) in
+          let low : (i : ℕ) → i < 96 + linkCount s → (i ≡ 80 → ⊥) → getD v i 0 ≡ 0 = λ i h d. same i (omega arith) ∙ blank .zeros i h d in
+          let end : getD last c 0 ≡ 268435551 = g .other c (omega arith) ∙ ap (λ (l : List ℕ). getD l c 0) ev ∙ getD-set-same w c 268435551 0 (omega arith) in
           record {
             long = omega (arith, g .long);
             opens =
@@ -158,26 +182,27 @@ emptied w v last c k most all ev g =
                   low = omega arith;
                   high = omega arith;
                   last = g .last f j (omega arith) ∙ omega arith;
-                  decoded = rw e (record { known = λ i l. absurd (omega arith); code = λ i l. absurd (omega arith); amount = λ i l. absurd (omega arith); end = ap (λ (i : ℕ). getD last i 0) (omega arith) ∙ end });
+                  decoded = rw e (record { known = λ i l. absurd (omega arith); word = λ i l. absurd (omega arith); end = ap (λ (i : ℕ). getD last i 0) (omega arith) ∙ end });
                 };
             clock = λ j h. g .clock j h ∙ low (4 * j + 1) (omega arith) (λ z. omega arith);
             store = λ j h. g .store j h ∙ low (4 * j + 2) (omega arith) (λ z. omega arith);
             links = g .other 80 (omega arith) ∙ same 80 (omega arith) ∙ blank .links;
+            works = λ t h. g .other (1120 + t) (omega arith) ∙ same (1120 + t) (omega (arith, ranged .few-tasks)) ∙ works t h;
             zeros = λ i h l. g .other i (omega arith) ∙ low i l (λ z. omega arith);
           };
     }
   where
     lv : length v ≡ length w
-    lv = ap length ev ∙ length-set w (2 * c) 4191
+    lv = ap length ev ∙ length-set w c 268435551
 
 -- one programme more, from command c on
-module _ (sheet bundle from w u last : List ℕ) (n k c x e r : ℕ) (near : k < 16) (ex : x ≡ getD from k 0) (ee : e ≡ getD from (k + 1) 0) (fe : e < 4294967296)
-    (pr : (r ≤ 2 * c + e + 2) × ProgrammeIs sheet bundle w u n (x + 2) e (2 * c) r)
-    (el : last ≡ set (set (set u (4 * k) (c % 4294967296)) (4 * k + 3) (c % 4294967296)) (64 + k) (r / 2 % 4294967296)) where
-  module _ (s : Sheet) (ps qs : List (List Command)) (same : (j : ℕ) → (j ≡ k → ⊥) → getD qs j [] ≡ getD ps j []) (room : c + length (getD qs k []) < 4095) (g : Opened s w c ps)
-      (er : r ≡ 2 * c + 2 * length (getD qs k [])) (decoded : Decoded s u (2 * c) (getD qs k []))
-      (other : (i : ℕ) → (i < 2 * c) ⊎ (2 * c + 2 * length (getD qs k []) < i) → getD u i 0 ≡ getD w i 0) where
-    behind : 98 + linkCount s ≤ 2 * c
+module _ (sheet bundle from w u last : List ℕ) (n k c x e r : ℕ) (near : k < 16) (ex : x ≡ getD from k 0) (ee : e ≡ getD from (k + 1) 0) (fe : e < 4294967296) (most : n ≤ 256)
+    (pr : (r ≤ c + e + 2) × ProgrammeIs sheet bundle w u n (x + 2) e c r)
+    (el : last ≡ set (set (set u (4 * k) (c % 4294967296)) (4 * k + 3) (c % 4294967296)) (64 + k) (r % 4294967296)) where
+  module _ (s : Sheet) (en : taskCount s ≡ n) (few : linkCount s ≤ 1024) (ps qs : List (List Command)) (same : (j : ℕ) → (j ≡ k → ⊥) → getD qs j [] ≡ getD ps j []) (room : c + length (getD qs k []) < 4095) (g : Opened s w c ps)
+      (er : r ≡ c + length (getD qs k [])) (decoded : Decoded s u c (getD qs k []))
+      (other : (i : ℕ) → (i < c) ⊎ (c + length (getD qs k []) < i) → getD u i 0 ≡ getD w i 0) where
+    behind : 1377 ≤ c
     behind = omega (arith, g .opens k near .low, g .opens k near .high)
 
     fits : fixed ≤ length u
@@ -186,14 +211,14 @@ module _ (sheet bundle from w u last : List ℕ) (n k c x e r : ℕ) (near : k <
     c-fits : c % 4294967296 ≡ c
     c-fits = omega arith
 
-    r-fits : r / 2 % 4294967296 ≡ c + length (getD qs k [])
+    r-fits : r % 4294967296 ≡ c + length (getD qs k [])
     r-fits = omega arith
 
-    low : (i : ℕ) → i < 2 * c → getD u i 0 ≡ getD w i 0
+    low : (i : ℕ) → i < c → getD u i 0 ≡ getD w i 0
     low i h = other i (inl h)
 
     -- processor k
-    own : Opens s last (r / 2 + 1) k (getD qs k [])
+    own : Opens s last (r + 1) k (getD qs k [])
     own =
         let f : firstIn last k ≡ c = placed-first u last k _ _ el near fits ∙ c-fits in
         let b = behind in
@@ -204,11 +229,11 @@ module _ (sheet bundle from w u last : List ℕ) (n k c x e r : ℕ) (near : k <
           last = placed-last u last k _ _ el near fits ∙ r-fits ∙ omega arith;
           decoded =
               rw f
-              (decoded-same s u last (2 * c) (r + 1) (getD qs k []) (λ i h l. placed-high u last k _ _ el near i (omega arith)) (omega arith) decoded);
+              (decoded-same s u last c (r + 1) (getD qs k []) (λ i h l. placed-high u last k _ _ el near i (omega arith)) (omega arith) decoded);
         }
 
     -- the others
-    else : (j : ℕ) → j < 16 → (j ≡ k → ⊥) → Opens s last (r / 2 + 1) j (getD ps j [])
+    else : (j : ℕ) → j < 16 → (j ≡ k → ⊥) → Opens s last (r + 1) j (getD ps j [])
     else j h d =
         let o = g .opens j h in
         let b = behind in
@@ -220,10 +245,10 @@ module _ (sheet bundle from w u last : List ℕ) (n k c x e r : ℕ) (near : k <
           last = placed-last-else u last k _ _ el near j h d ∙ low (64 + j) (omega arith) ∙ o .last ∙ omega arith;
           decoded =
               rw f
-              (decoded-same s w last (2 * firstIn w j) (2 * c) (getD ps j []) (λ i l m. placed-high u last k _ _ el near i (omega (arith, o .low)) ∙ low i m) (omega (arith, o .high)) (o .decoded));
+              (decoded-same s w last (firstIn w j) c (getD ps j []) (λ i l m. placed-high u last k _ _ el near i (omega (arith, o .low)) ∙ low i m) (omega (arith, o .high)) (o .decoded));
         }
 
-    more : Opened s last (r / 2 + 1) qs
+    more : Opened s last (r + 1) qs
     more =
         let b = behind in
         record {
@@ -232,10 +257,11 @@ module _ (sheet bundle from w u last : List ℕ) (n k c x e r : ℕ) (near : k <
           clock = λ j h. placed-clock u last k _ _ el near j h ∙ low (4 * j + 1) (omega arith) ∙ g .clock j h;
           store = λ j h. placed-store u last k _ _ el near j h ∙ low (4 * j + 2) (omega arith) ∙ g .store j h;
           links = placed-high u last k _ _ el near 80 (omega arith) ∙ low 80 (omega arith) ∙ g .links;
+          works = λ t h. placed-high u last k _ _ el near (1120 + t) (omega arith) ∙ low (1120 + t) (omega arith) ∙ g .works t h;
           zeros = λ i h l. placed-high u last k _ _ el near i (omega arith) ∙ low i (omega arith) ∙ g .zeros i h l;
         }
 
-  pub one : OneIs sheet bundle from w last n k c (r / 2 + 1)
+  pub one : OneIs sheet bundle from w last n k c (r + 1)
   one =
       record {
         long = placed-long u last k _ _ el ∙ pr .1 .long;
@@ -245,7 +271,7 @@ module _ (sheet bundle from w u last : List ℕ) (n k c x e r : ℕ) (near : k <
             let ek : e ≡ getD from (suc k) 0 = ee ∙ ap (λ (i : ℕ). getD from i 0) (add-one k) in
             let l : Lies (taskCount s) (linkCount s) bundle (x + 2) e (getD qs k []) = rw (ex, ek) lies in
             let y = pr .1 .is s (getD qs k []) fields en few l (omega (arith, g .long)) in
-            (omega (arith, y .0), more s ps qs same room g (y .0) (y .1) (y .2));
+            (omega (arith, y .0), more s en few ps qs same room g (y .0) (y .1) (y .2));
       }
 
 -- one programme more of a list
@@ -263,7 +289,7 @@ pub record Going (sheet bundle from v w : List ℕ) (m n first c k : ℕ) : Type
   pub few : c ≤ first + k * 4294967300
   pub is : (s : Sheet) (b : Bundle) → Given sheet bundle from m n s b → Opened s v first [] → (c ≡ first + sum k (wholeOf b each) + k) × Opened s w c (take k (b .programmes))
 
-module _ (sheet bundle from v : List ℕ) (m n first : ℕ) (near : first ≤ 561) where
+module _ (sheet bundle from v : List ℕ) (m n first : ℕ) (near : first ≤ 1377) where
   pub going-starts : Going sheet bundle from v v m n first first 0
   unfolding sum
   going-starts = record { long = refl; few = omega arith; is = λ s b given g. (omega arith, g) }
@@ -320,6 +346,7 @@ module _ (sheet bundle from v : List ℕ) (m n first : ℕ) (near : first ≤ 56
               clock = q .clock;
               store = q .store;
               links = q .links;
+              works = q .works;
               zeros = q .zeros;
             };
       }
@@ -344,6 +371,7 @@ module _ (sheet bundle from w : List ℕ) (m n : ℕ) (s : Sheet) (b : Bundle) (
               ranged = given .ranged;
               links = g .links;
               nothing = g .zeros 95 (omega arith) (omega arith);
+              works = g .works;
               low = λ k h. g .opens k h .low;
               high = λ k h. omega (arith, g .opens k h .high);
               last = λ k h. g .opens k h .last;
@@ -360,13 +388,21 @@ module _ (sheet bundle from w : List ℕ) (m n : ℕ) (s : Sheet) (b : Bundle) (
         roomy = λ l x e. absurd (Option·none-ne-some x (sym (stampless l) ∙ e));
       }
 
-pub loaded-all : (sheet bundle from w a v last : List ℕ) (m n l c : ℕ) → c ≡ (97 + l) / 2 → WipeIs w a l → EmptyIs a v c → AllIs sheet bundle from v last m n (c + 1)
+pub loaded-all : (sheet bundle from w a u v last : List ℕ) (m n l : ℕ) → l ≤ 1024 → WipeIs w a l → WorksIs sheet a u n → EmptyIs u v 1376 → AllIs sheet bundle from v last m n 1377
     → LoadIs sheet bundle from w last m n l
-loaded-all sheet bundle from w a v last m n l c first p q r =
+loaded-all sheet bundle from w a u v last m n l most p o q r =
     record {
-      long = r .long ∙ q .long ∙ p .long;
+      long = r .long ∙ q .long ∙ o .long ∙ p .long;
       keeps =
           λ s b fields long em few en links ranged short laid.
           let given : Given sheet bundle from m n s b = record { fields = fields; programmes = em; few = few; tasks = en; ranged = ranged; short = short; laid = laid } in
-          fresh-kept sheet bundle from last m n s b given (r .is s b given (q .opened s (omega (arith, p .long)) (omega arith) (rw links (p .blank long))));
+          let z = p .blank long in
+          let blank : Blank u (linkCount s) =
+          rw links (record { links = o .other 80 (omega arith) ∙ z .links; zeros = λ i h d. o .other i (omega arith) ∙ z .zeros i h d })
+          in
+          let works : WorksIn s u =
+          λ t h.
+          o .works (omega (arith, p .long)) t (omega arith) ∙ omega (arith, fields .work t h, fields .store t h)
+          in
+          fresh-kept sheet bundle from last m n s b given (r .is s b given (q .opened s (omega (arith, p .long, o .long)) ranged (omega arith) blank works));
     }

@@ -8,7 +8,7 @@ use lib.ListN.{length, getD, set, drop, length-set}
 use lib.Seq.{getD-set-same, getD-set-other}
 use Rattle.folds.proofs.Tests.{below-suc}
 use Rattle.numbers.specs.Number.{numberAt}
-use Rattle.sheet.specs.Sheet.{Sheet, taskCount, linkCount, workOf, storeOf, costOf, bytesOf}
+use Rattle.sheet.specs.Sheet.{Sheet, taskCount, linkCount, costOf, bytesOf}
 use Rattle.bundle.specs.Bundle.{Command, run, send, receive}
 use Rattle.bundle.specs.Fits.{Known}
 use Rattle.bundle.specs.Lies.{sizeOf, Stands, Lies}
@@ -16,75 +16,64 @@ use Rattle.bundle.proofs.Lying.{lies-next, lies-none}
 use Rattle.messages.specs.Fields.{Fields}
 use Rattle.messages.proofs.Noted.{stands-known}
 use Rattle.messages.proofs.Walking.{stands-run, drop-short}
-use Rattle.loaded.specs.Words.{codeOf, amountOf}
+use Rattle.loaded.specs.Words.{wordOf}
 use Rattle.loaded.specs.Keeps.{Decoded}
 use Rattle.loaded.specs.Loads.{CommandIs, ProgrammeIs}
 
--- the two words of a command
-twice-long : (w : List ℕ) (i x j y : ℕ) → length (set (set w i x) j y) ≡ length w
-twice-long w i x j y = length-set (set w i x) j y ∙ length-set w i x
-
 module _ (sheet bundle w last : List ℕ) (n o at : ℕ) where
   -- a run
-  pub ran : (t work store : ℕ) → getD bundle o 0 ≡ 0x52 → t ≡ getD bundle (o + 1) 0
-      → work ≡ numberAt 2 sheet (7 + 5 * t) → work < 65536 → store ≡ numberAt 2 sheet (9 + 5 * t) → store < 65536
-      → last ≡ set (set w at (0 % 4294967296)) (at + 1) ((work + 65536 * store) % 4294967296) → CommandIs sheet bundle w last n o at 2
-  ran t work store q et ew fw es fs el =
+  pub ran : (t : ℕ) → getD bundle o 0 ≡ 0x52 → t ≡ getD bundle (o + 1) 0 → t < 256 → last ≡ set w at ((1120 + t) % 4294967296) → CommandIs sheet bundle w last n o at 2
+  ran t q et ft el =
       record {
-        long = ap length el ∙ twice-long w at _ (at + 1) _;
+        long = ap length el ∙ length-set w at _;
         some = omega arith;
         few = omega arith;
         is =
             λ s c fields en few stands.
             let z = stands-run (taskCount s) (linkCount s) bundle o c stands q in
-            let l : t < taskCount s = omega (arith, z .1) in
-            let x : (work + 65536 * store) % 4294967296 ≡ workOf s t + 65536 * storeOf s t = omega (arith, fields .work t l, fields .store t l) in
+            let x : (1120 + t) % 4294967296 ≡ 1120 + t = omega arith in
             let k : c ≡ run t = z .0 ∙ ap run (sym et) in
-            subst (λ (d : Command). (last ≡ set (set w at (codeOf d)) (at + 1) (amountOf s d)) × (2 ≡ sizeOf d)) (sym k) (el ∙ ap (λ (i : ℕ). set (set w at 0) (at + 1) i) x, refl);
+            subst (λ (d : Command). (last ≡ set w at (wordOf s d)) × (2 ≡ sizeOf d)) (sym k) (el ∙ ap (set w at) x, refl);
       }
 
   -- a send or a receive
   pub told : (l r amount : ℕ) → (getD bundle o 0 ≡ 0x52 → ⊥) → r ≡ getD bundle o 0 / 0x56 → l ≡ numberAt 2 bundle (o + 1) → l < 65536
       → amount ≡ numberAt 2 sheet (9 + 5 * n + 7 * l + 2 * r) → amount < 65536
-      → last ≡ set (set w at ((2144 + l + 2048 * r) % 4294967296)) (at + 1) (amount % 4294967296) → CommandIs sheet bundle w last n o at 3
+      → last ≡ set w at ((134217824 + l + 134217728 * r + 2048 * amount) % 4294967296) → CommandIs sheet bundle w last n o at 3
   told l r amount q er et fl ea fa el =
       record {
-        long = ap length el ∙ twice-long w at _ (at + 1) _;
+        long = ap length el ∙ length-set w at _;
         some = omega arith;
         few = omega arith;
         is = by;
       }
     where
-      these : (x y : ℕ) → (2144 + l + 2048 * r) % 4294967296 ≡ x → amount % 4294967296 ≡ y → last ≡ set (set w at x) (at + 1) y
-      these x y e f = el ∙ ap (λ (i : ℕ). set (set w at i) (at + 1) (amount % 4294967296)) e ∙ ap (λ (i : ℕ). set (set w at x) (at + 1) i) f
-
-      small : (x : ℕ) → x < 4294967296 → x % 4294967296 ≡ x
-      small x f = omega arith
+      these : (x : ℕ) → 134217824 + l + 134217728 * r + 2048 * amount ≡ x → x < 4294967296 → last ≡ set w at x
+      these x e f = let d : (134217824 + l + 134217728 * r + 2048 * amount) % 4294967296 ≡ x = omega arith in el ∙ ap (set w at) d
 
       by : (s : Sheet) (c : Command) → Fields s sheet → taskCount s ≡ n → linkCount s ≤ 1024 → Stands (taskCount s) (linkCount s) bundle o c
-          → (last ≡ set (set w at (codeOf c)) (at + 1) (amountOf s c)) × (3 ≡ sizeOf c)
+          → (last ≡ set w at (wordOf s c)) × (3 ≡ sizeOf c)
       by s (run x) fields en few h = absurd (q (h .0))
       by s (send x) fields en few h =
           let z : r ≡ 0 = omega (arith, h .0) in
           let i : 9 + 5 * n + 7 * l + 2 * r ≡ 9 + 5 * taskCount s + 7 * x = omega (arith, h .1) in
           let e : amount ≡ costOf s x = ea ∙ ap (numberAt 2 sheet) i ∙ fields .cost x (h .2) in
-          let d : 2144 + l + 2048 * r ≡ 2048 + (96 + x) = omega (arith, h .1) in
-          (these (codeOf (send x)) (costOf s x) (ap (λ (j : ℕ). j % 4294967296) d ∙ small (2048 + (96 + x)) (omega (arith, h .2))) (omega arith), refl)
+          let d : 134217824 + l + 134217728 * r + 2048 * amount ≡ wordOf s (send x) = omega (arith, h .1) in
+          (these (wordOf s (send x)) d (omega (arith, h .2)), refl)
       by s (receive x) fields en few h =
           let z : r ≡ 1 = omega (arith, h .0) in
           let i : 9 + 5 * n + 7 * l + 2 * r ≡ 11 + 5 * taskCount s + 7 * x = omega (arith, h .1) in
           let e : amount ≡ bytesOf s x = ea ∙ ap (numberAt 2 sheet) i ∙ fields .bytes x (h .2) in
-          let d : 2144 + l + 2048 * r ≡ 4096 + (96 + x) = omega (arith, h .1) in
-          (these (codeOf (receive x)) (bytesOf s x) (ap (λ (j : ℕ). j % 4294967296) d ∙ small (4096 + (96 + x)) (omega (arith, h .2))) (omega arith), refl)
+          let d : 134217824 + l + 134217728 * r + 2048 * amount ≡ wordOf s (receive x) = omega (arith, h .1) in
+          (these (wordOf s (receive x)) d (omega (arith, h .2)), refl)
 
 -- commands stand in other words that agree from the first of them up to the index z
-pub decoded-same : (s : Sheet) (w v : List ℕ) (a z : ℕ) (cs : List Command) → ((i : ℕ) → a ≤ i → i < z → getD v i 0 ≡ getD w i 0) → a + 2 * length cs < z → Decoded s w a cs → Decoded s v a cs
+pub decoded-same : (s : Sheet) (w v : List ℕ) (a z : ℕ) (cs : List Command) → ((i : ℕ) → a ≤ i → i < z → getD v i 0 ≡ getD w i 0) → a + length cs < z → Decoded s w a cs → Decoded s v a cs
 decoded-same s w v a z cs same high h =
     record {
       known = h .known;
-      code = λ i l. same (a + 2 * i) (omega arith) (omega arith) ∙ h .code i l;
-      amount = λ i l. same (a + 2 * i + 1) (omega arith) (omega arith) ∙ h .amount i l;
-      end = same (a + 2 * length cs) (omega arith) (omega arith) ∙ h .end;
+      word = λ i l. same (a + i) (omega arith) (omega arith) ∙ h .word i l;
+      end = same (a + length cs) (omega arith) (omega arith) ∙ h .end;
     }
 
 -- the command at place i, where more are left from there on
@@ -98,18 +87,17 @@ drop-head (x ∷ p) (suc i) c r e = let h = drop-head p i c r e in (omega (arith
 pub record Part (s : Sheet) (bundle v w : List ℕ) (e at from to : ℕ) (cs : List Command) : Type 0 where
   pub count : ℕ
   pub lies : Lies (taskCount s) (linkCount s) bundle from e (drop count cs)
-  pub behind : to ≡ at + 2 * count
+  pub behind : to ≡ at + count
   pub few : count ≤ length cs
   pub known : (i : ℕ) → i < count → Known s (getD cs i (run 0))
-  pub code : (i : ℕ) → i < count → getD w (at + 2 * i) 0 ≡ codeOf (getD cs i (run 0))
-  pub amount : (i : ℕ) → i < count → getD w (at + 2 * i + 1) 0 ≡ amountOf s (getD cs i (run 0))
+  pub word : (i : ℕ) → i < count → getD w (at + i) 0 ≡ wordOf s (getD cs i (run 0))
   pub other : (i : ℕ) → (i < at) ⊎ (to ≤ i) → getD w i 0 ≡ getD v i 0
 
 pub record Loading (sheet bundle v w : List ℕ) (n o e at from to : ℕ) : Type 0 where
   pub long : length w ≡ length v
   pub low : to + o ≤ at + from
   pub near : from ≤ max o (e + 2)
-  pub is : (s : Sheet) (cs : List Command) → Fields s sheet → taskCount s ≡ n → linkCount s ≤ 1024 → Lies (taskCount s) (linkCount s) bundle o e cs → at + 2 * length cs < length v
+  pub is : (s : Sheet) (cs : List Command) → Fields s sheet → taskCount s ≡ n → linkCount s ≤ 1024 → Lies (taskCount s) (linkCount s) bundle o e cs → at + length cs < length v
       → Part s bundle v w e at from to cs
 
 module _ (sheet bundle v : List ℕ) (n o e at : ℕ) where
@@ -127,53 +115,40 @@ module _ (sheet bundle v : List ℕ) (n o e at : ℕ) where
               behind = omega arith;
               few = omega arith;
               known = λ i h. absurd (omega arith);
-              code = λ i h. absurd (omega arith);
-              amount = λ i h. absurd (omega arith);
+              word = λ i h. absurd (omega arith);
               other = λ i h. refl;
             };
       }
 
   module _ (w u : List ℕ) (from to r : ℕ) (g : Loading sheet bundle v w n o e at from to) (below : from < e) (h : CommandIs sheet bundle w u n from to r) where
-    part-more : (s : Sheet) (cs : List Command) → Fields s sheet → taskCount s ≡ n → linkCount s ≤ 1024 → at + 2 * length cs < length v
-        → Part s bundle v w e at from to cs → Part s bundle v u e at (from + r) (to + 2) cs
+    part-more : (s : Sheet) (cs : List Command) → Fields s sheet → taskCount s ≡ n → linkCount s ≤ 1024 → at + length cs < length v
+        → Part s bundle v w e at from to cs → Part s bundle v u e at (from + r) (to + 1) cs
     part-more s cs fields en few room p =
         let x = lies-next (taskCount s) (linkCount s) bundle (p .lies) below in
         let c = x .command in
         let d = drop-head cs (p .count) c (x .rest) (x .here) in
         let y = h .is s c fields en few (x .stands) in
         let inside : p .count < length cs = d .0 in
-        let lw : to + 1 < length w = omega (arith, g .long, p .behind) in
-        let lx : to + 1 < length (set w to (codeOf c)) = rw (length-set w to (codeOf c)) lw in
-        let same : (i : ℕ) → (i ≡ to → ⊥) → (i ≡ to + 1 → ⊥) → getD u i 0 ≡ getD w i 0 =
-        λ i a b.
-        ap (λ (l : List ℕ). getD l i 0) (y .0) ∙ getD-set-other (set w to (codeOf c)) (to + 1) i (amountOf s c) 0 b ∙ getD-set-other w to i (codeOf c) 0 a
-        in
-        let first : getD u to 0 ≡ codeOf c =
-        ap (λ (l : List ℕ). getD l to 0) (y .0) ∙ getD-set-other (set w to (codeOf c)) (to + 1) to (amountOf s c) 0 (λ z. omega arith) ∙ getD-set-same w to (codeOf c) 0 (omega arith)
-        in
-        let second : getD u (to + 1) 0 ≡ amountOf s c = ap (λ (l : List ℕ). getD l (to + 1) 0) (y .0) ∙ getD-set-same (set w to (codeOf c)) (to + 1) (amountOf s c) 0 lx in
-        let behind : to ≡ at + 2 * p .count = p .behind in
+        let lw : to < length w = omega (arith, g .long, p .behind) in
+        let same : (i : ℕ) → (i ≡ to → ⊥) → getD u i 0 ≡ getD w i 0 = λ i a. ap (λ (l : List ℕ). getD l i 0) (y .0) ∙ getD-set-other w to i (wordOf s c) 0 a in
+        let here : getD u to 0 ≡ wordOf s c = ap (λ (l : List ℕ). getD l to 0) (y .0) ∙ getD-set-same w to (wordOf s c) 0 lw in
+        let behind : to ≡ at + p .count = p .behind in
         record {
           count = suc (p .count);
           lies = rw (d .2, y .1) (x .behind);
           behind = omega arith;
           few = omega arith;
           known = λ i l. ⊎-elim (λ (q : i < p .count). p .known i q) (λ (q : i ≡ p .count). rw (q, d .1) (stands-known s bundle from c (x .stands))) (below-suc l);
-          code =
+          word =
               λ i l.
-              ⊎-elim (λ (q : i < p .count). same (at + 2 * i) (λ z. omega arith) (λ z. omega arith) ∙ p .code i q)
-              (λ (q : i ≡ p .count). rw (q, d .1) (ap (λ (j : ℕ). getD u j 0) (sym behind) ∙ first)) (below-suc l);
-          amount =
-              λ i l.
-              ⊎-elim (λ (q : i < p .count). same (at + 2 * i + 1) (λ z. omega arith) (λ z. omega arith) ∙ p .amount i q)
-              (λ (q : i ≡ p .count). rw (q, d .1) (ap (λ (j : ℕ). getD u (j + 1) 0) (sym behind) ∙ second)) (below-suc l);
+              ⊎-elim (λ (q : i < p .count). same (at + i) (λ z. omega arith) ∙ p .word i q)
+              (λ (q : i ≡ p .count). rw (q, d .1) (ap (λ (j : ℕ). getD u j 0) (sym behind) ∙ here)) (below-suc l);
           other =
               λ i l.
-              ⊎-elim (λ (a : i < at). same i (λ z. omega arith) (λ z. omega arith) ∙ p .other i (inl a))
-              (λ (a : to + 2 ≤ i). same i (λ z. omega arith) (λ z. omega arith) ∙ p .other i (inr (omega arith))) l;
+              ⊎-elim (λ (a : i < at). same i (λ z. omega arith) ∙ p .other i (inl a)) (λ (a : to + 1 ≤ i). same i (λ z. omega arith) ∙ p .other i (inr (omega arith))) l;
         }
 
-    pub loading-more : Loading sheet bundle v u n o e at (from + r) (to + 2)
+    pub loading-more : Loading sheet bundle v u n o e at (from + r) (to + 1)
     loading-more =
         record {
           long = h .long ∙ g .long;
@@ -182,30 +157,29 @@ module _ (sheet bundle v : List ℕ) (n o e at : ℕ) where
           is = λ s cs fields en few lies room. part-more s cs fields en few room (g .is s cs fields en few lies room);
         }
 
-  module _ (w last : List ℕ) (from to : ℕ) (g : Loading sheet bundle v w n o e at from to) (over : e ≤ from) (el : last ≡ set w to (4191 % 4294967296)) where
-    ended : (s : Sheet) (cs : List Command) → at + 2 * length cs < length v → Part s bundle v w e at from to cs
-        → (to ≡ at + 2 * length cs) × Decoded s last at cs × ((i : ℕ) → (i < at) ⊎ (at + 2 * length cs < i) → getD last i 0 ≡ getD v i 0)
+  module _ (w last : List ℕ) (from to : ℕ) (g : Loading sheet bundle v w n o e at from to) (over : e ≤ from) (el : last ≡ set w to (268435551 % 4294967296)) where
+    ended : (s : Sheet) (cs : List Command) → at + length cs < length v → Part s bundle v w e at from to cs
+        → (to ≡ at + length cs) × Decoded s last at cs × ((i : ℕ) → (i < at) ⊎ (at + length cs < i) → getD last i 0 ≡ getD v i 0)
     ended s cs room p =
         let all : p .count ≡ length cs = omega (arith, p .few, drop-short cs (p .count) (lies-none (taskCount s) (linkCount s) bundle (p .lies) over)) in
-        let behind : to ≡ at + 2 * length cs = omega (arith, p .behind) in
+        let behind : to ≡ at + length cs = omega (arith, p .behind) in
         let inside : to < length w = omega (arith, g .long) in
-        let same : (i : ℕ) → (i ≡ to → ⊥) → getD last i 0 ≡ getD w i 0 = λ i d. ap (λ (l : List ℕ). getD l i 0) el ∙ getD-set-other w to i 4191 0 d in (
+        let same : (i : ℕ) → (i ≡ to → ⊥) → getD last i 0 ≡ getD w i 0 = λ i d. ap (λ (l : List ℕ). getD l i 0) el ∙ getD-set-other w to i 268435551 0 d in (
           behind,
           record {
             known = λ i l. p .known i (omega arith);
-            code = λ i l. same (at + 2 * i) (λ z. omega arith) ∙ p .code i (omega arith);
-            amount = λ i l. same (at + 2 * i + 1) (λ z. omega arith) ∙ p .amount i (omega arith);
-            end = ap (λ (i : ℕ). getD last i 0) (sym behind) ∙ ap (λ (l : List ℕ). getD l to 0) el ∙ getD-set-same w to 4191 0 inside;
+            word = λ i l. same (at + i) (λ z. omega arith) ∙ p .word i (omega arith);
+            end = ap (λ (i : ℕ). getD last i 0) (sym behind) ∙ ap (λ (l : List ℕ). getD l to 0) el ∙ getD-set-same w to 268435551 0 inside;
           },
           λ i l.
-              ⊎-elim (λ (a : i < at). same i (λ z. omega arith) ∙ p .other i (inl a)) (λ (a : at + 2 * length cs < i). same i (λ z. omega arith) ∙ p .other i (inr (omega arith))) l,
+              ⊎-elim (λ (a : i < at). same i (λ z. omega arith) ∙ p .other i (inl a)) (λ (a : at + length cs < i). same i (λ z. omega arith) ∙ p .other i (inr (omega arith))) l,
         )
 
     pub loading-ends : (to ≤ at + e + 2) × ProgrammeIs sheet bundle v last n o e at to
     loading-ends = (
       omega (arith, g .low, g .near),
       record {
-        long = ap length el ∙ length-set w to 4191 ∙ g .long;
+        long = ap length el ∙ length-set w to 268435551 ∙ g .long;
         is = λ s cs fields en few lies room. ended s cs room (g .is s cs fields en few lies room);
       },
     )

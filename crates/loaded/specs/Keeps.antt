@@ -12,14 +12,13 @@ use Rattle.bundle.specs.Fits.{Known}
 use Rattle.messages.specs.Counting.{each}
 use Rattle.machine.specs.Machine.{State, processorOf, stampOf, stampIn}
 use Rattle.machine.specs.Runs.{left}
-use Rattle.loaded.specs.Words.{nextIn, clockIn, storeIn, firstIn, lastIn, codeOf, amountOf, endCode}
+use Rattle.loaded.specs.Words.{nextIn, clockIn, storeIn, firstIn, lastIn, WorksIn, wordOf, endCode}
 
 -- the commands cs stand in the words w from the index at on
 pub record Decoded (s : Sheet) (w : List ℕ) (at : ℕ) (cs : List Command) : Type 0 where
   pub known : (i : ℕ) → i < length cs → Known s (getD cs i (run 0))
-  pub code : (i : ℕ) → i < length cs → getD w (at + 2 * i) 0 ≡ codeOf (getD cs i (run 0))
-  pub amount : (i : ℕ) → i < length cs → getD w (at + 2 * i + 1) 0 ≡ amountOf s (getD cs i (run 0))
-  pub end : getD w (at + 2 * length cs) 0 ≡ endCode
+  pub word : (i : ℕ) → i < length cs → getD w (at + i) 0 ≡ wordOf s (getD cs i (run 0))
+  pub end : getD w (at + length cs) 0 ≡ endCode
 
 -- the programmes of b stand in the words w: every processor has one, though it may be empty
 pub record Programmed (s : Sheet) (b : Bundle) (w : List ℕ) : Type 0 where
@@ -28,10 +27,11 @@ pub record Programmed (s : Sheet) (b : Bundle) (w : List ℕ) : Type 0 where
   pub ranged : Ranged s
   pub links : getD w 80 0 ≡ linkCount s
   pub nothing : getD w 95 0 ≡ 0
-  pub low : (k : ℕ) → k < 16 → 96 + linkCount s ≤ 2 * firstIn w k
+  pub works : WorksIn s w
+  pub low : (k : ℕ) → k < 16 → 1376 ≤ firstIn w k
   pub high : (k : ℕ) → k < 16 → firstIn w k + length (programmeOf b k) < 4096
   pub last : (k : ℕ) → k < 16 → lastIn w k ≡ firstIn w k + length (programmeOf b k)
-  pub decoded : (k : ℕ) → k < 16 → Decoded s w (2 * firstIn w k) (programmeOf b k)
+  pub decoded : (k : ℕ) → k < 16 → Decoded s w (firstIn w k) (programmeOf b k)
 
 -- words w keep the state σ
 pub record Keeps (s : Sheet) (b : Bundle) (w : List ℕ) (σ : State) : Type 0 where

@@ -1,5 +1,5 @@
 -- What loading promises: the programmes of a bundle, decoded from its bytes and its sheet's, and the fresh state beside them.
-use Prim.Native.Nat.{ℕ, _+_, _*_, _≤_, _<_}
+use Prim.Native.Nat.{ℕ, _+_, _≤_, _<_}
 use mathlib.Core.Path.{_≡_}
 use mathlib.Core.Logic.{_⊎_}
 use mathlib.Core.List.{List}
@@ -12,22 +12,22 @@ use Rattle.bundle.specs.Lies.{sizeOf, Stands, Lies, Laid}
 use Rattle.messages.specs.Counting.{whole, each}
 use Rattle.messages.specs.Fields.{Fields}
 use Rattle.machine.specs.Machine.{freshState}
-use Rattle.loaded.specs.Words.{codeOf, amountOf}
+use Rattle.loaded.specs.Words.{wordOf}
 use Rattle.loaded.specs.Keeps.{Decoded, Keeps}
 
--- the command at the offset o, of r bytes, in the two words at the index at
+-- the command at the offset o, of r bytes, in the word at the index at
 pub record CommandIs (sheet bundle w last : List ℕ) (n o at r : ℕ) : Type 0 where
   pub long : length last ≡ length w
   pub some : 2 ≤ r
   pub few : r ≤ 3
   pub is : (s : Sheet) (c : Command) → Fields s sheet → taskCount s ≡ n → linkCount s ≤ 1024 → Stands (taskCount s) (linkCount s) bundle o c
-      → (last ≡ set (set w at (codeOf c)) (at + 1) (amountOf s c)) × (r ≡ sizeOf c)
+      → (last ≡ set w at (wordOf s c)) × (r ≡ sizeOf c)
 
 -- the programme from the offset o to the offset e in the words from the index at on, and behind it the index r; the others stay
 pub record ProgrammeIs (sheet bundle w last : List ℕ) (n o e at r : ℕ) : Type 0 where
   pub long : length last ≡ length w
-  pub is : (s : Sheet) (cs : List Command) → Fields s sheet → taskCount s ≡ n → linkCount s ≤ 1024 → Lies (taskCount s) (linkCount s) bundle o e cs → at + 2 * length cs < length w
-      → (r ≡ at + 2 * length cs) × Decoded s last at cs × ((i : ℕ) → (i < at) ⊎ (at + 2 * length cs < i) → getD last i 0 ≡ getD w i 0)
+  pub is : (s : Sheet) (cs : List Command) → Fields s sheet → taskCount s ≡ n → linkCount s ≤ 1024 → Lies (taskCount s) (linkCount s) bundle o e cs → at + length cs < length w
+      → (r ≡ at + length cs) × Decoded s last at cs × ((i : ℕ) → (i < at) ⊎ (at + length cs < i) → getD last i 0 ≡ getD w i 0)
 
 -- m programmes whose offsets stand in the words `from`, for a sheet of n tasks and l links: the fresh state
 pub record LoadIs (sheet bundle from w last : List ℕ) (m n l : ℕ) : Type 0 where

@@ -4,30 +4,32 @@ use mathlib.Core.Path.{_≡_}
 use mathlib.Core.List.{List, []}
 use lib.ListN.{length, getD}
 use Rattle.workspace.specs.Area.{fixed}
+use Rattle.numbers.specs.Number.{numberAt}
 use Rattle.sheet.specs.Sheet.{Sheet, taskCount, linkCount}
 use Rattle.sheet.specs.Tables.{Ranged}
 use Rattle.bundle.specs.Bundle.{Command, Bundle, programmeCount}
 use Rattle.bundle.specs.Lies.{Lies, Laid}
 use Rattle.messages.specs.Counting.{whole, each}
 use Rattle.messages.specs.Fields.{Fields}
-use Rattle.loaded.specs.Words.{nextIn, clockIn, storeIn, firstIn, lastIn}
+use Rattle.loaded.specs.Words.{nextIn, clockIn, storeIn, firstIn, lastIn, WorksIn}
 use Rattle.loaded.specs.Keeps.{Decoded}
 
 -- processor k stands before the first of the commands cs, whose numbers and the end's are below c
 pub record Opens (s : Sheet) (w : List ℕ) (c k : ℕ) (cs : List Command) : Type 0 where
   pub next : nextIn w k ≡ firstIn w k
-  pub low : 96 + linkCount s ≤ 2 * firstIn w k
+  pub low : 1376 ≤ firstIn w k
   pub high : firstIn w k + length cs < c
   pub last : lastIn w k ≡ firstIn w k + length cs
-  pub decoded : Decoded s w (2 * firstIn w k) cs
+  pub decoded : Decoded s w (firstIn w k) cs
 
--- all processors stand so, those behind the programmes ps with no command; the count of links is there, and the other words up to the last stamp are 0
+-- all processors stand so, those behind the programmes ps with no command; the count of links and the tasks' numbers are there, and the other words up to the last stamp are 0
 pub record Opened (s : Sheet) (w : List ℕ) (c : ℕ) (ps : List (List Command)) : Type 0 where
   pub long : fixed ≤ length w
   pub opens : (k : ℕ) → k < 16 → Opens s w c k (getD ps k [])
   pub clock : (k : ℕ) → k < 16 → clockIn w k ≡ 0
   pub store : (k : ℕ) → k < 16 → storeIn w k ≡ 0
   pub links : getD w 80 0 ≡ linkCount s
+  pub works : WorksIn s w
   pub zeros : (i : ℕ) → 81 ≤ i → i < 96 + linkCount s → getD w i 0 ≡ 0
 
 -- the words up to the last of l stamps are 0, but for the count of links
@@ -39,10 +41,16 @@ pub record WipeIs (w last : List ℕ) (l : ℕ) : Type 0 where
   pub long : length last ≡ length w
   pub blank : fixed ≤ length w → Blank last l
 
--- and every processor has the empty programme, at command c behind the stamps
+-- the work and the store of each of n tasks, as the sheet's bytes have them; the words before stay
+pub record WorksIs (sheet w last : List ℕ) (n : ℕ) : Type 0 where
+  pub long : length last ≡ length w
+  pub works : fixed ≤ length w → (t : ℕ) → t < n → getD last (1120 + t) 0 ≡ numberAt 2 sheet (7 + 5 * t) + 65536 * numberAt 2 sheet (9 + 5 * t)
+  pub other : (i : ℕ) → i < 1120 → getD last i 0 ≡ getD w i 0
+
+-- and every processor has the empty programme, at command c behind the tasks' numbers
 pub record EmptyIs (w last : List ℕ) (c : ℕ) : Type 0 where
   pub long : length last ≡ length w
-  pub opened : (s : Sheet) → fixed ≤ length w → 96 + linkCount s ≤ 2 * c → Blank w (linkCount s) → Opened s last (c + 1) []
+  pub opened : (s : Sheet) → fixed ≤ length w → Ranged s → 1376 ≤ c → Blank w (linkCount s) → WorksIn s w → Opened s last (c + 1) []
 
 -- programme k, which lies as its words in `from` say, beside the others
 pub record OneIs (sheet bundle from w last : List ℕ) (n k c r : ℕ) : Type 0 where

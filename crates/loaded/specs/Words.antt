@@ -1,15 +1,17 @@
--- The words in which the machine is kept: its processors, the stamps, and the commands of all programmes, decoded.
+-- The words in which the machine is kept: its processors, the stamps, the tasks' numbers, and the commands of all programmes, decoded; below 4,096 in all.
 --
 --   4 * k the number of the next command of processor k, 4 * k + 1 its clock, 4 * k + 2 its store in use, 4 * k + 3 the number of its first command (16 processors)
 --   64 + k the number behind its last command
 --   80 the count of links, at most 1,024
 --   95 is 0: no message
 --   96 + l for link l 0 while its message is not sent, then one more than the stamp
---   2 * c and 2 * c + 1 command c, from the first number behind the stamps on: what to do and the word of its message; then how much. Behind each programme stands one that receives word 95, and so is never done
-use Prim.Native.Nat.{ℕ, _+_, _*_, _-_, _%_, _/_, max}
+--   1120 + t work + 65536 * store of task t (256)
+--   c command c, from 1376 on: lowest the word that it works with, a task's or a message's, then how much a message costs or holds, then what to do. Behind each programme stands one that receives word 95, and so is never done
+use Prim.Native.Nat.{ℕ, _+_, _*_, _-_, _%_, _/_, _<_, max}
+use mathlib.Core.Path.{_≡_}
 use mathlib.Core.List.{List}
 use lib.ListN.{getD, set}
-use Rattle.sheet.specs.Sheet.{Sheet, workOf, storeOf, costOf, bytesOf}
+use Rattle.sheet.specs.Sheet.{Sheet, taskCount, workOf, storeOf, costOf, bytesOf}
 use Rattle.bundle.specs.Bundle.{Command, run, send, receive}
 
 -- processor k in the words w
@@ -28,20 +30,19 @@ firstIn w k = getD w (4 * k + 3) 0
 abbrev pub lastIn : List ℕ → ℕ → ℕ
 lastIn w k = getD w (64 + k) 0
 
--- a command's two words
-abbrev pub codeOf : Command → ℕ
-codeOf (run t) = 0
-codeOf (send l) = 2048 + (96 + l)
-codeOf (receive l) = 4096 + (96 + l)
+-- the work and the store of each task stand in its word
+abbrev pub WorksIn : Sheet → List ℕ → Type 0
+WorksIn s w = (t : ℕ) → t < taskCount s → getD w (1120 + t) 0 ≡ workOf s t + 65536 * storeOf s t
 
-abbrev pub amountOf : Sheet → Command → ℕ
-amountOf s (run t) = workOf s t + 65536 * storeOf s t
-amountOf s (send l) = costOf s l
-amountOf s (receive l) = bytesOf s l
+-- a command's word
+abbrev pub wordOf : Sheet → Command → ℕ
+wordOf s (run t) = 1120 + t
+wordOf s (send l) = 134217728 + 2048 * costOf s l + (96 + l)
+wordOf s (receive l) = 268435456 + 2048 * bytesOf s l + (96 + l)
 
--- the first word behind a programme
+-- the word behind a programme
 abbrev pub endCode : ℕ
-endCode = 4096 + 95
+endCode = 268435456 + 95
 
 -- processor k at a command, a clock and a store
 unfoldable pub placedWords : List ℕ → ℕ → ℕ → ℕ → ℕ → List ℕ

@@ -3,35 +3,24 @@ ghost use mathlib.Core.Path.{_≡_};
 ghost use Prim.Native.Nat.{_+_, _*_, _%_, _≤_, _<_};
 ghost use lib.ListN.{set};
 ghost use Rattle.loaded.specs.Loads.{CommandIs, ProgrammeIs, LoadIs};
-ghost use Rattle.loaded.specs.Opened.{WipeIs, EmptyIs, OneIs, AllIs};
+ghost use Rattle.loaded.specs.Opened.{WipeIs, WorksIs, EmptyIs, OneIs, AllIs};
 
-// The two words of a command.
-fn put_command(w: &mut [u32], at: usize, code: usize, amount: usize)
-    requires { ⌜ at < 2199023255552 ⌝ }
-    ensures { λ _. ⌜ now (w .exit) ≡ set (set (now (w .entry)) at (code % 4294967296)) (at + 1) (amount % 4294967296) ⌝ }
-{
-    words::put(w, at, code);
-    words::put(w, at + 1, amount);
-}
-
-// The command at the offset o, for a sheet of n tasks, into the two words at the index `at`; how many bytes it has. A send is told from a receive by value:
+// The command at the offset o, for a sheet of n tasks, into the word at the index `at`; how many bytes it has. A send is told from a receive by value:
 // which of them comes cannot be foretold.
 fn load_command(sheet: &[u8], bundle: &[u8], w: &mut [u32], n: usize, o: usize, at: usize) -> usize
-    requires { ⌜ (n ≤ 256) × (o < 4294967296) × (at < 2199023255552) ⌝ }
+    requires { ⌜ (n ≤ 256) × (o < 4294967296) ⌝ }
     ensures { λ r. ⌜ CommandIs (now (sheet .entry)) (now (bundle .entry)) (now (w .entry)) (now (w .exit)) n o at r ⌝ }
 {
     let c = words::byte(bundle, o);
     if c == 0x52 {
         let t = words::byte(bundle, o + 1);
-        let work = words::pair(sheet, 7 + 5 * t);
-        let store = words::pair(sheet, 9 + 5 * t);
-        put_command(w, at, 0, work + 65536 * store);
+        words::put(w, at, 1120 + t);
         return 2;
     }
     let l = words::pair(bundle, o + 1);
     let receives = c / 0x56;
     let amount = words::pair(sheet, 9 + 5 * n + 7 * l + 2 * receives);
-    put_command(w, at, 2144 + l + 2048 * receives, amount);
+    words::put(w, at, 134217824 + l + 134217728 * receives + 2048 * amount);
     3
 }
 
@@ -52,9 +41,9 @@ fn load_programme(
     let mut to = at;
     while from < e {
         from += load_command(sheet, bundle, w, n, from, to);
-        to += 2;
+        to += 1;
     }
-    words::put(w, to, 4191);
+    words::put(w, to, 268435551);
     to
 }
 
@@ -78,12 +67,26 @@ fn wipe(w: &mut [u32], l: usize)
     words::put(w, 80, l);
 }
 
+// The work and the store of each of n tasks into the task's word.
+fn load_works(sheet: &[u8], w: &mut [u32], n: usize)
+    requires { ⌜ n ≤ 256 ⌝ }
+    ensures { λ _. ⌜ WorksIs (now (sheet .entry)) (now (w .entry)) (now (w .exit)) n ⌝ }
+{
+    let mut t = 0;
+    while t < n {
+        let work = words::pair(sheet, 7 + 5 * t);
+        let store = words::pair(sheet, 9 + 5 * t);
+        words::put(w, 1120 + t, work + 65536 * store);
+        t += 1;
+    }
+}
+
 // Every processor has the empty programme, at command c.
 fn empty_all(w: &mut [u32], c: usize)
-    requires { ⌜ c ≤ 560 ⌝ }
+    requires { ⌜ c < 4096 ⌝ }
     ensures { λ _. ⌜ EmptyIs (now (w .entry)) (now (w .exit)) c ⌝ }
 {
-    words::put(w, 2 * c, 4191);
+    words::put(w, c, 268435551);
     let mut k = 0;
     while k < 16 {
         open_programme(w, k, c, c);
@@ -106,7 +109,7 @@ fn load_one(
 {
     let o = words::word(from, k) + 2;
     let e = words::word(from, k + 1);
-    let last = load_programme(sheet, bundle, w, n, o, e, 2 * c) / 2;
+    let last = load_programme(sheet, bundle, w, n, o, e, c);
     open_programme(w, k, c, last);
     last + 1
 }
@@ -121,7 +124,7 @@ fn load_all(
     n: usize,
     first: usize,
 )
-    requires { ⌜ (m < 17) × (n ≤ 256) × (first ≤ 561) ⌝ }
+    requires { ⌜ (m < 17) × (n ≤ 256) × (first ≤ 1377) ⌝ }
     ensures { λ _. ⌜ AllIs (now (sheet .entry)) (now (bundle .entry)) (now (from .entry)) (now (w .entry)) (now (w .exit)) m n first ⌝ }
 {
     let mut c = first;
@@ -137,8 +140,8 @@ pub fn load(sheet: &[u8], bundle: &[u8], from: &[u32], w: &mut [u32], m: usize, 
     requires { ⌜ (m < 17) × (n ≤ 256) × (l ≤ 1024) ⌝ }
     ensures { λ _. ⌜ LoadIs (now (sheet .entry)) (now (bundle .entry)) (now (from .entry)) (now (w .entry)) (now (w .exit)) m n l ⌝ }
 {
-    let c = (97 + l) / 2;
     wipe(w, l);
-    empty_all(w, c);
-    load_all(sheet, bundle, from, w, m, n, c + 1);
+    load_works(sheet, w, n);
+    empty_all(w, 1376);
+    load_all(sheet, bundle, from, w, m, n, 1377);
 }

@@ -72,17 +72,19 @@ fn command(w: &mut [u32], k: usize) -> bool
     ensures { λ r. ⌜ StepIs Keeps (now (w .entry)) (now (w .exit)) k r ⌝ }
 {
     let c = words::word(w, 4 * k) % 4096;
-    let code = words::word(w, 2 * c);
-    let amount = words::word(w, 2 * c + 1);
-    if code < 2048 {
+    let x = words::word(w, c);
+    let i = x % 2048;
+    if x < 134217728 {
+        let amount = words::word(w, i);
         go_on(w, k, 0, amount % 65536, amount / 65536);
         return true;
     }
-    if code < 4096 {
-        send(w, k, amount, code % 2048);
+    let amount = x / 2048 % 65536;
+    if x < 268435456 {
+        send(w, k, amount, i);
         return true;
     }
-    receive(w, k, amount, code % 2048)
+    receive(w, k, amount, i)
 }
 
 // One command of processor k, in constant time. False, and nothing changed, where it cannot step.

@@ -55,7 +55,7 @@ module _ (p : ℕ → Bool) (f : ℕ → ℕ) where
   least-is zero = λ j h. absurd (omega arith)
   least-is (suc n) = least-step n (leading n p lower) (least-is n) (p n) refl
 
-module _ (w : List ℕ) (kept : Kept w) (u : ℕ) (h : u < taskCount (sheetIn w)) where
+module _ (w own : List ℕ) (kept : Kept w own) (u : ℕ) (h : u < taskCount (sheetIn w)) where
   abbrev s : Sheet
   s = sheetIn w
 
@@ -64,13 +64,13 @@ module _ (w : List ℕ) (kept : Kept w) (u : ℕ) (h : u < taskCount (sheetIn w)
 
   -- where u's latest message comes from, when it is there, and when the latest from elsewhere is
   abbrev main : ℕ
-  main = getD w (7456 + u) 0
+  main = getD own (1280 + u) 0
 
   abbrev latest : ℕ
-  latest = getD w (6944 + u) 0
+  latest = getD own (768 + u) 0
 
   abbrev other : ℕ
-  other = getD w (7200 + u) 0
+  other = getD own (1024 + u) 0
 
   latest-is : latest ≡ arrival s σ u
   latest-is = arrival-kept (kept .caches) u h

@@ -36,7 +36,7 @@ pub record Joining (s : Sheet) (σ : Schedule) (t i l best : ℕ) : Type 0 where
   pub walk : Walking s t i l
   pub most : best ≡ greatest l (linkKey s σ t)
 
-module _ (w : List ℕ) (t : ℕ) (c : Choosing w t) where
+module _ (w own : List ℕ) (t : ℕ) (c : Choosing w own t) where
   abbrev s : Sheet
   s = sheetIn w
 
@@ -109,7 +109,7 @@ module _ (w : List ℕ) (t : ℕ) (c : Choosing w t) where
 
   module _ {i l best : ℕ} (g : Joining s σ t i l best) where
     -- there is a link more
-    pub join-there : {n : ℕ} → n ≡ getD w (6176 + t) 0 → i < n → l < linkCount s
+    pub join-there : {n : ℕ} → n ≡ getD own t 0 → i < n → l < linkCount s
     join-there e h = walk-there (c .kept .caches .inward) (c .kept .caches .gathered) t (c .task) (g .walk) e h
 
     -- and the processor that it comes from holds a predecessor
@@ -127,6 +127,6 @@ module _ (w : List ℕ) (t : ℕ) (c : Choosing w t) where
               ∙ skip (l + 1) l′ (omega arith) (λ j x y z. c .kept .caches .inward .next-none l h j (omega arith) (rw e at y) (z ∙ sym (g .walk .own h)));
         }
 
-    pub join-done : {n : ℕ} → n ≡ getD w (6176 + t) 0 → n ≤ i → best ≡ greatest (σ .opened) (joinKey s σ t)
+    pub join-done : {n : ℕ} → n ≡ getD own t 0 → n ≤ i → best ≡ greatest (σ .opened) (joinKey s σ t)
     join-done e h =
         greatest-at (linkKey s σ t) l (linkCount s) (g .most) (walk-ended (c .kept .caches .inward) (c .kept .caches .gathered) t (c .task) (g .walk) e h) ∙ link-keys

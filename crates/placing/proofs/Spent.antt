@@ -134,7 +134,7 @@ one-le-all s σ t k i =
     less true h = h
     less false h = omega arith
 
-module _ (w : List ℕ) (t k : ℕ) (c : Choosing w t) (k-in : k < 16) {p : ℕ} (ep : p ≡ getD w (7744 + k) 0) where
+module _ (w own : List ℕ) (t k : ℕ) (c : Choosing w own t) (k-in : k < 16) {p : ℕ} (ep : p ≡ getD own (1568 + k) 0) where
   abbrev s : Sheet
   s = sheetIn w
 
@@ -163,16 +163,16 @@ unfolding dueBy
 due-own s σ t from l e ev ex = rw (eq-eqb (sourceOf s l) t e) (ex ∙ ap (λ (u : ℕ). knownInto s σ u from) ev)
 
 -- a successor of t is not placed either
-pub target-free : {w : List ℕ} {t : ℕ} → Choosing w t → (l : ℕ) → l < linkCount (sheetIn w) → sourceOf (sheetIn w) l ≡ t → {v : ℕ} → v ≡ targetOf (sheetIn w) l → placed (scheduleIn w) v ≡ false
-target-free {w} {t} c l h own ev = ap (placed (scheduleIn w)) ev ∙ go (placed (scheduleIn w) (targetOf (sheetIn w) l)) refl
+pub target-free : {w own : List ℕ} {t : ℕ} → Choosing w own t → (l : ℕ) → l < linkCount (sheetIn w) → sourceOf (sheetIn w) l ≡ t → {v : ℕ} → v ≡ targetOf (sheetIn w) l → placed (scheduleIn w) v ≡ false
+target-free {w} {own} {t} c l h from ev = ap (placed (scheduleIn w)) ev ∙ go (placed (scheduleIn w) (targetOf (sheetIn w) l)) refl
   where
     go : (b : Bool) → placed (scheduleIn w) (targetOf (sheetIn w) l) ≡ b → placed (scheduleIn w) (targetOf (sheetIn w) l) ≡ false
-    go true e = absurd (true≢false (sym (c .kept .caches .closed l h e) ∙ ap (placed (scheduleIn w)) own ∙ ready-free (sheetIn w) (scheduleIn w) t (c .isReady)))
+    go true e = absurd (true≢false (sym (c .kept .caches .closed l h e) ∙ ap (placed (scheduleIn w)) from ∙ ready-free (sheetIn w) (scheduleIn w) t (c .isReady)))
     go false e = e
 
 -- the known links into v stand in its words
 module _ {s : Sheet} {σ : Schedule} {w : List ℕ} (ranged : Ranged s) (d : Counted s σ (known s σ) w) (v : ℕ) (h : v < taskCount s) where
-  pub known-one : Single s → placed σ v ≡ false → {from : Senders} {k x : ℕ} → from ≡ One k → OnBoard from → x ≡ getD w (7792 + (4 * v + k / 4)) 0
+  pub known-one : Single s → placed σ v ≡ false → {from : Senders} {k x : ℕ} → from ≡ One k → OnBoard from → x ≡ getD w (1616 + (4 * v + k / 4)) 0
       → (x / 2 ^ (8 * (k % 4)) % 256 ≡ knownInto s σ v from) × (x / 2 ^ (8 * (k % 4)) % 256 < 4294967296)
   unfolding knownInto
   known-one single free {from} {k} {x} e on ex =
@@ -185,11 +185,11 @@ module _ {s : Sheet} {σ : Schedule} {w : List ℕ} (ranged : Ranged s) (d : Cou
         omega arith,
       )
 
-  pub known-all : {from : Senders} {x : ℕ} → from ≡ All → x ≡ getD w (6688 + v) 0 → (x ≡ knownInto s σ v from) × (x < 4294967296)
+  pub known-all : {from : Senders} {x : ℕ} → from ≡ All → x ≡ getD w (512 + v) 0 → (x ≡ knownInto s σ v from) × (x < 4294967296)
   unfolding knownInto
   known-all {from} e ex = (ex ∙ d .seen v h ∙ ap (knownInto s σ v) (sym e), omega (arith, ex, few-counted ranged d v 0 h (omega arith) .seen))
 
-  pub known-four : {from : Senders} {j x : ℕ} → from ≡ Four j → OnBoard from → x ≡ getD w (7792 + (4 * v + j)) 0 → x < 4294967296 → (x ≡ knownInto s σ v from) × (x < 4294967296)
+  pub known-four : {from : Senders} {j x : ℕ} → from ≡ Four j → OnBoard from → x ≡ getD w (1616 + (4 * v + j)) 0 → x < 4294967296 → (x ≡ knownInto s σ v from) × (x < 4294967296)
   unfolding knownInto
   known-four {from} {j} e on ex few = (ex ∙ d .packed v j h (subst OnBoard e on) ∙ ap (knownInto s σ v) (sym e), few)
 

@@ -25,9 +25,9 @@ use Rattle.arrivals.proofs.Placing.{store-put}
 use Rattle.placing.specs.Choosing.{Choosing}
 
 -- the ready task can go on k
-pub placeable : (w : List ℕ) (t k : ℕ) → Choosing w t → k < 16 → Placeable (sheetIn w) (scheduleIn w) t k
+pub placeable : (w own : List ℕ) (t k : ℕ) → Choosing w own t → k < 16 → Placeable (sheetIn w) (scheduleIn w) t k
 unfolding placed
-placeable w t k c k-in =
+placeable w own t k c k-in =
     record {
       ranged = c .kept .ranged;
       on-long = on-long w;
@@ -52,7 +52,7 @@ lower-by true false true f d = omega arith
 lower-by true false false f d = omega arith
 lower-by false p x f d = omega arith
 
-module _ {s : Sheet} {σ : Schedule} {w : List ℕ} (ranged : Ranged s) (c : Caches s σ w) (t k : ℕ) (t-in : t < taskCount s) where
+module _ {s : Sheet} {σ : Schedule} {w own : List ℕ} (ranged : Ranged s) (c : Caches s σ w own) (t k : ℕ) (t-in : t < taskCount s) where
   -- the latest reach from all processors but k
   abbrev offK : ℕ
   offK = greatest (linkCount s) (countedBy (intoOff s σ t k) (reachBy s σ) (known s σ))
@@ -65,15 +65,15 @@ module _ {s : Sheet} {σ : Schedule} {w : List ℕ} (ranged : Ranged s) (c : Cac
       go (yes e) = rw (eq-eqb (placeOf σ (sourceOf s l)) p e, ne-eqb (placeOf σ (sourceOf s l)) k (λ z. d (sym z ∙ e)))
       go (no e) = rw (ne-eqb (placeOf σ (sourceOf s l)) p e)
 
-  off-is : Dec (k ≡ getD w (7456 + t) 0) → offK ≡ pick (eqb k (getD w (7456 + t) 0)) (getD w (7200 + t) 0) (getD w (6944 + t) 0)
-  off-is (yes e) = rw (eq-eqb k (getD w (7456 + t) 0) e) (ap (λ (p : ℕ). greatest (linkCount s) (countedBy (intoOff s σ t p) (reachBy s σ) (known s σ))) e ∙ sym (c .counted .off t t-in))
+  off-is : Dec (k ≡ getD own (1280 + t) 0) → offK ≡ pick (eqb k (getD own (1280 + t) 0)) (getD own (1024 + t) 0) (getD own (768 + t) 0)
+  off-is (yes e) = rw (eq-eqb k (getD own (1280 + t) 0) e) (ap (λ (p : ℕ). greatest (linkCount s) (countedBy (intoOff s σ t p) (reachBy s σ) (known s σ))) e ∙ sym (c .counted .off t t-in))
   off-is (no e) =
-      let p = getD w (7456 + t) 0 in
+      let p = getD own (1280 + t) 0 in
       let a = c .counted .arrived t t-in in
       let b = c .counted .main t t-in in
       let x = off-le (linkCount s) (into s t) (reachBy s σ) (known s σ) (λ l. stands σ (sourceOf s l) k) in
       let y = from-le-off (linkCount s) (into s t) (reachBy s σ) (known s σ) (λ l. stands σ (sourceOf s l) p) (λ l. stands σ (sourceOf s l) k) (apart p e) in
-      rw (ne-eqb k (getD w (7456 + t) 0) e) (omega arith)
+      rw (ne-eqb k (getD own (1280 + t) 0) e) (omega arith)
 
   -- a predecessor on k is done by k's end
   done : (l : ℕ) → l < linkCount s → stands σ (sourceOf s l) k ≡ true → finishOf σ (sourceOf s l) ≤ endOf s σ k
@@ -93,27 +93,27 @@ module _ {s : Sheet} {σ : Schedule} {w : List ℕ} (ranged : Ranged s) (c : Cac
   unfolding startBy comes countedBy
   lower l h = lower-by (eqb (targetOf s l) t) (placed σ (sourceOf s l)) (stands σ (sourceOf s l) k) (finishOf σ (sourceOf s l)) (costOf s l)
 
-  pub start-kept : (e : ℕ) → endOf s σ k ≤ e → max e (pick (eqb k (getD w (7456 + t) 0)) (getD w (7200 + t) 0) (getD w (6944 + t) 0)) ≡ startFrom s σ t k e
+  pub start-kept : (e : ℕ) → endOf s σ k ≤ e → max e (pick (eqb k (getD own (1280 + t) 0)) (getD own (1024 + t) 0) (getD own (768 + t) 0)) ≡ startFrom s σ t k e
   unfolding startFrom
   start-kept e h =
       let x : greatest (linkCount s) (startBy s σ t k) ≤ max (endOf s σ k) offK = greatest-le (linkCount s) (startBy s σ t k) (max (endOf s σ k) offK) upper in
       let y : offK ≤ greatest (linkCount s) (startBy s σ t k) = greatest-mono (linkCount s) (countedBy (intoOff s σ t k) (reachBy s σ) (known s σ)) (startBy s σ t k) lower in
-      rw (← off-is (ℕ-discrete k (getD w (7456 + t) 0))) (omega arith)
+      rw (← off-is (ℕ-discrete k (getD own (1280 + t) 0))) (omega arith)
 
 -- a start fits a word
-pub start-small : (w : List ℕ) (t k : ℕ) → Choosing w t → k < 16 → ((i : ℕ) → getD w i 0 < 4294967296) → startOn (sheetIn w) (scheduleIn w) t k < 4294967296
+pub start-small : (w own : List ℕ) (t k : ℕ) → Choosing w own t → k < 16 → ((i : ℕ) → getD own i 0 < 4294967296) → startOn (sheetIn w) (scheduleIn w) t k < 4294967296
 unfolding startOn
-start-small w t k c k-in small =
+start-small w own t k c k-in small =
     let s = sheetIn w in
     let σ = scheduleIn w in
     let e = endOf s σ k in
-    let m = getD w (7456 + t) 0 in
+    let m = getD own (1280 + t) 0 in
     omega (
       arith,
       start-kept (c .kept .ranged) (c .kept .caches) t k (c .task) e (omega arith),
       c .kept .caches .ends .ends k k-in,
-      small (7712 + k),
-      pick-less (eqb k m) (small (7200 + t)) (small (6944 + t)),
+      small (1536 + k),
+      pick-less (eqb k m) (small (1024 + t)) (small (768 + t)),
     )
   where
     pick-less : (b : Bool) {x y n : ℕ} → x < n → y < n → pick b x y < n
@@ -121,13 +121,13 @@ start-small w t k c k-in small =
     pick-less false h g = g
 
 -- t fits k: what is kept of k's store and of t's links, against the limit and what is on k already
-pub fits-kept : (w : List ℕ) (t k : ℕ) → Choosing w t → k < 16 → {x y z v m : ℕ} → x ≡ getD w (7728 + k) 0 → y ≡ storeOf (sheetIn w) t → z ≡ getD w (6432 + t) 0 → m ≡ sheetIn w .limit
-    → v ≡ getD w (7760 + k) 0 → leb (x + y + z) (m + v) ≡ fits (sheetIn w) (scheduleIn w) t k
+pub fits-kept : (w own : List ℕ) (t k : ℕ) → Choosing w own t → k < 16 → {x y z v m : ℕ} → x ≡ getD own (1552 + k) 0 → y ≡ storeOf (sheetIn w) t → z ≡ getD own (256 + t) 0 → m ≡ sheetIn w .limit
+    → v ≡ getD own (1584 + k) 0 → leb (x + y + z) (m + v) ≡ fits (sheetIn w) (scheduleIn w) t k
 unfolding fits
-fits-kept w t k choosing k-in {x} {y} {z} {v} {m} ex ey ez em ev =
+fits-kept w own t k choosing k-in {x} {y} {z} {v} {m} ex ey ez em ev =
     let s = sheetIn w in
     let σ = scheduleIn w in
-    let e = store-put s σ t k 0 0 (placeable w t k choosing k-in) in
+    let e = store-put s σ t k 0 0 (placeable w own t k choosing k-in) in
     let a = choosing .kept .caches .ends .stores k k-in in
     let b = choosing .kept .caches .gathered .bytes t (choosing .task) in
     let d = choosing .surveyed .bytes k k-in in

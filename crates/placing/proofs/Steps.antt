@@ -97,22 +97,22 @@ module _ (s : Sheet) (σ : Schedule) (t : ℕ) where
   choice-last a b d e = rw (← a, ← b, ← d) e
 
 -- where no processor may be idle, step 2 gives none
-module _ (w : List ℕ) (t : ℕ) (c : Choosing w t) {a d : ℕ} (ea : a ≡ arrival (sheetIn w) (scheduleIn w) t) (ed : d ≡ sum (linkCount (sheetIn w)) (dueBy (sheetIn w) (scheduleIn w) t All)) where
-  no-key : (k : ℕ) → k < 16 → mayBeIdle w a d k ≡ false → idleKey (sheetIn w) (scheduleIn w) t k ≡ 0
+module _ (w own : List ℕ) (t : ℕ) (c : Choosing w own t) {a d : ℕ} (ea : a ≡ arrival (sheetIn w) (scheduleIn w) t) (ed : d ≡ sum (linkCount (sheetIn w)) (dueBy (sheetIn w) (scheduleIn w) t All)) where
+  no-key : (k : ℕ) → k < 16 → mayBeIdle own a d k ≡ false → idleKey (sheetIn w) (scheduleIn w) t k ≡ 0
   unfolding mayBeIdle
-  no-key k h e = go (decLt d (getD w (7744 + k) 0)) (decLt a (getD w (7712 + k) 0))
+  no-key k h e = go (decLt d (getD own (1568 + k) 0)) (decLt a (getD own (1536 + k) 0))
     where
-      go : Dec (d < getD w (7744 + k) 0) → Dec (a < getD w (7712 + k) 0) → idleKey (sheetIn w) (scheduleIn w) t k ≡ 0
-      go (yes l) b = sym (idle-waits (sheetIn w) (scheduleIn w) t k (sym (spent-more w t k c h refl ed l)))
+      go : Dec (d < getD own (1568 + k) 0) → Dec (a < getD own (1536 + k) 0) → idleKey (sheetIn w) (scheduleIn w) t k ≡ 0
+      go (yes l) b = sym (idle-waits (sheetIn w) (scheduleIn w) t k (sym (spent-more w own t k c h refl ed l)))
       go (no l) (yes b) = sym (idle-late (sheetIn w) (scheduleIn w) t k (c .kept .caches .ends .ends k h) ea b)
-      go (no l) (no b) = absurd (true≢false (sym (parts-both (leb (getD w (7712 + k) 0) a) (leb (getD w (7744 + k) 0) d) (le-leb (getD w (7712 + k) 0) a (omega arith)) (le-leb (getD w (7744 + k) 0) d (omega arith))) ∙ e))
+      go (no l) (no b) = absurd (true≢false (sym (parts-both (leb (getD own (1536 + k) 0) a) (leb (getD own (1568 + k) 0) d) (le-leb (getD own (1536 + k) 0) a (omega arith)) (le-leb (getD own (1568 + k) 0) d (omega arith))) ∙ e))
 
-  pub none-idle : {n : ℕ} → n ≡ scheduleIn w .opened → any n (mayBeIdle w a d) ≡ false → none ≡ idle (sheetIn w) (barred (sheetIn w)) (scheduleIn w) t
+  pub none-idle : {n : ℕ} → n ≡ scheduleIn w .opened → any n (mayBeIdle own a d) ≡ false → none ≡ idle (sheetIn w) (barred (sheetIn w)) (scheduleIn w) t
   none-idle {n} en e =
       let few = c .kept .few-opened in
       idle-is (sheetIn w) (scheduleIn w) t few {g = 0}
       (omega (
         arith,
         greatest-le (scheduleIn w .opened) (idleKey (sheetIn w) (scheduleIn w) t) 0
-            (λ k h. omega (arith, no-key k (omega arith) (any-each n (mayBeIdle w a d) e k (omega arith)))),
+            (λ k h. omega (arith, no-key k (omega arith) (any-each n (mayBeIdle own a d) e k (omega arith)))),
       ))

@@ -16,12 +16,12 @@ use Rattle.placing.specs.declared.Senders.{Senders}
 use Rattle.placing.specs.declared.Senders.the-variants.{One, All, Four}
 use Rattle.arrivals.specs.Kept.{countedBy, into, intoFrom, oneBy, known, fourOf, Surveyed, Kept}
 
-pub record Choosing (w : List ℕ) (t : ℕ) : Type 0 where
-  pub kept : Kept w
+pub record Choosing (w own : List ℕ) (t : ℕ) : Type 0 where
+  pub kept : Kept w own
   pub levelled : Levelled (sheetIn w) w
   pub task : t < taskCount (sheetIn w)
   pub isReady : ready (sheetIn w) (scheduleIn w) t ≡ true
-  pub surveyed : Surveyed (sheetIn w) (scheduleIn w) t w
+  pub surveyed : Surveyed (sheetIn w) (scheduleIn w) t own
 
 -- the known links into v from one processor, from all, or from four of them, a byte for each
 unfoldable pub knownInto : Sheet → Schedule → ℕ → Senders → ℕ

@@ -35,6 +35,6 @@ module _ (s : Sheet) (σ : Schedule) (t : ℕ) where
   unfoldable pub lastKey : ℕ → ℕ
   lastKey k = pick (fits s σ t k) (lowKey (startOn s σ t k) k) 0
 
--- by its words in the area, k ends by a, and no more than d links from it wait
+-- by what is kept of it, k ends by a, and no more than d links from it wait
 unfoldable pub mayBeIdle : List ℕ → ℕ → ℕ → ℕ → Bool
-mayBeIdle w a d k = both (leb (getD w (7712 + k) 0) a) (leb (getD w (7744 + k) 0) d)
+mayBeIdle w a d k = both (leb (getD w (1536 + k) 0) a) (leb (getD w (1568 + k) 0) d)

@@ -6,14 +6,13 @@ ghost use Prim.Native.Nat.{_+_, _*_, _<_, _≤_, max};
 ghost use lib.ListN.{getD, length};
 ghost use lib.Dec.{eqb};
 ghost use Rattle.folds.specs.Folds.{pick, both, either, any, sum};
-ghost use Rattle.workspace.specs.Area.{fixed};
 ghost use Rattle.sheet.specs.Sheet.{taskCount, linkCount};
 ghost use Rattle.sheet.specs.Tables.{sheetIn};
 ghost use Rattle.planner.specs.Schedule.{placed};
 ghost use Rattle.planner.specs.Placing.{arrival, endOf, startFrom, startOn, fits, holdsPredecessor, barred, spent};
 ghost use Rattle.planner.specs.Planner.{join, idle, another, lastResort, choice};
 ghost use Rattle.schedule.specs.Layout.{scheduleIn};
-ghost use Rattle.arrivals.specs.Kept.{Kept};
+ghost use Rattle.arrivals.specs.Kept.{keptLength, Kept};
 ghost use Rattle.words.specs.Found.{foundOf, Below};
 ghost use Rattle.readiness.specs.Keyed.{Keyed};
 ghost use Rattle.placing.specs.Choosing.{Choosing, knownInto, dueBy, fourIn, Small, MoreDue, DuesTo, Dues, OnBoard};
@@ -24,55 +23,55 @@ use sheet::tables;
 use words::Found;
 
 // When k is done with its tasks.
-fn end_of(w: &[u32], k: usize) -> usize
-    requires { ⌜ Kept (now w) ⌝ }
+fn end_of(w: &[u32], kept: &[u32], k: usize) -> usize
+    requires { ⌜ Kept (now w) (now kept) ⌝ }
     requires { ⌜ k < 16 ⌝ }
     ensures { λ r. ⌜ (r ≡ endOf (sheetIn (now (w .entry))) (scheduleIn (now (w .entry))) k) × (r < 4294967296) ⌝ }
 {
-    workspace::word(w, 7712 + k)
+    workspace::word(kept, 1536 + k)
 }
 
 // The latest reach of t from all processors but k.
-fn reach_of(w: &[u32], t: usize, k: usize) -> usize
-    requires { ⌜ Kept (now w) ⌝ }
+fn reach_of(w: &[u32], kept: &[u32], t: usize, k: usize) -> usize
+    requires { ⌜ Kept (now w) (now kept) ⌝ }
     requires { ⌜ t < taskCount (sheetIn (now w)) ⌝ }
-    ensures { λ r. ⌜ (r ≡ pick (eqb k (getD (now (w .entry)) (7456 + t) 0)) (getD (now (w .entry)) (7200 + t) 0) (getD (now (w .entry)) (6944 + t) 0)) × (r < 4294967296) ⌝ }
+    ensures { λ r. ⌜ (r ≡ pick (eqb k (getD (now (kept .entry)) (1280 + t) 0)) (getD (now (kept .entry)) (1024 + t) 0) (getD (now (kept .entry)) (768 + t) 0)) × (r < 4294967296) ⌝ }
 {
-    let at = workspace::word(w, 7456 + t);
-    let other = workspace::word(w, 7200 + t);
-    let most = workspace::word(w, 6944 + t);
+    let at = workspace::word(kept, 1280 + t);
+    let other = workspace::word(kept, 1024 + t);
+    let most = workspace::word(kept, 768 + t);
     if k == at { other } else { most }
 }
 
 // The start of t on k, if k ends at e.
-fn start_from(w: &[u32], t: usize, k: usize, e: usize) -> usize
-    requires { ⌜ Kept (now w) ⌝ }
+fn start_from(w: &[u32], kept: &[u32], t: usize, k: usize, e: usize) -> usize
+    requires { ⌜ Kept (now w) (now kept) ⌝ }
     requires { ⌜ (t < taskCount (sheetIn (now w))) × (k < 16) ⌝ }
     requires { ⌜ endOf (sheetIn (now w)) (scheduleIn (now w)) k ≤ e ⌝ }
     ensures { λ r. ⌜ (r ≡ startFrom (sheetIn (now (w .entry))) (scheduleIn (now (w .entry))) t k e) × (r ≤ max e 4294967295) ⌝ }
 {
-    words::later(e, reach_of(w, t, k))
+    words::later(e, reach_of(w, kept, t, k))
 }
 
 // The start of t on k.
-pub fn start_on(w: &[u32], t: usize, k: usize) -> usize
-    requires { ⌜ Kept (now w) ⌝ }
+pub fn start_on(w: &[u32], kept: &[u32], t: usize, k: usize) -> usize
+    requires { ⌜ Kept (now w) (now kept) ⌝ }
     requires { ⌜ (t < taskCount (sheetIn (now w))) × (k < 16) ⌝ }
     ensures { λ r. ⌜ (r ≡ startOn (sheetIn (now (w .entry))) (scheduleIn (now (w .entry))) t k) × (r < 4294967296) ⌝ }
 {
-    start_from(w, t, k, end_of(w, k))
+    start_from(w, kept, t, k, end_of(w, kept, k))
 }
 
 // t fits k.
-fn fits_on(w: &[u32], t: usize, k: usize) -> bool
-    requires { ⌜ Choosing (now w) t ⌝ }
+fn fits_on(w: &[u32], kept: &[u32], t: usize, k: usize) -> bool
+    requires { ⌜ Choosing (now w) (now kept) t ⌝ }
     requires { ⌜ k < 16 ⌝ }
     ensures { λ r. ⌜ r ≡ fits (sheetIn (now (w .entry))) (scheduleIn (now (w .entry))) t k ⌝ }
 {
-    let x = workspace::word(w, 7728 + k);
+    let x = workspace::word(kept, 1552 + k);
     let y = tables::store(w, t);
-    let z = workspace::word(w, 6432 + t);
-    let v = workspace::word(w, 7760 + k);
+    let z = workspace::word(kept, 256 + t);
+    let v = workspace::word(kept, 1584 + k);
     x + y + z <= tables::limit(w) + v
 }
 
@@ -84,21 +83,21 @@ pub enum Senders {
 }
 
 // The known links into v, which is not placed.
-fn known_into(w: &[u32], v: usize, from: Senders) -> usize
-    requires { ⌜ Kept (now w) ⌝ }
+fn known_into(w: &[u32], kept: &[u32], v: usize, from: Senders) -> usize
+    requires { ⌜ Kept (now w) (now kept) ⌝ }
     requires { ⌜ (v < taskCount (sheetIn (now w))) × (placed (scheduleIn (now w)) v ≡ false) × OnBoard from ⌝ }
     ensures { λ r. ⌜ (r ≡ knownInto (sheetIn (now (w .entry))) (scheduleIn (now (w .entry))) v from) × (r < 4294967296) ⌝ }
 {
     match from {
-        Senders::One(k) => (workspace::word(w, 7792 + (4 * v + k / 4)) >> (8 * (k % 4))) % 256,
-        Senders::All => workspace::word(w, 6688 + v),
-        Senders::Four(j) => workspace::word(w, 7792 + (4 * v + j)),
+        Senders::One(k) => (workspace::word(kept, 1616 + (4 * v + k / 4)) >> (8 * (k % 4))) % 256,
+        Senders::All => workspace::word(kept, 512 + v),
+        Senders::Four(j) => workspace::word(kept, 1616 + (4 * v + j)),
     }
 }
 
 // The known links into the successors of t.
-fn due_from(w: &[u32], t: usize, from: Senders) -> usize
-    requires { ⌜ Choosing (now w) t ⌝ }
+fn due_from(w: &[u32], kept: &[u32], t: usize, from: Senders) -> usize
+    requires { ⌜ Choosing (now w) (now kept) t ⌝ }
     requires { ⌜ OnBoard from ⌝ }
     ensures { λ r. ⌜ r ≡ sum (linkCount (sheetIn (now (w .entry)))) (dueBy (sheetIn (now (w .entry))) (scheduleIn (now (w .entry))) t from) ⌝ }
 {
@@ -106,7 +105,7 @@ fn due_from(w: &[u32], t: usize, from: Senders) -> usize
     let mut l = chains::first(w, End::Source, t);
     let mut due: usize = 0;
     while l < m {
-        due += known_into(w, tables::target(w, l), from);
+        due += known_into(w, kept, tables::target(w, l), from);
         l = chains::next(w, End::Source, l);
     }
     due
@@ -137,15 +136,15 @@ fn four_of(x: Counts, j: usize) -> usize
 }
 
 // The known links into v besides.
-fn more_due(w: &[u32], x: Counts, v: usize) -> Counts
-    requires { ⌜ Kept (now w) ⌝ }
+fn more_due(w: &[u32], kept: &[u32], x: Counts, v: usize) -> Counts
+    requires { ⌜ Kept (now w) (now kept) ⌝ }
     requires { ⌜ (v < taskCount (sheetIn (now w))) × (placed (scheduleIn (now w)) v ≡ false) × Small x ⌝ }
     ensures { λ r. ⌜ MoreDue (sheetIn (now (w .entry))) (scheduleIn (now (w .entry))) v x r ⌝ }
 {
-    let a = known_into(w, v, Senders::Four(0));
-    let b = known_into(w, v, Senders::Four(1));
-    let c = known_into(w, v, Senders::Four(2));
-    let d = known_into(w, v, Senders::Four(3));
+    let a = known_into(w, kept, v, Senders::Four(0));
+    let b = known_into(w, kept, v, Senders::Four(1));
+    let c = known_into(w, kept, v, Senders::Four(2));
+    let d = known_into(w, kept, v, Senders::Four(3));
     Counts {
         a: x.a + a,
         b: x.b + b,
@@ -155,8 +154,8 @@ fn more_due(w: &[u32], x: Counts, v: usize) -> Counts
 }
 
 // The known links into the successors of t by the processor that they come from, in one walk.
-fn dues_of(w: &[u32], t: usize) -> Counts
-    requires { ⌜ Choosing (now w) t ⌝ }
+fn dues_of(w: &[u32], kept: &[u32], t: usize) -> Counts
+    requires { ⌜ Choosing (now w) (now kept) t ⌝ }
     ensures { λ r. ⌜ DuesTo (sheetIn (now (w .entry))) (scheduleIn (now (w .entry))) t (linkCount (sheetIn (now (w .entry)))) r ⌝ }
 {
     let m = tables::links(w);
@@ -168,7 +167,7 @@ fn dues_of(w: &[u32], t: usize) -> Counts
         d: 0,
     };
     while l < m {
-        x = more_due(w, x, tables::target(w, l));
+        x = more_due(w, kept, x, tables::target(w, l));
         l = chains::next(w, End::Source, l);
     }
     x
@@ -182,24 +181,24 @@ fn are_both(a: bool, b: bool) -> bool
 }
 
 // The known links from k into the successors of t, of which d are known from all: a byte holds them, if it holds d.
-fn due_of(w: &[u32], t: usize, d: usize, dues: Counts, k: usize) -> usize
-    requires { ⌜ Choosing (now w) t ⌝ }
+fn due_of(w: &[u32], kept: &[u32], t: usize, d: usize, dues: Counts, k: usize) -> usize
+    requires { ⌜ Choosing (now w) (now kept) t ⌝ }
     requires { ⌜ Dues (sheetIn (now w)) (scheduleIn (now w)) t d dues × (k < 16) ⌝ }
     ensures { λ r. ⌜ r ≡ sum (linkCount (sheetIn (now (w .entry)))) (dueBy (sheetIn (now (w .entry))) (scheduleIn (now (w .entry))) t (Senders.One k)) ⌝ }
 {
     if d < 256 {
         return (four_of(dues, k / 4) >> (8 * (k % 4))) % 256;
     }
-    due_from(w, t, Senders::One(k))
+    due_from(w, kept, t, Senders::One(k))
 }
 
 // Each successor of each task on k is placed or is a successor of t: no other link from k waits than the p that are due.
-fn is_spent(w: &[u32], t: usize, d: usize, dues: Counts, k: usize, p: usize) -> bool
-    requires { ⌜ Choosing (now w) t ⌝ }
-    requires { ⌜ Dues (sheetIn (now w)) (scheduleIn (now w)) t d dues × (k < 16) × (p ≡ getD (now w) (7744 + k) 0) ⌝ }
+fn is_spent(w: &[u32], kept: &[u32], t: usize, d: usize, dues: Counts, k: usize, p: usize) -> bool
+    requires { ⌜ Choosing (now w) (now kept) t ⌝ }
+    requires { ⌜ Dues (sheetIn (now w)) (scheduleIn (now w)) t d dues × (k < 16) × (p ≡ getD (now kept) (1568 + k) 0) ⌝ }
     ensures { λ r. ⌜ r ≡ spent (sheetIn (now (w .entry))) (scheduleIn (now (w .entry))) t k ⌝ }
 {
-    due_of(w, t, d, dues, k) == p
+    due_of(w, kept, t, d, dues, k) == p
 }
 
 // The key of k by the least value, then by the lowest number; 0 where the test fails.
@@ -231,18 +230,18 @@ fn processor_of(key: usize) -> Found
 
 // The processor that the guard bars for u's sake, or 16. Before its arrival u can start only where its latest message comes
 // from, so that only there its best start can rise.
-fn bars_for(w: &[u32], t: usize, u: usize) -> usize
-    requires { ⌜ Choosing (now w) t ⌝ }
+fn bars_for(w: &[u32], kept: &[u32], t: usize, u: usize) -> usize
+    requires { ⌜ Choosing (now w) (now kept) t ⌝ }
     requires { ⌜ u < taskCount (sheetIn (now w)) ⌝ }
     ensures { λ r. ⌜ BarsFor (sheetIn (now (w .entry))) (scheduleIn (now (w .entry))) t u r ⌝ }
 {
-    let a = readiness::arrival_of(w, u);
+    let a = readiness::arrival_of(w, kept, u);
     if a == 0 {
         return 16;
     }
-    let k = workspace::word(w, 7456 + u);
-    let best = start_on(w, u, k);
-    let finish = start_on(w, t, k) + tables::work(w, t);
+    let k = workspace::word(kept, 1280 + u);
+    let best = start_on(w, kept, u, k);
+    let finish = start_on(w, kept, t, k) + tables::work(w, t);
     if best < a {
         if best < finish {
             return k;
@@ -252,16 +251,16 @@ fn bars_for(w: &[u32], t: usize, u: usize) -> usize
 }
 
 // The processor that the guard bars in this turn, or 16; q holds the keys.
-fn guard_of(w: &[u32], q: &[u64], t: usize) -> usize
-    requires { ⌜ Choosing (now w) t ⌝ }
+fn guard_of(w: &[u32], kept: &[u32], q: &[u64], t: usize) -> usize
+    requires { ⌜ Choosing (now w) (now kept) t ⌝ }
     requires { ⌜ Keyed (sheetIn (now w)) (scheduleIn (now w)) (now q) ⌝ }
     ensures { λ r. ⌜ Bars (sheetIn (now (w .entry))) (scheduleIn (now (w .entry))) t r ⌝ }
 {
-    match readiness::first_partly(w, q) {
+    match readiness::first_partly(w, kept, q) {
         Found::Nothing => 16,
         Found::At(u) => {
-            if readiness::priority_of(w, t) < readiness::priority_of(w, u) {
-                return bars_for(w, t, u);
+            if readiness::priority_of(w, kept, t) < readiness::priority_of(w, kept, u) {
+                return bars_for(w, kept, t, u);
             }
             16
         }
@@ -269,31 +268,31 @@ fn guard_of(w: &[u32], q: &[u64], t: usize) -> usize
 }
 
 // The key of k, which holds a predecessor of t, in step 1; a is t's arrival, and the guard bars one processor.
-fn join_key(w: &[u32], t: usize, bars: usize, a: usize, k: usize) -> usize
-    requires { ⌜ Choosing (now w) t ⌝ }
+fn join_key(w: &[u32], kept: &[u32], t: usize, bars: usize, a: usize, k: usize) -> usize
+    requires { ⌜ Choosing (now w) (now kept) t ⌝ }
     requires { ⌜ (a ≡ arrival (sheetIn (now w)) (scheduleIn (now w)) t) × (k < 16) × (holdsPredecessor (sheetIn (now w)) (scheduleIn (now w)) t k ≡ true) ⌝ }
     requires { ⌜ Bars (sheetIn (now w)) (scheduleIn (now w)) t bars ⌝ }
     ensures { λ r. ⌜ r ≡ joinKey (sheetIn (now (w .entry))) (scheduleIn (now (w .entry))) t k ⌝ }
 {
-    let x = start_on(w, t, k);
+    let x = start_on(w, kept, t, k);
     let early = are_both(k != bars, x < a);
-    low_key(are_both(fits_on(w, t, k), early), x, k)
+    low_key(are_both(fits_on(w, kept, t, k), early), x, k)
 }
 
 // Step 1: join. Only where t's links come from, which are mostly fewer than the processors.
-fn join_on(w: &[u32], t: usize, bars: usize, a: usize) -> Found
-    requires { ⌜ Choosing (now w) t ⌝ }
+fn join_on(w: &[u32], kept: &[u32], t: usize, bars: usize, a: usize) -> Found
+    requires { ⌜ Choosing (now w) (now kept) t ⌝ }
     requires { ⌜ a ≡ arrival (sheetIn (now w)) (scheduleIn (now w)) t ⌝ }
     requires { ⌜ Bars (sheetIn (now w)) (scheduleIn (now w)) t bars ⌝ }
     ensures { λ r. ⌜ (foundOf r ≡ join (sheetIn (now (w .entry))) (barred (sheetIn (now (w .entry)))) (scheduleIn (now (w .entry))) t) × Below 16 r ⌝ }
 {
-    let n = workspace::word(w, 6176 + t);
+    let n = workspace::word(kept, t);
     let mut l = chains::first(w, End::Target, t);
     let mut best: usize = 0;
     let mut i: usize = 0;
     while i < n {
         let k = schedule::place(w, tables::source(w, l));
-        best = words::later(best, join_key(w, t, bars, a, k));
+        best = words::later(best, join_key(w, kept, t, bars, a, k));
         l = chains::next(w, End::Target, l);
         i += 1;
     }
@@ -302,20 +301,20 @@ fn join_on(w: &[u32], t: usize, bars: usize, a: usize) -> Found
 
 // The key of k in step 2; a is t's arrival. Where more links from k wait than are due from all processors (d), which is
 // mostly so, nothing else is looked at.
-fn idle_key(w: &[u32], t: usize, a: usize, d: usize, dues: Counts, k: usize) -> usize
-    requires { ⌜ Choosing (now w) t ⌝ }
+fn idle_key(w: &[u32], kept: &[u32], t: usize, a: usize, d: usize, dues: Counts, k: usize) -> usize
+    requires { ⌜ Choosing (now w) (now kept) t ⌝ }
     requires { ⌜ (a ≡ arrival (sheetIn (now w)) (scheduleIn (now w)) t) × (k < 16) ⌝ }
     requires { ⌜ Dues (sheetIn (now w)) (scheduleIn (now w)) t d dues ⌝ }
     ensures { λ r. ⌜ r ≡ idleKey (sheetIn (now (w .entry))) (scheduleIn (now (w .entry))) t k ⌝ }
 {
-    let p = workspace::word(w, 7744 + k);
+    let p = workspace::word(kept, 1568 + k);
     if d < p {
         return 0;
     }
-    let e = end_of(w, k);
+    let e = end_of(w, kept, k);
     if e <= a {
-        if is_spent(w, t, d, dues, k, p) {
-            if fits_on(w, t, k) {
+        if is_spent(w, kept, t, d, dues, k, p) {
+            if fits_on(w, kept, t, k) {
                 return high_key(e, k);
             }
         }
@@ -331,15 +330,15 @@ fn is_either(a: bool, b: bool) -> bool
 }
 
 // Some processor below n ends by a, and no more than d links from it wait: mostly none does, and then step 2 gives none.
-fn may_be_idle(w: &[u32], n: usize, a: usize, d: usize) -> bool
-    requires { ⌜ (fixed ≤ length (now w)) × (n ≤ 16) ⌝ }
-    ensures { λ r. ⌜ r ≡ any n (mayBeIdle (now (w .entry)) a d) ⌝ }
+fn may_be_idle(kept: &[u32], n: usize, a: usize, d: usize) -> bool
+    requires { ⌜ (keptLength ≤ length (now kept)) × (n ≤ 16) ⌝ }
+    ensures { λ r. ⌜ r ≡ any n (mayBeIdle (now (kept .entry)) a d) ⌝ }
 {
     let mut found = false;
     let mut k: usize = 0;
     while k < n {
-        let e = workspace::word(w, 7712 + k);
-        let p = workspace::word(w, 7744 + k);
+        let e = workspace::word(kept, 1536 + k);
+        let p = workspace::word(kept, 1568 + k);
         found = is_either(found, are_both(e <= a, p <= d));
         k += 1;
     }
@@ -347,8 +346,8 @@ fn may_be_idle(w: &[u32], n: usize, a: usize, d: usize) -> bool
 }
 
 // Step 2 over all open processors; d is what is due from all of them.
-fn idle_among(w: &[u32], t: usize, a: usize, d: usize, dues: Counts) -> Found
-    requires { ⌜ Choosing (now w) t ⌝ }
+fn idle_among(w: &[u32], kept: &[u32], t: usize, a: usize, d: usize, dues: Counts) -> Found
+    requires { ⌜ Choosing (now w) (now kept) t ⌝ }
     requires { ⌜ a ≡ arrival (sheetIn (now w)) (scheduleIn (now w)) t ⌝ }
     requires { ⌜ Dues (sheetIn (now w)) (scheduleIn (now w)) t d dues ⌝ }
     ensures { λ r. ⌜ (foundOf r ≡ idle (sheetIn (now (w .entry))) (barred (sheetIn (now (w .entry)))) (scheduleIn (now (w .entry))) t) × Below 16 r ⌝ }
@@ -357,33 +356,33 @@ fn idle_among(w: &[u32], t: usize, a: usize, d: usize, dues: Counts) -> Found
     let mut best: usize = 0;
     let mut k: usize = 0;
     while k < n {
-        best = words::later(best, idle_key(w, t, a, d, dues, k));
+        best = words::later(best, idle_key(w, kept, t, a, d, dues, k));
         k += 1;
     }
     processor_of(best)
 }
 
 // Step 2: idle.
-fn idle_on(w: &[u32], t: usize, a: usize) -> Found
-    requires { ⌜ Choosing (now w) t ⌝ }
+fn idle_on(w: &[u32], kept: &[u32], t: usize, a: usize) -> Found
+    requires { ⌜ Choosing (now w) (now kept) t ⌝ }
     requires { ⌜ a ≡ arrival (sheetIn (now w)) (scheduleIn (now w)) t ⌝ }
     ensures { λ r. ⌜ (foundOf r ≡ idle (sheetIn (now (w .entry))) (barred (sheetIn (now (w .entry)))) (scheduleIn (now (w .entry))) t) × Below 16 r ⌝ }
 {
-    let d = due_from(w, t, Senders::All);
-    if may_be_idle(w, schedule::opened(w), a, d) {
-        return idle_among(w, t, a, d, dues_of(w, t));
+    let d = due_from(w, kept, t, Senders::All);
+    if may_be_idle(kept, schedule::opened(w), a, d) {
+        return idle_among(w, kept, t, a, d, dues_of(w, kept, t));
     }
     Found::Nothing
 }
 
 // Step 3: the next processor.
-fn another_one(w: &[u32], t: usize) -> Found
-    requires { ⌜ Choosing (now w) t ⌝ }
+fn another_one(w: &[u32], kept: &[u32], t: usize) -> Found
+    requires { ⌜ Choosing (now w) (now kept) t ⌝ }
     ensures { λ r. ⌜ (foundOf r ≡ another (sheetIn (now (w .entry))) (barred (sheetIn (now (w .entry)))) (scheduleIn (now (w .entry))) t) × Below 16 r ⌝ }
 {
     let n = schedule::opened(w);
     if n < tables::processors(w) {
-        if fits_on(w, t, n) {
+        if fits_on(w, kept, t, n) {
             return Found::At(n);
         }
     }
@@ -391,45 +390,48 @@ fn another_one(w: &[u32], t: usize) -> Found
 }
 
 // Step 4: last resort.
-fn last_on(w: &[u32], t: usize) -> Found
-    requires { ⌜ Choosing (now w) t ⌝ }
+fn last_on(w: &[u32], kept: &[u32], t: usize) -> Found
+    requires { ⌜ Choosing (now w) (now kept) t ⌝ }
     ensures { λ r. ⌜ (foundOf r ≡ lastResort (sheetIn (now (w .entry))) (barred (sheetIn (now (w .entry)))) (scheduleIn (now (w .entry))) t) × Below 16 r ⌝ }
 {
     let n = schedule::opened(w);
     let mut best: usize = 0;
     let mut k: usize = 0;
     while k < n {
-        best = words::later(best, low_key(fits_on(w, t, k), start_on(w, t, k), k));
+        best = words::later(
+            best,
+            low_key(fits_on(w, kept, t, k), start_on(w, kept, t, k), k),
+        );
         k += 1;
     }
     processor_of(best)
 }
 
 // Steps 2 to 4, where nothing is joined.
-fn without_join(w: &[u32], t: usize, a: usize) -> Found
-    requires { ⌜ Choosing (now w) t ⌝ }
+fn without_join(w: &[u32], kept: &[u32], t: usize, a: usize) -> Found
+    requires { ⌜ Choosing (now w) (now kept) t ⌝ }
     requires { ⌜ a ≡ arrival (sheetIn (now w)) (scheduleIn (now w)) t ⌝ }
     requires { ⌜ none ≡ join (sheetIn (now w)) (barred (sheetIn (now w))) (scheduleIn (now w)) t ⌝ }
     ensures { λ r. ⌜ (foundOf r ≡ choice (sheetIn (now (w .entry))) (barred (sheetIn (now (w .entry)))) (scheduleIn (now (w .entry))) t) × Below 16 r ⌝ }
 {
-    match idle_on(w, t, a) {
+    match idle_on(w, kept, t, a) {
         Found::At(k) => Found::At(k),
-        Found::Nothing => match another_one(w, t) {
+        Found::Nothing => match another_one(w, kept, t) {
             Found::At(k) => Found::At(k),
-            Found::Nothing => last_on(w, t),
+            Found::Nothing => last_on(w, kept, t),
         },
     }
 }
 
 // The processor for t; q holds the keys.
-pub fn choice_of(w: &[u32], q: &[u64], t: usize) -> Found
-    requires { ⌜ Choosing (now w) t ⌝ }
+pub fn choice_of(w: &[u32], kept: &[u32], q: &[u64], t: usize) -> Found
+    requires { ⌜ Choosing (now w) (now kept) t ⌝ }
     requires { ⌜ Keyed (sheetIn (now w)) (scheduleIn (now w)) (now q) ⌝ }
     ensures { λ r. ⌜ (foundOf r ≡ choice (sheetIn (now (w .entry))) (barred (sheetIn (now (w .entry)))) (scheduleIn (now (w .entry))) t) × Below 16 r ⌝ }
 {
-    let a = readiness::arrival_of(w, t);
-    match join_on(w, t, guard_of(w, q, t), a) {
+    let a = readiness::arrival_of(w, kept, t);
+    match join_on(w, kept, t, guard_of(w, kept, q, t), a) {
         Found::At(k) => Found::At(k),
-        Found::Nothing => without_join(w, t, a),
+        Found::Nothing => without_join(w, kept, t, a),
     }
 }

@@ -25,8 +25,8 @@ module _ (s : Sheet) (σ : Schedule) (t : ℕ) where
   unfolding partlyReady
   placed-partly e = rw e
 
-module _ {s : Sheet} {σ : Schedule} {w : List ℕ} (c : Caches s σ w) (t : ℕ) (h : t < taskCount s) where
-  pub arrival-kept : getD w (6944 + t) 0 ≡ arrival s σ t
+module _ {s : Sheet} {σ : Schedule} {w kept : List ℕ} (c : Caches s σ w kept) (t : ℕ) (h : t < taskCount s) where
+  pub arrival-kept : getD kept (768 + t) 0 ≡ arrival s σ t
   unfolding arrival arrivalBy comes countedBy
   arrival-kept = c .counted .arrived t h
 
@@ -35,14 +35,14 @@ module _ {s : Sheet} {σ : Schedule} {w : List ℕ} (c : Caches s σ w) (t : ℕ
   less true false = omega arith
   less false b = omega arith
 
-  few : getD w (6688 + t) 0 ≤ getD w (6176 + t) 0
+  few : getD kept (512 + t) 0 ≤ getD kept t 0
   unfolding countedBy
   few =
       rw (c .counted .seen t h, c .gathered .number t h)
       (sum-mono (linkCount s) (countedBy (into s t) oneBy (known s σ)) (countedBy (into s t) oneBy (λ l. true)) (λ l k. less (eqb (targetOf s l) t) (placed σ (sourceOf s l))))
 
   -- as many links are known as there are
-  satisfied-kept : eqb (getD w (6688 + t) 0) (getD w (6176 + t) 0) ≡ all (linkCount s) (satisfied s σ t)
+  satisfied-kept : eqb (getD kept (512 + t) 0) (getD kept t 0) ≡ all (linkCount s) (satisfied s σ t)
   unfolding countedBy satisfied
   satisfied-kept =
       rw (c .counted .seen t h, c .gathered .number t h)
@@ -54,7 +54,7 @@ module _ {s : Sheet} {σ : Schedule} {w : List ℕ} (c : Caches s σ w) (t : ℕ
       is true false = refl
       is false b = refl
 
-  lacks-kept : ltb (getD w (6688 + t) 0) (getD w (6176 + t) 0) ≡ any (linkCount s) (lacks s σ t)
+  lacks-kept : ltb (getD kept (512 + t) 0) (getD kept t 0) ≡ any (linkCount s) (lacks s σ t)
   unfolding countedBy lacks
   lacks-kept =
       rw (c .counted .seen t h, c .gathered .number t h)
@@ -66,7 +66,7 @@ module _ {s : Sheet} {σ : Schedule} {w : List ℕ} (c : Caches s σ w) (t : ℕ
       is true false = refl
       is false b = refl
 
-  comes-kept : ltb 0 (getD w (6688 + t) 0) ≡ any (linkCount s) (comes s σ t)
+  comes-kept : ltb 0 (getD kept (512 + t) 0) ≡ any (linkCount s) (comes s σ t)
   unfolding countedBy comes
   comes-kept =
       rw (c .counted .seen t h)
@@ -78,7 +78,7 @@ module _ {s : Sheet} {σ : Schedule} {w : List ℕ} (c : Caches s σ w) (t : ℕ
       is false = refl
 
   -- as the code reads it: x of n links are known
-  module _ {x n : ℕ} (ex : x ≡ getD w (6688 + t) 0) (en : n ≡ getD w (6176 + t) 0) where
+  module _ {x n : ℕ} (ex : x ≡ getD kept (512 + t) 0) (en : n ≡ getD kept t 0) where
     pub ready-kept : placed σ t ≡ false → eqb x n ≡ ready s σ t
     unfolding ready
     ready-kept e = rw (e, ex, en) satisfied-kept

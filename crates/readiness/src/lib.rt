@@ -6,7 +6,7 @@ ghost use Rattle.folds.specs.Folds.{pick};
 ghost use Rattle.keys.specs.Keys.{Blocked};
 ghost use Rattle.words.specs.Found.{foundOf, Below};
 ghost use Rattle.sheet.specs.Sheet.{taskCount};
-ghost use Rattle.sheet.specs.Tables.{sheetIn};
+ghost use Rattle.sheet.specs.Tables.{sheetIn, Loaded};
 ghost use Rattle.planner.specs.Schedule.{placed};
 ghost use Rattle.planner.specs.Placing.{ready, partlyReady, arrival, priority, firstReady, firstPartlyReady};
 ghost use Rattle.levelling.specs.Found.{Levelled};
@@ -18,7 +18,7 @@ use sheet::tables;
 use words::Found;
 
 fn is_placed(w: &[u32], t: usize) -> bool
-    requires { ⌜ Kept (now w) ⌝ }
+    requires { ⌜ Loaded (now w) ⌝ }
     requires { ⌜ t < taskCount (sheetIn (now w)) ⌝ }
     ensures { λ r. ⌜ r ≡ placed (scheduleIn (now (w .entry))) t ⌝ }
 {
@@ -26,57 +26,57 @@ fn is_placed(w: &[u32], t: usize) -> bool
 }
 
 // When the messages to t from placed tasks are all there.
-pub fn arrival_of(w: &[u32], t: usize) -> usize
-    requires { ⌜ Kept (now w) ⌝ }
+pub fn arrival_of(w: &[u32], kept: &[u32], t: usize) -> usize
+    requires { ⌜ Kept (now w) (now kept) ⌝ }
     requires { ⌜ t < taskCount (sheetIn (now w)) ⌝ }
     ensures { λ r. ⌜ (r ≡ arrival (sheetIn (now (w .entry))) (scheduleIn (now (w .entry))) t) × (r < 4294967296) ⌝ }
 {
-    workspace::word(w, 6944 + t)
+    workspace::word(kept, 768 + t)
 }
 
-fn is_ready(w: &[u32], t: usize) -> bool
-    requires { ⌜ Kept (now w) ⌝ }
+fn is_ready(w: &[u32], kept: &[u32], t: usize) -> bool
+    requires { ⌜ Kept (now w) (now kept) ⌝ }
     requires { ⌜ t < taskCount (sheetIn (now w)) ⌝ }
     ensures { λ r. ⌜ r ≡ ready (sheetIn (now (w .entry))) (scheduleIn (now (w .entry))) t ⌝ }
 {
     if is_placed(w, t) {
         false
     } else {
-        workspace::word(w, 6688 + t) == workspace::word(w, 6176 + t)
+        workspace::word(kept, 512 + t) == workspace::word(kept, t)
     }
 }
 
-fn is_partly_ready(w: &[u32], t: usize) -> bool
-    requires { ⌜ Kept (now w) ⌝ }
+fn is_partly_ready(w: &[u32], kept: &[u32], t: usize) -> bool
+    requires { ⌜ Kept (now w) (now kept) ⌝ }
     requires { ⌜ t < taskCount (sheetIn (now w)) ⌝ }
     ensures { λ r. ⌜ r ≡ partlyReady (sheetIn (now (w .entry))) (scheduleIn (now (w .entry))) t ⌝ }
 {
     if is_placed(w, t) {
         return false;
     }
-    let x = workspace::word(w, 6688 + t);
-    let n = workspace::word(w, 6176 + t);
+    let x = workspace::word(kept, 512 + t);
+    let n = workspace::word(kept, t);
     if 0 < x { x < n } else { false }
 }
 
-pub fn priority_of(w: &[u32], t: usize) -> usize
-    requires { ⌜ Kept (now w) ⌝ }
+pub fn priority_of(w: &[u32], kept: &[u32], t: usize) -> usize
+    requires { ⌜ Kept (now w) (now kept) ⌝ }
     requires { ⌜ Levelled (sheetIn (now w)) (now w) ⌝ }
     requires { ⌜ t < taskCount (sheetIn (now w)) ⌝ }
     ensures { λ r. ⌜ (r ≡ priority (sheetIn (now (w .entry))) (scheduleIn (now (w .entry))) t) × (r < 8589934592) ⌝ }
 {
-    arrival_of(w, t) + schedule::level_of(w, t)
+    arrival_of(w, kept, t) + schedule::level_of(w, t)
 }
 
 // The key of t.
-fn key_of(w: &[u32], t: usize) -> u64
-    requires { ⌜ Kept (now w) ⌝ }
+fn key_of(w: &[u32], kept: &[u32], t: usize) -> u64
+    requires { ⌜ Kept (now w) (now kept) ⌝ }
     requires { ⌜ Levelled (sheetIn (now w)) (now w) ⌝ }
     requires { ⌜ Early (scheduleIn (now w)) ⌝ }
     requires { ⌜ t < taskCount (sheetIn (now w)) ⌝ }
     ensures { λ r. ⌜ r ≡ keyOf (sheetIn (now (w .entry))) (scheduleIn (now (w .entry))) t ⌝ }
 {
-    let p = priority_of(w, t);
+    let p = priority_of(w, kept, t);
     let v = schedule::level_of(w, t);
     ((p * 33554432 + v + 1) * 256 + (255 - t)) as u64
 }
@@ -89,24 +89,24 @@ fn key_if(test: bool, key: u64) -> u64
 }
 
 // The keys of t as it stands now.
-fn renew_task(w: &[u32], q: &mut [u64], t: usize)
-    requires { ⌜ Kept (now w) ⌝ }
+fn renew_task(w: &[u32], kept: &[u32], q: &mut [u64], t: usize)
+    requires { ⌜ Kept (now w) (now kept) ⌝ }
     requires { ⌜ Levelled (sheetIn (now w)) (now w) ⌝ }
     requires { ⌜ Early (scheduleIn (now w)) ⌝ }
     requires { ⌜ t < taskCount (sheetIn (now w)) ⌝ }
     requires { ⌜ Blocked (now q) ⌝ }
     ensures { λ _. ⌜ Renewed (sheetIn (now (w .entry))) (scheduleIn (now (w .entry))) (now (q .entry)) (now (q .exit)) t ⌝ }
 {
-    let key = key_of(w, t);
-    let ready = key_if(is_ready(w, t), key);
-    let partly = key_if(is_partly_ready(w, t), key);
+    let key = key_of(w, kept, t);
+    let ready = key_if(is_ready(w, kept, t), key);
+    let partly = key_if(is_partly_ready(w, kept, t), key);
     keys::put(q, t, ready);
     keys::put(q, 256 + t, partly);
 }
 
 // The keys of t, to which a link from the task just placed leads: it was not ready before, and its key only rises.
-fn renew_target(w: &[u32], q: &mut [u64], t: usize)
-    requires { ⌜ Kept (now w) ⌝ }
+fn renew_target(w: &[u32], kept: &[u32], q: &mut [u64], t: usize)
+    requires { ⌜ Kept (now w) (now kept) ⌝ }
     requires { ⌜ Levelled (sheetIn (now w)) (now w) ⌝ }
     requires { ⌜ Early (scheduleIn (now w)) ⌝ }
     requires { ⌜ t < taskCount (sheetIn (now w)) ⌝ }
@@ -114,8 +114,8 @@ fn renew_target(w: &[u32], q: &mut [u64], t: usize)
     requires { ⌜ Waiting (sheetIn (now w)) (scheduleIn (now w)) (now q) t ⌝ }
     ensures { λ _. ⌜ Renewed (sheetIn (now (w .entry))) (scheduleIn (now (w .entry))) (now (q .entry)) (now (q .exit)) t ⌝ }
 {
-    let key = key_of(w, t);
-    if workspace::word(w, 6688 + t) == workspace::word(w, 6176 + t) {
+    let key = key_of(w, kept, t);
+    if workspace::word(kept, 512 + t) == workspace::word(kept, t) {
         keys::raise(q, t, key);
         keys::put(q, 256 + t, 0);
     } else {
@@ -124,8 +124,8 @@ fn renew_target(w: &[u32], q: &mut [u64], t: usize)
 }
 
 // The keys of the tasks to which the links from t lead.
-fn renew_targets(w: &[u32], q: &mut [u64], t: usize)
-    requires { ⌜ Kept (now w) ⌝ }
+fn renew_targets(w: &[u32], kept: &[u32], q: &mut [u64], t: usize)
+    requires { ⌜ Kept (now w) (now kept) ⌝ }
     requires { ⌜ Levelled (sheetIn (now w)) (now w) ⌝ }
     requires { ⌜ Early (scheduleIn (now w)) ⌝ }
     requires { ⌜ t < taskCount (sheetIn (now w)) ⌝ }
@@ -135,14 +135,14 @@ fn renew_targets(w: &[u32], q: &mut [u64], t: usize)
     let m = tables::links(w);
     let mut l = chains::first(w, End::Source, t);
     while l < m {
-        renew_target(w, q, tables::target(w, l));
+        renew_target(w, kept, q, tables::target(w, l));
         l = chains::next(w, End::Source, l);
     }
 }
 
 // The keys after t was placed.
-pub fn renew(w: &[u32], q: &mut [u64], t: usize)
-    requires { ⌜ Kept (now w) ⌝ }
+pub fn renew(w: &[u32], kept: &[u32], q: &mut [u64], t: usize)
+    requires { ⌜ Kept (now w) (now kept) ⌝ }
     requires { ⌜ Levelled (sheetIn (now w)) (now w) ⌝ }
     requires { ⌜ Early (scheduleIn (now w)) ⌝ }
     requires { ⌜ t < taskCount (sheetIn (now w)) ⌝ }
@@ -150,12 +150,12 @@ pub fn renew(w: &[u32], q: &mut [u64], t: usize)
     ensures { λ _. ⌜ Keyed (sheetIn (now (w .entry))) (scheduleIn (now (w .entry))) (now (q .exit)) ⌝ }
 {
     keys::put(q, t, 0);
-    renew_targets(w, q, t);
+    renew_targets(w, kept, q, t);
 }
 
 // The keys of all tasks, in a table of noughts.
-pub fn begin(w: &[u32], q: &mut [u64])
-    requires { ⌜ Kept (now w) ⌝ }
+pub fn begin(w: &[u32], kept: &[u32], q: &mut [u64])
+    requires { ⌜ Kept (now w) (now kept) ⌝ }
     requires { ⌜ Levelled (sheetIn (now w)) (now w) ⌝ }
     requires { ⌜ Early (scheduleIn (now w)) ⌝ }
     requires { ⌜ now q ≡ replicate 544 0 ⌝ }
@@ -164,7 +164,7 @@ pub fn begin(w: &[u32], q: &mut [u64])
     let n = tables::tasks(w);
     let mut t: usize = 0;
     while t < n {
-        renew_task(w, q, t);
+        renew_task(w, kept, q, t);
         t += 1;
     }
 }
@@ -180,8 +180,8 @@ fn task_of(key: u64) -> Found
 }
 
 // The first ready task of the schedule in w, by the keys.
-pub fn first_ready(w: &[u32], q: &[u64]) -> Found
-    requires { ⌜ Kept (now w) ⌝ }
+pub fn first_ready(w: &[u32], kept: &[u32], q: &[u64]) -> Found
+    requires { ⌜ Kept (now w) (now kept) ⌝ }
     requires { ⌜ Keyed (sheetIn (now w)) (scheduleIn (now w)) (now q) ⌝ }
     ensures { λ r. ⌜ (foundOf r ≡ firstReady (sheetIn (now (w .entry))) (scheduleIn (now (w .entry)))) × Below (taskCount (sheetIn (now (w .entry)))) r ⌝ }
 {
@@ -189,8 +189,8 @@ pub fn first_ready(w: &[u32], q: &[u64]) -> Found
 }
 
 // The first partly ready task of the schedule in w, by the keys.
-pub fn first_partly(w: &[u32], q: &[u64]) -> Found
-    requires { ⌜ Kept (now w) ⌝ }
+pub fn first_partly(w: &[u32], kept: &[u32], q: &[u64]) -> Found
+    requires { ⌜ Kept (now w) (now kept) ⌝ }
     requires { ⌜ Keyed (sheetIn (now w)) (scheduleIn (now w)) (now q) ⌝ }
     ensures { λ r. ⌜ (foundOf r ≡ firstPartlyReady (sheetIn (now (w .entry))) (scheduleIn (now (w .entry)))) × Below (taskCount (sheetIn (now (w .entry)))) r ⌝ }
 {

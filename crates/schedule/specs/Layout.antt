@@ -1,13 +1,7 @@
--- Which words of the work area hold the schedule under construction, and which hold what is kept beside it.
+-- Which words of the work area hold the schedule under construction.
 --
 --   3856 + t place, 4112 + t start and 4368 + t finish of task t; 4624 + i task placed at turn i (256 each)
 --   4880 processors opened, 4881 tasks placed
---   6176 + t number and 6432 + t bytes of all links into task t
---   of the links into task t from placed tasks: 6688 + t number, 6944 + t latest reach, which comes from processor 7456 + t,
---   7200 + t latest reach from any other processor
---   7712 + k end and 7728 + k store of processor k, 7744 + k links from it to tasks that are not placed
---   of the links into the task of this turn: 7760 + k bytes and 7776 + k number of those from processor k
---   7792 + (4 t + j) number of the links into task t from processors 4 j to 4 j + 3, a byte for each
 use Prim.Native.Nat.{ℕ, _+_}
 use mathlib.Core.List.{List}
 use lib.ListN.{getD, set}

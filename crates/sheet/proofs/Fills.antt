@@ -19,17 +19,17 @@ use Rattle.sheet.specs.Tables.{taskOfWord, linkOfWords, taskIn, linkIn, 
 use Rattle.sheet.proofs.Bits.{bit-set, bit-other, bit-room, bit-le}
 
 -- a bit that is not set leaves room for it
-pub pair-room : (w : List ℕ) (a b : ℕ) → pairIn w a b ≡ false → getD w (3856 + (8 * a + b / 32)) 0 < 4294967296
-    → getD w (3856 + (8 * a + b / 32)) 0 + 2 ^ (b % 32) < 4294967296
+pub pair-room : (w : List ℕ) (a b : ℕ) → pairIn w a b ≡ false → getD w (2320 + (8 * a + b / 32)) 0 < 4294967296
+    → getD w (2320 + (8 * a + b / 32)) 0 + 2 ^ (b % 32) < 4294967296
 unfolding pairIn
 pair-room w a b h l =
-    let x : ℕ = getD w (3856 + (8 * a + b / 32)) 0 in
+    let x : ℕ = getD w (2320 + (8 * a + b / 32)) 0 in
     let no : bitAt x (b % 32) ≢ 1 = eqb-false _ _ h in
     bit-room (b % 32) 32 x (omega arith) l (omega (arith, bit-le x (b % 32)))
 
 module _ (w : List ℕ) (a b : ℕ) (long : fixed ≤ length w) (a-small : a < 256) (b-small : b < 256) where
   -- what setting a pair's bit leaves
-  pub pair-away : (i : ℕ) → i < 3856 → getD (pairWords w a b) i 0 ≡ getD w i 0
+  pub pair-away : (i : ℕ) → i < 2320 → getD (pairWords w a b) i 0 ≡ getD w i 0
   unfolding pairWords
   pair-away i h = getD-set-other w _ i _ 0 (λ q. omega arith)
 
@@ -41,7 +41,7 @@ module _ (w : List ℕ) (a b : ℕ) (long : fixed ≤ length w) (a-small : a < 2
   pub pair-same : pairIn w a b ≡ false → pairIn (pairWords w a b) a b ≡ true
   unfolding pairIn pairWords
   pair-same h =
-      let i : ℕ = 3856 + (8 * a + b / 32) in
+      let i : ℕ = 2320 + (8 * a + b / 32) in
       let no : bitAt (getD w i 0) (b % 32) ≢ 1 = eqb-false _ _ h in
       let e : getD (set w i (getD w i 0 + 2 ^ (b % 32))) i 0 ≡ getD w i 0 + 2 ^ (b % 32) = getD-set-same w i _ 0 (omega arith) in
       rw e (eq-eqb _ _ (bit-set (b % 32) (getD w i 0) (omega (arith, bit-le (getD w i 0) (b % 32)))))
@@ -49,8 +49,8 @@ module _ (w : List ℕ) (a b : ℕ) (long : fixed ≤ length w) (a-small : a < 2
   pub pair-other : pairIn w a b ≡ false → (c d : ℕ) → d < 256 → ((c ≡ a) × (d ≡ b) → ⊥) → pairIn (pairWords w a b) c d ≡ pairIn w c d
   unfolding pairIn pairWords
   pair-other h c d d-small away =
-      let i : ℕ = 3856 + (8 * a + b / 32) in
-      let k : ℕ = 3856 + (8 * c + d / 32) in
+      let i : ℕ = 2320 + (8 * a + b / 32) in
+      let k : ℕ = 2320 + (8 * c + d / 32) in
       let no : bitAt (getD w i 0) (b % 32) ≢ 1 = eqb-false _ _ h in
       ⊎-elim
       (λ (q : k ≡ i).
@@ -168,7 +168,7 @@ module _ (w : List ℕ) (m a b c d : ℕ) (long : fixed ≤ length w) (m-small :
       λ x. record { processors = p x; limit = q x; tasks = tasks x; links = links x }
 
 -- pair words that were cleared
-pub blanked : {e : ℕ} {w v : List ℕ} → ClearIs w v 3856 e → Blanked e w v
+pub blanked : {e : ℕ} {w v : List ℕ} → ClearIs w v 2320 e → Blanked e w v
 blanked c = record { long = c .long; low = λ i h. c .other i (inl h); zeros = c .zeros }
 
 -- a link added by a store of its bit and then of its numbers

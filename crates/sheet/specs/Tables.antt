@@ -56,7 +56,7 @@ unfoldable pub bitAt : ℕ → ℕ → ℕ
 bitAt x j = x / 2 ^ j % 2
 
 unfoldable pub pairIn : List ℕ → ℕ → ℕ → Bool
-pairIn w a b = eqb (bitAt (getD w (3856 + (8 * a + b / 32)) 0) (b % 32)) 1
+pairIn w a b = eqb (bitAt (getD w (2320 + (8 * a + b / 32)) 0) (b % 32)) 1
 
 -- a sheet whose links are being read: its tables, and a bit for each pair of tasks that a link joins
 pub record Filling (w : List ℕ) : Type 0 where
@@ -73,7 +73,7 @@ linkWords w m source target cost bytes =
 
 -- the words with the bit of a pair set, where it was not
 unfoldable pub pairWords : List ℕ → ℕ → ℕ → List ℕ
-pairWords w a b = set w (3856 + (8 * a + b / 32)) (getD w (3856 + (8 * a + b / 32)) 0 + 2 ^ (b % 32))
+pairWords w a b = set w (2320 + (8 * a + b / 32)) (getD w (2320 + (8 * a + b / 32)) 0 + 2 ^ (b % 32))
 
 -- the words of a sheet without tasks
 unfoldable pub boardWords : List ℕ → ℕ → ℕ → List ℕ
@@ -82,8 +82,8 @@ boardWords w processors limit = set (set (set (set w 0 0) 1 0) 2 processors) 3 l
 -- the pair words below word n are 0, and the words before them as they were
 pub record Blanked (n : ℕ) (w last : List ℕ) : Type 0 where
   pub long : length last ≡ length w
-  pub low : (i : ℕ) → i < 3856 → getD last i 0 ≡ getD w i 0
-  pub zeros : (i : ℕ) → 3856 ≤ i → i < n → getD last i 0 ≡ 0
+  pub low : (i : ℕ) → i < 2320 → getD last i 0 ≡ getD w i 0
+  pub zeros : (i : ℕ) → 2320 ≤ i → i < n → getD last i 0 ≡ 0
 
 -- the tables hold this sheet
 pub record LoadedOf (s : Sheet) (w last : List ℕ) : Type 0 where

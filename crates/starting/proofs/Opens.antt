@@ -4,7 +4,7 @@ use mathlib.Core.Path.{_≡_, refl, sym, ap, _∙_}
 use mathlib.Core.List.{List}
 use native.Mathlib.Omega.{arith}
 use lib.ListN.{length, getD}
-use borrow.Rule.Slice.PartMut.{midOf, putMid}
+use borrow.Rule.Slice.PartMut.{midOf}
 use Rattle.folds.specs.Answers.{value}
 use Rattle.folds.proofs.Tests.{andThen-value}
 use Rattle.sheet.specs.Sheet.{Sheet, taskCount, linkCount}
@@ -19,7 +19,7 @@ use Rattle.messages.specs.declared.Judged.{Judged}
 use Rattle.messages.specs.declared.Judged.the-variants.{Fit, Refused}
 use Rattle.messages.proofs.Few.{few-of-read}
 use Rattle.messages.proofs.Admits.{admitted-published}
-use Rattle.messages.proofs.Areas.{part-long, part-low, known-in}
+use Rattle.messages.proofs.Areas.{part-long, known-in}
 use Rattle.loaded.specs.Loads.{LoadIs}
 use Rattle.starting.specs.Starts.{AdmitIs, OpenIs}
 
@@ -68,13 +68,11 @@ module _ (sheet bundle w u state : List ℕ) (p n l limit : ℕ) (f : Judged) (h
       first-of b d = cc
 
 pub opened-in : (w sheet bundle part after state last : List ℕ) (p n l limit : ℕ) (r : Judged) → Loaded w → p ≡ sheetIn w .processors → n ≡ taskCount (sheetIn w) → l ≡ linkCount (sheetIn w)
-    → limit ≡ sheetIn w .limit → limit < 4294967296 → AdmitIs sheet bundle (midOf 3856 (length w - 3856) w) part state last p n l limit r → length after ≡ length w
-    → after ≡ putMid 3856 (length w - 3856) w part → OpenIs sheet bundle w after state last r
-opened-in w sheet bundle part after state last p n l limit r h ep en el ei small g e q =
-    let long : 4352 ≤ length (midOf 3856 (length w - 3856) w) = omega (arith, part-long w 3856, h .long) in
+    → limit ≡ sheetIn w .limit → limit < 4294967296 → AdmitIs sheet bundle (midOf 16 (length w - 16) w) part state last p n l limit r → length after ≡ length w → OpenIs sheet bundle w after state last r
+opened-in w sheet bundle part after state last p n l limit r h ep en el ei small g e =
+    let long : 4352 ≤ length (midOf 16 (length w - 16) w) = omega (arith, part-long w 16, h .long) in
     record {
       long = e;
-      low = λ i b. ap (λ (x : List ℕ). getD x i 0) q ∙ part-low w part 3856 i (omega (arith, h .long)) b;
       state-long = g .state-long;
       untouched = g .untouched;
       is = λ f. g .is (sheetIn w) (known-in w sheet p n l limit h ep en el ei small f) long;

@@ -25,10 +25,9 @@ pub record AdmitIs (sheet bundle w after state last : List ℕ) (p n l limit : �
   pub keeps : (s : Sheet) → Known s sheet p n l limit → Ranged s → 4352 ≤ length w → fixed ≤ length state → (b : Bundle) → admittedBytes s bundle ≡ value b
       → Keeps s b last (freshState s b)
 
--- the same for the sheet in the tables of the work area, which also lies in its bytes; the tables stay
+-- the same for the sheet in the tables of the work area, which also lies in its bytes
 pub record OpenIs (sheet bundle work after state last : List ℕ) (r : Judged) : Type 0 where
   pub long : length after ≡ length work
-  pub low : (i : ℕ) → i < 3856 → getD after i 0 ≡ getD work i 0
   pub state-long : length last ≡ length state
   pub untouched : (number place : ℕ) → r ≡ Refused number place → last ≡ state
   pub is : Fields (sheetIn work) sheet → r ≡ judgedOf (admittedBytes (sheetIn work) bundle)

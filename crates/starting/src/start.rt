@@ -28,7 +28,7 @@ fn admit(
     }
 }
 
-// The same for the sheet in the tables of the work area, whose bytes are given too. The words from 3856 on are used.
+// The same for the sheet in the tables of the work area, whose bytes are given too. The words from 16 on are used.
 pub fn open(sheet: &[u8], bundle: &[u8], work: &mut [u32], state: &mut [u32]) -> Judged
     requires { ⌜ Loaded (now work) ⌝ }
     ensures { λ r. ⌜ OpenIs (now (sheet .entry)) (now (bundle .entry)) (now (work .entry)) (now (work .exit)) (now (state .entry)) (now (state .exit)) r ⌝ }
@@ -37,5 +37,5 @@ pub fn open(sheet: &[u8], bundle: &[u8], work: &mut [u32], state: &mut [u32]) ->
     let n = sheet::tables::tasks(work);
     let l = sheet::tables::links(work);
     let limit = sheet::tables::limit(work);
-    admit(sheet, bundle, &mut work[3856..], state, p, n, l, limit)
+    admit(sheet, bundle, &mut work[16..], state, p, n, l, limit)
 }

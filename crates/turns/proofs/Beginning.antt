@@ -1,10 +1,10 @@
--- Before the first turn: the schedule emptied (w₁), what is kept beside it cleared (w₂), the links out of each task chained (w₃), links gathered (w₄).
+-- Before the first turn: the schedule emptied (w₁), the links out of each task chained (w₂), links gathered in own words.
 use Prim.Native.Nat.{ℕ, _+_, _*_, _≤_, _<_}
 use mathlib.Core.Path.{_≡_, refl, ap, ap₂, sym, _∙_, subst}
 use mathlib.Core.Bool.{true}
 use mathlib.Core.List.{List}
 use native.Mathlib.Omega.{arith}
-use lib.ListN.{length, getD}
+use lib.ListN.{length, getD, replicate, length-replicate}
 use Rattle.folds.specs.Answers.{Answer}
 use Rattle.folds.proofs.Lists.{getD-replicate}
 use Rattle.sheet.specs.Sheet.{Sheet, taskCount, linkCount}
@@ -22,8 +22,8 @@ use Rattle.chains.specs.Frames.{Only}
 use Rattle.chains.specs.declared.End.the-variants.{Source, Target}
 use Rattle.chains.proofs.Frames.{same-sheet, same-loaded, only-sheet, only-loaded}
 use Rattle.chains.proofs.Walks.{chained-frame, chained-under}
-use Rattle.arrivals.specs.Kept.{Single, Caches}
-use Rattle.arrivals.specs.Steps.{Zero, Blank, GatheredTo}
+use Rattle.arrivals.specs.Kept.{keptLength, Single, Caches}
+use Rattle.arrivals.specs.Steps.{Zero, GatheredTo}
 use Rattle.arrivals.proofs.Gathering.{gather-none, gathered-all}
 use Rattle.arrivals.proofs.Beginning.{counted-zero, ends-zero, closed-zero}
 use Rattle.turns.specs.Turns.{Timely, Going, Emptied, Afterwards}
@@ -42,91 +42,64 @@ module _ {w w₁ : List ℕ} (loaded : Loaded w) (levelled : Levelled (sheetIn w
   sheet₁ : sheetIn w₁ ≡ s
   sheet₁ = same-sheet w w₁ loaded low₁
 
-  module _ {w₂ : List ℕ} (o₂ : Only 6176 8816 w₁ w₂) (blank : Blank (taskCount (sheetIn w₁)) 5 w₂) (zero : Zero 7712 (7792 + 4 * taskCount (sheetIn w₁)) w₂) where
-    low₂ : (i : ℕ) → i < 3856 → getD w₂ i 0 ≡ getD w i 0
-    low₂ i h = o₂ .low i (omega arith) ∙ low₁ i h
+  module _ {w₂ : List ℕ} (r₂ : Rechained Source w₁ w₂) (outward : Chained Source (sheetIn w₁) w₂) where
+    low₂ : (i : ℕ) → i < 2576 → getD w₂ i 0 ≡ getD w i 0
+    low₂ i h = r₂ .only .low i h ∙ low₁ i (omega arith)
 
     long₂ : length w₂ ≡ length w
-    long₂ = o₂ .long ∙ e₁ .only .long
+    long₂ = r₂ .only .long ∙ e₁ .only .long
 
     pub loaded₂ : Loaded w₂
-    loaded₂ = same-loaded w w₂ loaded low₂ long₂
+    loaded₂ = only-loaded (omega arith) loaded₁ (r₂ .only)
 
     sheet₂ : sheetIn w₂ ≡ s
-    sheet₂ = same-sheet w w₂ loaded low₂
+    sheet₂ = only-sheet (omega arith) loaded₁ (r₂ .only) ∙ sheet₁
 
-    -- what was cleared, by the tasks of the sheet
-    blank₂ : Blank (taskCount s) 5 w₂
-    blank₂ = subst (λ (x : Sheet). Blank (taskCount x) 5 w₂) sheet₁ blank
+    -- the words of the schedule are those of w₁
+    schedule₂ : scheduleIn w₂ ≡ empty s
+    schedule₂ = schedule-frame w₁ w₂ (loaded₁ .tasks) (omega (arith, e₁ .placed)) (r₂ .only .low 0 (omega arith)) (λ i h l. r₂ .only .high i h) ∙ e₁ .schedule
 
-    zero₂ : Zero 7712 (7792 + 4 * taskCount s) w₂
-    zero₂ = subst (λ (x : Sheet). Zero 7712 (7792 + 4 * taskCount x) w₂) sheet₁ zero
+    empty₂ : (u : ℕ) → placeOf (scheduleIn w₂) u ≡ 16
+    unfolding placeOf
+    empty₂ u = ap (λ (σ : Schedule). getD (σ .on) u nowhere) schedule₂ ∙ getD-replicate (taskCount s) u nowhere
 
-    module _ {w₃ : List ℕ} (o₃ : Rechained Source w₂ w₃) (outward : Chained Source (sheetIn w₂) w₃) where
-      low₃ : (i : ℕ) → i < 2576 → getD w₃ i 0 ≡ getD w i 0
-      low₃ i h = o₃ .only .low i h ∙ low₂ i (omega arith)
+    standing₂ : (u : ℕ) → placed (scheduleIn w₂) u ≡ true → placeOf (scheduleIn w₂) u < scheduleIn w₂ .opened
+    unfolding placed
+    standing₂ u e = absurd (omega (arith, empty₂ u, ltb-true (placeOf (scheduleIn w₂) u) 16 e))
 
-      long₃ : length w₃ ≡ length w
-      long₃ = o₃ .only .long ∙ long₂
+    inward₂ : Chained Target s w₂
+    inward₂ =
+        let r = ranged w loaded in
+        chained-under r₂ (chained-frame (r .few-tasks) (r .few-links) (λ i h l. low₁ i l) (levelled .inward))
 
-      pub loaded₃ : Loaded w₃
-      loaded₃ = only-loaded (omega arith) loaded₂ (o₃ .only)
+    -- in own words of 0 links are gathered (own), and all else stays 0
+    module _ {zeros : List ℕ} (z : zeros ≡ replicate keptLength 0) where
+      zero : (i : ℕ) → getD zeros i 0 ≡ 0
+      zero i = ap (λ (x : List ℕ). getD x i 0) z ∙ getD-replicate keptLength i 0
 
-      sheet₃ : sheetIn w₃ ≡ s
-      sheet₃ = only-sheet (omega arith) loaded₂ (o₃ .only) ∙ sheet₂
+      long-zeros : length zeros ≡ keptLength
+      long-zeros = ap length z ∙ length-replicate {A = ℕ} keptLength 0
 
-      pub gather₃ : GatheredTo (sheetIn w₃) 0 w₃
-      gather₃ = subst (λ (x : Sheet). GatheredTo x 0 w₃) (sym sheet₃) (gather-none blank₂ (λ i h. o₃ .only .high i (omega arith)))
+      pub gathers : (Loaded w₂ × (keptLength ≤ length zeros)) × GatheredTo (sheetIn w₂) 0 zeros
+      gathers = ((loaded₂, omega (arith, long-zeros)), gather-none (record { at = λ i h l. zero i }) (ranged w₂ loaded₂ .few-tasks))
 
-      module _ {w₄ : List ℕ} (o₄ : Only 6176 6688 w₃ w₄) (gathered : GatheredTo (sheetIn w₃) (linkCount (sheetIn w₃)) w₄) where
-        low₄ : (i : ℕ) → i < 2576 → getD w₄ i 0 ≡ getD w i 0
-        low₄ i h = o₄ .low i (omega arith) ∙ low₃ i h
+      module _ {own : List ℕ} (o : Only 0 512 zeros own) (gathered : GatheredTo (sheetIn w₂) (linkCount (sheetIn w₂)) own) where
+        zeros-on : Zero 512 keptLength own
+        zeros-on = record { at = λ i h l. o .high i h ∙ zero i }
 
-        long₄ : length w₄ ≡ length w
-        long₄ = o₄ .long ∙ long₃
-
-        loaded₄ : Loaded w₄
-        loaded₄ = only-loaded (omega arith) loaded₃ o₄
-
-        sheet₄ : sheetIn w₄ ≡ s
-        sheet₄ = only-sheet (omega arith) loaded₃ o₄ ∙ sheet₃
-
-        -- the words of the schedule are those of w₁
-        kept₄ : (i : ℕ) → 3856 ≤ i → i < 4896 → getD w₄ i 0 ≡ getD w₁ i 0
-        kept₄ i l h = o₄ .low i (omega arith) ∙ o₃ .only .high i l ∙ o₂ .low i (omega arith)
-
-        schedule₄ : scheduleIn w₄ ≡ empty s
-        schedule₄ = schedule-frame w₁ w₄ (loaded₁ .tasks) (omega (arith, e₁ .placed)) (low₄ 0 (omega arith) ∙ sym (low₁ 0 (omega arith))) kept₄ ∙ e₁ .schedule
-
-        empty₄ : (u : ℕ) → placeOf (scheduleIn w₄) u ≡ 16
-        unfolding placeOf
-        empty₄ u = ap (λ (σ : Schedule). getD (σ .on) u nowhere) schedule₄ ∙ getD-replicate (taskCount s) u nowhere
-
-        standing₄ : (u : ℕ) → placed (scheduleIn w₄) u ≡ true → placeOf (scheduleIn w₄) u < scheduleIn w₄ .opened
-        unfolding placed
-        standing₄ u e = absurd (omega (arith, empty₄ u, ltb-true (placeOf (scheduleIn w₄) u) 16 e))
-
-        high₄ : (i : ℕ) → 6688 ≤ i → getD w₄ i 0 ≡ getD w₂ i 0
-        high₄ i h = o₄ .high i h ∙ o₃ .only .high i (omega arith)
-
-        inward₄ : Chained Target s w₄
-        inward₄ =
-            let r = ranged w loaded in
-            chained-frame (r .few-tasks) (r .few-links) (λ i h l. o₄ .low i (omega arith)) (chained-under o₃ (chained-frame (r .few-tasks) (r .few-links) (λ i h l. low₂ i l) (levelled .inward)))
-
-        caches₄ : Caches s (scheduleIn w₄) w₄
-        caches₄ =
-            let r = ranged w loaded in
+        caches₂ : Caches s (scheduleIn w₂) w₂ own
+        caches₂ =
+            let few = ranged w loaded .few-tasks in
             record {
-              outward = chained-frame (r .few-tasks) (r .few-links) (λ i h l. o₄ .low i (omega arith)) (subst (λ (x : Sheet). Chained Source x w₃) sheet₂ outward);
-              inward = inward₄;
-              gathered = gathered-all (subst (λ (x : Sheet). GatheredTo x (linkCount x) w₄) sheet₃ gathered);
-              counted = counted-zero s (scheduleIn w₄) empty₄ w₄ zero₂ high₄ blank₂;
-              ends = ends-zero s (scheduleIn w₄) empty₄ w₄ zero₂ high₄;
-              closed = closed-zero s (scheduleIn w₄) empty₄;
+              outward = subst (λ (x : Sheet). Chained Source x w₂) sheet₁ outward;
+              inward = inward₂;
+              gathered = gathered-all (subst (λ (x : Sheet). GatheredTo x (linkCount x) own) sheet₂ gathered);
+              counted = counted-zero s (scheduleIn w₂) empty₂ own few zeros-on;
+              ends = ends-zero s (scheduleIn w₂) empty₂ own few zeros-on;
+              closed = closed-zero s (scheduleIn w₂) empty₂;
             }
 
-        pub going-first : Going w₄ 0 w₄
+        pub going-first : Going w₂ 0 w₂ own
         going-first =
             record {
               long = refl;
@@ -134,38 +107,39 @@ module _ {w w₁ : List ℕ} (loaded : Loaded w) (levelled : Levelled (sheetIn w
               sheet = refl;
               kept =
                   record {
-                    loaded = loaded₄;
-                    ranged = ranged w₄ loaded₄;
-                    single = subst Single (sym sheet₄) single;
-                    few-opened = rw schedule₄ (omega arith);
-                    standing = standing₄;
-                    caches = subst (λ (x : Sheet). Caches x (scheduleIn w₄) w₄) (sym sheet₄) caches₄;
+                    long = o .long ∙ long-zeros;
+                    loaded = loaded₂;
+                    ranged = ranged w₂ loaded₂;
+                    single = subst Single (sym sheet₂) single;
+                    few-opened = rw schedule₂ (omega arith);
+                    standing = standing₂;
+                    caches = subst (λ (x : Sheet). Caches x (scheduleIn w₂) w₂ own) (sym sheet₂) caches₂;
                   };
-              levelled = subst (λ (x : Sheet). Levelled x w₄) (sym sheet₄) (record { inward = inward₄; levels = λ t h. low₄ (2320 + t) (omega (arith, ranged w loaded .few-tasks)) ∙ levelled .levels t h });
-              timely = subst (Timely 0) (sym schedule₄) (empty-timely s);
-              placed = omega (arith, kept₄ 4881 (omega arith) (omega arith), e₁ .placed);
+              levelled = subst (λ (x : Sheet). Levelled x w₂) (sym sheet₂) (record { inward = inward₂; levels = λ t h. low₂ (2320 + t) (omega (arith, ranged w loaded .few-tasks)) ∙ levelled .levels t h });
+              timely = subst (Timely 0) (sym schedule₂) (empty-timely s);
+              placed = omega (arith, r₂ .only .high 4881 (omega arith), e₁ .placed);
             }
 
-        planned-by : {a : Answer Schedule} → a ≡ turns (sheetIn w₄) (barred (sheetIn w₄)) (taskCount (sheetIn w₄)) (scheduleIn w₄) → a ≡ planned s
-        unfolding planned plannedBy
-        planned-by e = e ∙ ap₂ (λ (x : Sheet) (σ : Schedule). turns x (barred x) (taskCount x) σ) sheet₄ schedule₄
+    planned-by : {a : Answer Schedule} → a ≡ turns (sheetIn w₂) (barred (sheetIn w₂)) (taskCount (sheetIn w₂)) (scheduleIn w₂) → a ≡ planned s
+    unfolding planned plannedBy
+    planned-by e = e ∙ ap₂ (λ (x : Sheet) (σ : Schedule). turns x (barred x) (taskCount x) σ) sheet₂ schedule₂
 
-        -- and after the last
-        module _ {w₅ : List ℕ} {j : ℕ} (g : Going w₄ j w₅) (few : j ≤ 256) where
-          afterwards : Afterwards w w₅
-          afterwards =
-              let sheet : sheetIn w₅ ≡ s = g .sheet ∙ sheet₄ in
-              record {
-                long = g .long ∙ long₄;
-                low = λ i h. g .low i (omega arith) ∙ low₄ i h;
-                loaded = g .kept .loaded;
-                sheet = sheet;
-                outward = subst (λ (x : Sheet). Chained Source x w₅) sheet (g .kept .caches .outward);
-                inward = subst (λ (x : Sheet). Chained Target x w₅) sheet (g .kept .caches .inward);
-                few-opened = g .kept .few-opened;
-                few-placed = omega (arith, order-long w₅, g .placed);
-                early = λ t. omega (arith, g .timely .early t);
-              }
+    -- and after the last
+    module _ {w₃ own : List ℕ} {j : ℕ} (g : Going w₂ j w₃ own) (few : j ≤ 256) where
+      afterwards : Afterwards w w₃
+      afterwards =
+          let sheet : sheetIn w₃ ≡ s = g .sheet ∙ sheet₂ in
+          record {
+            long = g .long ∙ long₂;
+            low = λ i h. g .low i (omega arith) ∙ low₂ i h;
+            loaded = g .kept .loaded;
+            sheet = sheet;
+            outward = subst (λ (x : Sheet). Chained Source x w₃) sheet (g .kept .caches .outward);
+            inward = subst (λ (x : Sheet). Chained Target x w₃) sheet (g .kept .caches .inward);
+            few-opened = g .kept .few-opened;
+            few-placed = omega (arith, order-long w₃, g .placed);
+            early = λ t. omega (arith, g .timely .early t);
+          }
 
-          pub scheduled : {a : Answer Schedule} → a ≡ turns (sheetIn w₄) (barred (sheetIn w₄)) (taskCount (sheetIn w₄)) (scheduleIn w₄) → (a ≡ planned s) × Afterwards w w₅
-          scheduled e = (planned-by e, afterwards)
+      pub scheduled : {a : Answer Schedule} → a ≡ turns (sheetIn w₂) (barred (sheetIn w₂)) (taskCount (sheetIn w₂)) (scheduleIn w₂) → (a ≡ planned s) × Afterwards w w₃
+      scheduled e = (planned-by e, afterwards)

@@ -5,4 +5,3 @@ pub mod Turns
 pub mod Keys
 pub mod Emptying
 pub mod Beginning
-pub mod Surveying

@@ -58,20 +58,20 @@ module _ (s : Sheet) (guard : Schedule → ℕ → ℕ → Bool) (σ : Schedule)
   turns-done h = let e : n - j ≡ 0 = omega arith in sym (ap (λ (i : ℕ). turns s guard i σ) e)
 
 -- after j of n turns from the area w₀; what is left gives what all n gave
-pub record Turning (w₀ : List ℕ) (n j : ℕ) (w : List ℕ) : Type 0 where
-  pub going : Going w₀ j w
+pub record Turning (w₀ : List ℕ) (n j : ℕ) (w own : List ℕ) : Type 0 where
+  pub going : Going w₀ j w own
   pub rest : turns (sheetIn w₀) (barred (sheetIn w₀)) (n - j) (scheduleIn w) ≡ turns (sheetIn w₀) (barred (sheetIn w₀)) n (scheduleIn w₀)
 
-pub turning-begins : (w : List ℕ) (n : ℕ) → Going w 0 w → Turning w n 0 w
-turning-begins w n g =
+pub turning-begins : (w own : List ℕ) (n : ℕ) → Going w 0 w own → Turning w n 0 w own
+turning-begins w own n g =
     let q : n - 0 ≡ n = omega arith in
     record { going = g; rest = ap (λ (x : ℕ). turns (sheetIn w) (barred (sheetIn w)) x (scheduleIn w)) q }
 
-module _ {w₀ w : List ℕ} {n j : ℕ} (h : Turning w₀ n j w) (r : Planned) (w′ : List ℕ) (l : j < n) (a : answerOf r (scheduleIn w′) ≡ turn (sheetIn w) (barred (sheetIn w)) (scheduleIn w)) where
+module _ {w₀ w own : List ℕ} {n j : ℕ} (h : Turning w₀ n j w own) (r : Planned) (w′ : List ℕ) (l : j < n) (a : answerOf r (scheduleIn w′) ≡ turn (sheetIn w) (barred (sheetIn w)) (scheduleIn w)) where
   same : turn (sheetIn w) (barred (sheetIn w)) (scheduleIn w) ≡ turn (sheetIn w₀) (barred (sheetIn w₀)) (scheduleIn w)
   same = ap (λ (x : Sheet). turn x (barred x) (scheduleIn w)) (h .going .sheet)
 
-  pub turning-on : r ≡ Done → Going w (j + 1) w′ → Turning w₀ n (j + 1) w′
+  pub turning-on : {own′ : List ℕ} → r ≡ Done → Going w (j + 1) w′ own′ → Turning w₀ n (j + 1) w′ own′
   turning-on e g =
       record {
         going = after (h .going) g;
@@ -81,8 +81,8 @@ module _ {w₀ w : List ℕ} {n j : ℕ} (h : Turning w₀ n j w) (r : Planned) 
   pub turning-refused : {t : ℕ} → r ≡ Refused t → refused 11 t ≡ turns (sheetIn w₀) (barred (sheetIn w₀)) n (scheduleIn w₀)
   turning-refused e = turns-refused (sheetIn w₀) (barred (sheetIn w₀)) (scheduleIn w) n j l (sym (ap (λ (x : Planned). answerOf x (scheduleIn w′)) e) ∙ a ∙ same) ∙ h .rest
 
-pub turning-done : {w₀ w : List ℕ} {n j : ℕ} → Turning w₀ n j w → n ≤ j → value (scheduleIn w) ≡ turns (sheetIn w₀) (barred (sheetIn w₀)) n (scheduleIn w₀)
-turning-done {w₀} {w} {n} {j} h l = turns-done (sheetIn w₀) (barred (sheetIn w₀)) (scheduleIn w) n j l ∙ h .rest
+pub turning-done : {w₀ w own : List ℕ} {n j : ℕ} → Turning w₀ n j w own → n ≤ j → value (scheduleIn w) ≡ turns (sheetIn w₀) (barred (sheetIn w₀)) n (scheduleIn w₀)
+turning-done {w₀} {w} {own} {n} {j} h l = turns-done (sheetIn w₀) (barred (sheetIn w₀)) (scheduleIn w) n j l ∙ h .rest
 
 pub turns-at : (s : Sheet) (guard : Schedule → ℕ → ℕ → Bool) (σ : Schedule) (n m : ℕ) {a : Answer Schedule} → a ≡ turns s guard n σ → n ≡ m → a ≡ turns s guard m σ
 turns-at s guard σ n m p e = p ∙ ap (λ (x : ℕ). turns s guard x σ) e

@@ -24,12 +24,12 @@ answerOf (Refused t) σ = refused 11 t
 pub record Timely (j : ℕ) (σ : Schedule) : Type 0 where
   pub early : (u : ℕ) → finishOf σ u ≤ 131070 * j
 
--- after j turns from the area w₀
-pub record Going (w₀ : List ℕ) (j : ℕ) (w : List ℕ) : Type 0 where
+-- after j turns from the area w₀, with what is kept in own words
+pub record Going (w₀ : List ℕ) (j : ℕ) (w own : List ℕ) : Type 0 where
   pub long : length w ≡ length w₀
   pub low : (i : ℕ) → i < 3856 → getD w i 0 ≡ getD w₀ i 0
   pub sheet : sheetIn w ≡ sheetIn w₀
-  pub kept : Kept w
+  pub kept : Kept w own
   pub levelled : Levelled (sheetIn w) w
   pub timely : Timely j (scheduleIn w)
   pub placed : getD w 4881 0 ≤ j

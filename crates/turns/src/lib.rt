@@ -22,86 +22,86 @@ pub enum Planned {
 }
 
 // t goes on k at turn j.
-fn put_on(w: &mut [u32], j: usize, t: usize, k: usize)
-    requires { ⌜ Going (now w) j (now w) ⌝ }
+fn put_on(w: &mut [u32], kept: &mut [u32], j: usize, t: usize, k: usize)
+    requires { ⌜ Going (now w) j (now w) (now kept) ⌝ }
     requires { ⌜ (j < 256) × (t < taskCount (sheetIn (now w))) × (k < 16) ⌝ }
-    requires { ⌜ (ready (sheetIn (now w)) (scheduleIn (now w)) t ≡ true) × Surveyed (sheetIn (now w)) (scheduleIn (now w)) t (now w) ⌝ }
-    ensures { λ _. ⌜ (scheduleIn (now (w .exit)) ≡ placedFrom (sheetIn (now (w .entry))) (barred (sheetIn (now (w .entry)))) (scheduleIn (now (w .entry))) t k (startOn (sheetIn (now (w .entry))) (scheduleIn (now (w .entry))) t k)) × Going (now (w .entry)) (j + 1) (now (w .exit)) ⌝ }
+    requires { ⌜ (ready (sheetIn (now w)) (scheduleIn (now w)) t ≡ true) × Surveyed (sheetIn (now w)) (scheduleIn (now w)) t (now kept) ⌝ }
+    ensures { λ _. ⌜ (scheduleIn (now (w .exit)) ≡ placedFrom (sheetIn (now (w .entry))) (barred (sheetIn (now (w .entry)))) (scheduleIn (now (w .entry))) t k (startOn (sheetIn (now (w .entry))) (scheduleIn (now (w .entry))) t k)) × Going (now (w .entry)) (j + 1) (now (w .exit)) (now (kept .exit)) ⌝ }
 {
-    let start = placing::start_on(w, t, k);
+    let start = placing::start_on(w, kept, t, k);
     let finish = start + tables::work(w, t);
     let open = words::later(schedule::opened(w), k + 1);
     let n = schedule::placed(w);
-    arrivals::settle(w, t, k, start, finish);
-    arrivals::release(w);
+    arrivals::settle(w, kept, t, k, start, finish);
+    arrivals::release(kept);
     schedule::put(w, t, k, start, finish, n, open);
-    arrivals::count_links(w, t, k, finish);
+    arrivals::count_links(w, kept, t, k, finish);
 }
 
 // t goes on k at turn j, and the keys follow.
-fn place_on(w: &mut [u32], q: &mut [u64], j: usize, t: usize, k: usize)
-    requires { ⌜ Going (now w) j (now w) ⌝ }
+fn place_on(w: &mut [u32], kept: &mut [u32], q: &mut [u64], j: usize, t: usize, k: usize)
+    requires { ⌜ Going (now w) j (now w) (now kept) ⌝ }
     requires { ⌜ (j < 256) × (t < taskCount (sheetIn (now w))) × (k < 16) ⌝ }
-    requires { ⌜ (ready (sheetIn (now w)) (scheduleIn (now w)) t ≡ true) × Surveyed (sheetIn (now w)) (scheduleIn (now w)) t (now w) ⌝ }
+    requires { ⌜ (ready (sheetIn (now w)) (scheduleIn (now w)) t ≡ true) × Surveyed (sheetIn (now w)) (scheduleIn (now w)) t (now kept) ⌝ }
     requires { ⌜ Keyed (sheetIn (now w)) (scheduleIn (now w)) (now q) ⌝ }
-    ensures { λ _. ⌜ (scheduleIn (now (w .exit)) ≡ placedFrom (sheetIn (now (w .entry))) (barred (sheetIn (now (w .entry)))) (scheduleIn (now (w .entry))) t k (startOn (sheetIn (now (w .entry))) (scheduleIn (now (w .entry))) t k)) × Going (now (w .entry)) (j + 1) (now (w .exit)) × Keyed (sheetIn (now (w .exit))) (scheduleIn (now (w .exit))) (now (q .exit)) ⌝ }
+    ensures { λ _. ⌜ (scheduleIn (now (w .exit)) ≡ placedFrom (sheetIn (now (w .entry))) (barred (sheetIn (now (w .entry)))) (scheduleIn (now (w .entry))) t k (startOn (sheetIn (now (w .entry))) (scheduleIn (now (w .entry))) t k)) × Going (now (w .entry)) (j + 1) (now (w .exit)) (now (kept .exit)) × Keyed (sheetIn (now (w .exit))) (scheduleIn (now (w .exit))) (now (q .exit)) ⌝ }
 {
-    put_on(w, j, t, k);
-    readiness::renew(w, q, t);
+    put_on(w, kept, j, t, k);
+    readiness::renew(w, kept, q, t);
 }
 
 // The first ready task, which is surveyed, goes where the steps say, or is refused.
-fn place_surveyed(w: &mut [u32], q: &mut [u64], j: usize, t: usize) -> Planned
-    requires { ⌜ Going (now w) j (now w) ⌝ }
+fn place_surveyed(w: &mut [u32], kept: &mut [u32], q: &mut [u64], j: usize, t: usize) -> Planned
+    requires { ⌜ Going (now w) j (now w) (now kept) ⌝ }
     requires { ⌜ (j < 256) × (t < taskCount (sheetIn (now w))) ⌝ }
-    requires { ⌜ (ready (sheetIn (now w)) (scheduleIn (now w)) t ≡ true) × Surveyed (sheetIn (now w)) (scheduleIn (now w)) t (now w) ⌝ }
+    requires { ⌜ (ready (sheetIn (now w)) (scheduleIn (now w)) t ≡ true) × Surveyed (sheetIn (now w)) (scheduleIn (now w)) t (now kept) ⌝ }
     requires { ⌜ Keyed (sheetIn (now w)) (scheduleIn (now w)) (now q) ⌝ }
-    ensures { λ r. ⌜ (answerOf r (scheduleIn (now (w .exit))) ≡ placeOn (sheetIn (now (w .entry))) (barred (sheetIn (now (w .entry)))) (scheduleIn (now (w .entry))) t (choice (sheetIn (now (w .entry))) (barred (sheetIn (now (w .entry)))) (scheduleIn (now (w .entry))) t)) × Going (now (w .entry)) (j + 1) (now (w .exit)) × Keyed (sheetIn (now (w .exit))) (scheduleIn (now (w .exit))) (now (q .exit)) ⌝ }
+    ensures { λ r. ⌜ (answerOf r (scheduleIn (now (w .exit))) ≡ placeOn (sheetIn (now (w .entry))) (barred (sheetIn (now (w .entry)))) (scheduleIn (now (w .entry))) t (choice (sheetIn (now (w .entry))) (barred (sheetIn (now (w .entry)))) (scheduleIn (now (w .entry))) t)) × Going (now (w .entry)) (j + 1) (now (w .exit)) (now (kept .exit)) × Keyed (sheetIn (now (w .exit))) (scheduleIn (now (w .exit))) (now (q .exit)) ⌝ }
 {
-    match placing::choice_of(w, q, t) {
+    match placing::choice_of(w, kept, q, t) {
         Found::Nothing => Planned::Refused(t),
         Found::At(k) => {
-            place_on(w, q, j, t, k);
+            place_on(w, kept, q, j, t, k);
             Planned::Done
         }
     }
 }
 
 // The first ready task is surveyed, and goes where the steps say.
-fn place_task(w: &mut [u32], q: &mut [u64], j: usize, t: usize) -> Planned
-    requires { ⌜ Going (now w) j (now w) ⌝ }
+fn place_task(w: &mut [u32], kept: &mut [u32], q: &mut [u64], j: usize, t: usize) -> Planned
+    requires { ⌜ Going (now w) j (now w) (now kept) ⌝ }
     requires { ⌜ (j < 256) × (t < taskCount (sheetIn (now w))) ⌝ }
     requires { ⌜ ready (sheetIn (now w)) (scheduleIn (now w)) t ≡ true ⌝ }
     requires { ⌜ Keyed (sheetIn (now w)) (scheduleIn (now w)) (now q) ⌝ }
-    ensures { λ r. ⌜ (answerOf r (scheduleIn (now (w .exit))) ≡ placeOn (sheetIn (now (w .entry))) (barred (sheetIn (now (w .entry)))) (scheduleIn (now (w .entry))) t (choice (sheetIn (now (w .entry))) (barred (sheetIn (now (w .entry)))) (scheduleIn (now (w .entry))) t)) × Going (now (w .entry)) (j + 1) (now (w .exit)) × Keyed (sheetIn (now (w .exit))) (scheduleIn (now (w .exit))) (now (q .exit)) ⌝ }
+    ensures { λ r. ⌜ (answerOf r (scheduleIn (now (w .exit))) ≡ placeOn (sheetIn (now (w .entry))) (barred (sheetIn (now (w .entry)))) (scheduleIn (now (w .entry))) t (choice (sheetIn (now (w .entry))) (barred (sheetIn (now (w .entry)))) (scheduleIn (now (w .entry))) t)) × Going (now (w .entry)) (j + 1) (now (w .exit)) (now (kept .exit)) × Keyed (sheetIn (now (w .exit))) (scheduleIn (now (w .exit))) (now (q .exit)) ⌝ }
 {
-    arrivals::survey(w, t);
-    place_surveyed(w, q, j, t)
+    arrivals::survey(w, kept, t);
+    place_surveyed(w, kept, q, j, t)
 }
 
 // One turn.
-fn take_turn(w: &mut [u32], q: &mut [u64], j: usize) -> Planned
-    requires { ⌜ Going (now w) j (now w) ⌝ }
+fn take_turn(w: &mut [u32], kept: &mut [u32], q: &mut [u64], j: usize) -> Planned
+    requires { ⌜ Going (now w) j (now w) (now kept) ⌝ }
     requires { ⌜ j < 256 ⌝ }
     requires { ⌜ Keyed (sheetIn (now w)) (scheduleIn (now w)) (now q) ⌝ }
-    ensures { λ r. ⌜ (answerOf r (scheduleIn (now (w .exit))) ≡ turn (sheetIn (now (w .entry))) (barred (sheetIn (now (w .entry)))) (scheduleIn (now (w .entry)))) × Going (now (w .entry)) (j + 1) (now (w .exit)) × Keyed (sheetIn (now (w .exit))) (scheduleIn (now (w .exit))) (now (q .exit)) ⌝ }
+    ensures { λ r. ⌜ (answerOf r (scheduleIn (now (w .exit))) ≡ turn (sheetIn (now (w .entry))) (barred (sheetIn (now (w .entry)))) (scheduleIn (now (w .entry)))) × Going (now (w .entry)) (j + 1) (now (w .exit)) (now (kept .exit)) × Keyed (sheetIn (now (w .exit))) (scheduleIn (now (w .exit))) (now (q .exit)) ⌝ }
 {
-    match readiness::first_ready(w, q) {
+    match readiness::first_ready(w, kept, q) {
         Found::Nothing => Planned::Done,
-        Found::At(t) => place_task(w, q, j, t),
+        Found::At(t) => place_task(w, kept, q, j, t),
     }
 }
 
 // Turns until all tasks are placed, or one is refused; q holds the keys of the empty schedule.
-fn take_each(w: &mut [u32], q: &mut [u64]) -> Planned
-    requires { ⌜ Going (now w) 0 (now w) ⌝ }
+fn take_each(w: &mut [u32], kept: &mut [u32], q: &mut [u64]) -> Planned
+    requires { ⌜ Going (now w) 0 (now w) (now kept) ⌝ }
     requires { ⌜ Keyed (sheetIn (now w)) (scheduleIn (now w)) (now q) ⌝ }
-    ensures { λ r. ⌜ (answerOf r (scheduleIn (now (w .exit))) ≡ turns (sheetIn (now (w .entry))) (barred (sheetIn (now (w .entry)))) (taskCount (sheetIn (now (w .entry)))) (scheduleIn (now (w .entry)))) × Going (now (w .entry)) 256 (now (w .exit)) ⌝ }
+    ensures { λ r. ⌜ (answerOf r (scheduleIn (now (w .exit))) ≡ turns (sheetIn (now (w .entry))) (barred (sheetIn (now (w .entry)))) (taskCount (sheetIn (now (w .entry)))) (scheduleIn (now (w .entry)))) × Going (now (w .entry)) 256 (now (w .exit)) (now (kept .exit)) ⌝ }
 {
     let n = tables::tasks(w);
     let mut j: usize = 0;
     while j < n {
-        match take_turn(w, q, j) {
+        match take_turn(w, kept, q, j) {
             Planned::Refused(t) => {
                 return Planned::Refused(t);
             }
@@ -114,13 +114,13 @@ fn take_each(w: &mut [u32], q: &mut [u64]) -> Planned
 }
 
 // All turns, by the keys of who goes first.
-fn take_turns(w: &mut [u32]) -> Planned
-    requires { ⌜ Going (now w) 0 (now w) ⌝ }
-    ensures { λ r. ⌜ (answerOf r (scheduleIn (now (w .exit))) ≡ turns (sheetIn (now (w .entry))) (barred (sheetIn (now (w .entry)))) (taskCount (sheetIn (now (w .entry)))) (scheduleIn (now (w .entry)))) × Going (now (w .entry)) 256 (now (w .exit)) ⌝ }
+fn take_turns(w: &mut [u32], kept: &mut [u32]) -> Planned
+    requires { ⌜ Going (now w) 0 (now w) (now kept) ⌝ }
+    ensures { λ r. ⌜ (answerOf r (scheduleIn (now (w .exit))) ≡ turns (sheetIn (now (w .entry))) (barred (sheetIn (now (w .entry)))) (taskCount (sheetIn (now (w .entry)))) (scheduleIn (now (w .entry)))) × Going (now (w .entry)) 256 (now (w .exit)) (now (kept .exit)) ⌝ }
 {
     let mut keys = [0u64; 544];
-    readiness::begin(w, &mut keys);
-    take_each(w, &mut keys)
+    readiness::begin(w, kept, &mut keys);
+    take_each(w, kept, &mut keys)
 }
 
 // No task is placed.
@@ -155,9 +155,9 @@ pub fn schedule(w: &mut [u32]) -> Planned
     requires { ⌜ Single (sheetIn (now w)) ⌝ }
     ensures { λ r. ⌜ (answerOf r (scheduleIn (now (w .exit))) ≡ planned (sheetIn (now (w .entry)))) × Afterwards (now (w .entry)) (now (w .exit)) ⌝ }
 {
+    let mut kept = [0u32; 2640];
     clear(w);
-    arrivals::clear(w);
     chains::chain(w, End::Source);
-    arrivals::gather(w);
-    take_turns(w)
+    arrivals::gather(w, &mut kept);
+    take_turns(w, &mut kept)
 }

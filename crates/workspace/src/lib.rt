@@ -8,7 +8,7 @@ ghost use Rattle.workspace.specs.Area.{fixed, ClearIs};
 pub fn fixed_length() -> usize
     ensures { λ r. ⌜ r ≡ fixed ⌝ }
 {
-    8816
+    4896
 }
 
 // A word as an index or a sum.

@@ -1,53 +1,47 @@
 -- `gather_one` (src/lib.rt) keeps its contract.
 use native.Mathlib.Omega.{arith}
-use Rattle.arrivals.proofs.Gathering.{gather-small, gathered-by}
-use lib.ListN.{length-set}
-use borrow.Author.Needs.{needs}
 use denote.Ref.{now}
-use Rattle.sheet.proofs.Rows.{ranged, task-index}
 use mathlib.Core.Path.{refl}
+use lib.ListN.{length-set}
 use Rattle.sheet.specs.Tables.{sheetIn}
+use Rattle.sheet.proofs.Rows.{ranged, task-index}
+use Rattle.arrivals.proofs.Gathering.{gather-small, gathered-by}
+use borrow.Author.Needs.{needs}
 use Rattle.arrivals.proofs.gather_one.Statement.{statement}
 use Rattle.arrivals.proofs.gather_one.Tie as tie
 
-add-word : tie.Need-add-word
-add-word c = omega (arith, task-index (now (c .before .before .before .before .before .before .args .w)) (c .before .before .before .target .result) (c .before .before .before .before .before .before .pre .0) (c .before .before .before .target .ensures .1))
-
 word-requires : tie.Need-word-requires
-word-requires c κs = omega (arith, task-index (now (c .before .before .before .before .before .before .args .w)) (c .before .before .before .target .result) (c .before .before .before .before .before .before .pre .0) (c .before .before .before .target .ensures .1), c .before .before .before .before .before .before .pre .0 .long)
+word-requires c κs = omega (arith, task-index (now (c .before .before .before .before .before .args .w)) (c .before .before .target .result) (c .before .before .before .before .before .pre .0 .0) (c .before .before .target .ensures .1), c .before .before .before .before .before .pre .0 .1)
 
-add-word-2 : tie.Need-add-word-2
-add-word-2 c = omega (arith, task-index (now (c .before .before .before .before .before .before .before .before .args .w)) (c .before .before .before .before .before .target .result) (c .before .before .before .before .before .before .before .before .pre .0) (c .before .before .before .before .before .target .ensures .1))
+add-word : tie.Need-add-word
+add-word c = omega (arith, task-index (now (c .before .before .before .before .before .before .before .args .w)) (c .before .before .before .before .target .result) (c .before .before .before .before .before .before .before .pre .0 .0) (c .before .before .before .before .target .ensures .1))
 
 word-requires-2 : tie.Need-word-requires-2
-word-requires-2 c κs = omega (arith, task-index (now (c .before .before .before .before .before .before .before .before .args .w)) (c .before .before .before .before .before .target .result) (c .before .before .before .before .before .before .before .before .pre .0) (c .before .before .before .before .before .target .ensures .1), c .before .before .before .before .before .before .before .before .pre .0 .long)
+word-requires-2 c κs = omega (arith, task-index (now (c .before .before .before .before .before .before .before .args .w)) (c .before .before .before .before .target .result) (c .before .before .before .before .before .before .before .pre .0 .0) (c .before .before .before .before .target .ensures .1), c .before .before .before .before .before .before .before .pre .0 .1)
 
 narrow-requires : tie.Need-narrow-requires
-narrow-requires c κs = let s = c .before .before .before .before .before .before .before .before .before in let w = now (s .args .w) in omega (arith, gather-small (sheetIn w) w (s .args .l) (s .pre .0 .long) (ranged w (s .pre .0)) (s .pre .1 .0) (s .pre .1 .1) (c .before .before .before .before .before .before .target .result) (c .before .before .before .before .before .before .target .ensures .1), c .before .before .word .ensures .0)
+narrow-requires c κs = let s = c .before .before .before .before .before .before .before .before in let w = now (s .args .w) in omega (arith, gather-small (sheetIn w) (now (s .args .kept)) (s .args .l) (s .pre .0 .1) (ranged w (s .pre .0 .0)) (s .pre .1 .0) (s .pre .1 .1) (c .before .before .before .before .before .target .result) (c .before .before .before .before .before .target .ensures .1), c .before .before .word .ensures .0)
 
-add-w : tie.Need-add-w
-add-w c = omega (arith, task-index (now (c .before .before .before .before .before .before .before .before .before .before .args .w)) (c .before .before .before .before .before .before .before .target .result) (c .before .before .before .before .before .before .before .before .before .before .pre .0) (c .before .before .before .before .before .before .before .target .ensures .1))
+mul-kept : tie.Need-mul-kept
+mul-kept c = omega (arith, task-index (now (c .before .before .before .before .before .before .before .before .before .args .w)) (c .before .before .before .before .before .before .target .result) (c .before .before .before .before .before .before .before .before .before .pre .0 .0) (c .before .before .before .before .before .before .target .ensures .1))
 
-mul-w : tie.Need-mul-w
-mul-w c = omega (arith, task-index (now (c .before .before .before .before .before .before .before .before .before .before .args .w)) (c .before .before .before .before .before .before .before .target .result) (c .before .before .before .before .before .before .before .before .before .before .pre .0) (c .before .before .before .before .before .before .before .target .ensures .1))
-
-slice-write-w : tie.Need-slice-write-w
-slice-write-w c = omega (arith, task-index (now (c .before .before .before .before .before .before .before .before .before .before .args .w)) (c .before .before .before .before .before .before .before .target .result) (c .before .before .before .before .before .before .before .before .before .before .pre .0) (c .before .before .before .before .before .before .before .target .ensures .1), c .before .before .before .before .before .before .before .before .before .before .pre .0 .long)
+slice-write-kept : tie.Need-slice-write-kept
+slice-write-kept c = omega (arith, task-index (now (c .before .before .before .before .before .before .before .before .before .args .w)) (c .before .before .before .before .before .before .target .result) (c .before .before .before .before .before .before .before .before .before .pre .0 .0) (c .before .before .before .before .before .before .target .ensures .1), c .before .before .before .before .before .before .before .before .before .pre .0 .1)
 
 narrow-requires-2 : tie.Need-narrow-requires-2
-narrow-requires-2 c κs = let s = c .before .before .before .before .before .before .before .before .before .before in let w = now (s .args .w) in omega (arith, gather-small (sheetIn w) w (s .args .l) (s .pre .0 .long) (ranged w (s .pre .0)) (s .pre .1 .0) (s .pre .1 .1) (c .before .before .before .before .before .before .before .target .result) (c .before .before .before .before .before .before .before .target .ensures .1), c .before .word2 .ensures .0, c .before .before .before .before .before .size .ensures .1)
+narrow-requires-2 c κs = let s = c .before .before .before .before .before .before .before .before .before in let w = now (s .args .w) in omega (arith, gather-small (sheetIn w) (now (s .args .kept)) (s .args .l) (s .pre .0 .1) (ranged w (s .pre .0 .0)) (s .pre .1 .0) (s .pre .1 .1) (c .before .before .before .before .before .before .target .result) (c .before .before .before .before .before .before .target .ensures .1), c .before .word2 .ensures .0, c .before .before .before .before .before .size .ensures .1)
 
-add-w-2 : tie.Need-add-w-2
-add-w-2 c = omega (arith, task-index (now (c .before .before .before .before .before .before .before .before .before .before .before .args .w)) (c .before .before .before .before .before .before .before .before .target .result) (c .before .before .before .before .before .before .before .before .before .before .before .pre .0) (c .before .before .before .before .before .before .before .before .target .ensures .1))
+add-kept : tie.Need-add-kept
+add-kept c = omega (arith, task-index (now (c .before .before .before .before .before .before .before .before .before .before .args .w)) (c .before .before .before .before .before .before .before .target .result) (c .before .before .before .before .before .before .before .before .before .before .pre .0 .0) (c .before .before .before .before .before .before .before .target .ensures .1))
 
-mul-w-2 : tie.Need-mul-w-2
-mul-w-2 c = omega (arith, task-index (now (c .before .before .before .before .before .before .before .before .before .before .before .args .w)) (c .before .before .before .before .before .before .before .before .target .result) (c .before .before .before .before .before .before .before .before .before .before .before .pre .0) (c .before .before .before .before .before .before .before .before .target .ensures .1))
+mul-kept-2 : tie.Need-mul-kept-2
+mul-kept-2 c = omega (arith, task-index (now (c .before .before .before .before .before .before .before .before .before .before .args .w)) (c .before .before .before .before .before .before .before .target .result) (c .before .before .before .before .before .before .before .before .before .before .pre .0 .0) (c .before .before .before .before .before .before .before .target .ensures .1))
 
-slice-write-w-2 : tie.Need-slice-write-w-2
-slice-write-w-2 c = simp length-set (omega (arith, task-index (now (c .before .before .before .before .before .before .before .before .before .before .before .args .w)) (c .before .before .before .before .before .before .before .before .target .result) (c .before .before .before .before .before .before .before .before .before .before .before .pre .0) (c .before .before .before .before .before .before .before .before .target .ensures .1), c .before .before .before .before .before .before .before .before .before .before .before .pre .0 .long))
+slice-write-kept-2 : tie.Need-slice-write-kept-2
+slice-write-kept-2 c = simp length-set (omega (arith, task-index (now (c .before .before .before .before .before .before .before .before .before .before .args .w)) (c .before .before .before .before .before .before .before .target .result) (c .before .before .before .before .before .before .before .before .before .before .pre .0 .0) (c .before .before .before .before .before .before .before .target .ensures .1), c .before .before .before .before .before .before .before .before .before .before .pre .0 .1))
 
 returns : tie.Need-returns
-returns c = let s = c .before .before .before .before .before .before .before .before .before .before .before in let w = now (s .args .w) in gathered-by (sheetIn w) w (s .args .l) (s .pre .0 .long) (ranged w (s .pre .0)) (s .pre .1 .0) (s .pre .1 .1) _ (c .before .before .before .before .before .before .before .before .target .ensures .0) (c .before .before .before .before .before .before .size .ensures .0) (c .before .before .before .before .word .ensures .0) (c .before .before .word2 .ensures .0) (c .before .narrow .ensures) (c .narrow2 .ensures) refl
+returns c = let s = c .before .before .before .before .before .before .before .before .before .before in let w = now (s .args .w) in gathered-by (sheetIn w) (now (s .args .kept)) (s .args .l) (s .pre .0 .1) (ranged w (s .pre .0 .0)) (s .pre .1 .0) (s .pre .1 .1) _ (c .before .before .before .before .before .before .before .target .ensures .0) (c .before .before .before .before .before .before .size .ensures .0) (c .before .before .before .before .word .ensures .0) (c .before .before .word2 .ensures .0) (c .before .narrow .ensures) (c .narrow2 .ensures) refl
 
 pub gather-one-spec : {M : Type 1} → statement M
 gather-one-spec =
@@ -55,19 +49,17 @@ gather-one-spec =
     (tie.spec
     (λ c κs. search needs)
     (λ c κs. search needs)
-    add-word
     word-requires
-    add-word-2
+    add-word
     word-requires-2
     (λ c. search needs)
     narrow-requires
-    add-w
-    mul-w
-    slice-write-w
+    mul-kept
+    slice-write-kept
     (λ c. search needs)
     narrow-requires-2
-    add-w-2
-    mul-w-2
-    slice-write-w-2
+    add-kept
+    mul-kept-2
+    slice-write-kept-2
     (λ c. search needs)
     returns)

@@ -6,20 +6,20 @@ use borrow.Author.Needs.{needs}
 use Rattle.arrivals.proofs.write_link.Statement.{statement}
 use Rattle.arrivals.proofs.write_link.Tie as tie
 
-slice-write-w-2 : tie.Need-slice-write-w-2
-slice-write-w-2 c = simp length-set (omega arith)
+slice-write-kept-2 : tie.Need-slice-write-kept-2
+slice-write-kept-2 c = simp length-set (omega arith)
 
-slice-write-w-3 : tie.Need-slice-write-w-3
-slice-write-w-3 c = simp length-set (omega arith)
+slice-write-kept-3 : tie.Need-slice-write-kept-3
+slice-write-kept-3 c = simp length-set (omega arith)
 
-slice-write-w-4 : tie.Need-slice-write-w-4
-slice-write-w-4 c = simp length-set (omega arith)
+slice-write-kept-4 : tie.Need-slice-write-kept-4
+slice-write-kept-4 c = simp length-set (omega arith)
 
-slice-write-w-5 : tie.Need-slice-write-w-5
-slice-write-w-5 c = simp length-set (omega arith)
+slice-write-kept-5 : tie.Need-slice-write-kept-5
+slice-write-kept-5 c = simp length-set (omega arith)
 
-slice-write-w-6 : tie.Need-slice-write-w-6
-slice-write-w-6 c = simp length-set (omega arith)
+slice-write-kept-6 : tie.Need-slice-write-kept-6
+slice-write-kept-6 c = simp length-set (omega arith)
 
 same-length : tie.Need-same-length
 same-length c = simp length-set
@@ -39,24 +39,24 @@ write-link-spec =
     (λ c κs. search needs)
     (λ c. search needs)
     (λ c. search needs)
-    slice-write-w-2
+    slice-write-kept-2
     (λ c κs. search needs)
     (λ c. search needs)
     (λ c. search needs)
-    slice-write-w-3
+    slice-write-kept-3
     (λ c κs. search needs)
     (λ c. search needs)
     (λ c. search needs)
-    slice-write-w-4
+    slice-write-kept-4
     (λ c κs. search needs)
     (λ c. search needs)
     (λ c. search needs)
-    slice-write-w-5
+    slice-write-kept-5
     (λ c κs. search needs)
     (λ c. search needs)
     (λ c. search needs)
     (λ c. search needs)
     (λ c. search needs)
-    slice-write-w-6
+    slice-write-kept-6
     same-length
     returns)

@@ -7,7 +7,7 @@ use Rattle.placing.proofs.another_one.Statement.{statement}
 use Rattle.placing.proofs.another_one.Tie as tie
 
 fits-on-requires : tie.Need-fits-on-requires
-fits-on-requires c κs = (c .before .before .before .before .pre, omega (arith, c .if1 .taken, c .before .processors .ensures .1))
+fits-on-requires c κs = (c .before .before .before .before .before .pre, omega (arith, c .if1 .taken, c .before .processors .ensures .1))
 
 returns : tie.Need-returns
 unfolding another

@@ -8,7 +8,7 @@ use Rattle.placing.proofs.choice_of.Statement.{statement}
 use Rattle.placing.proofs.choice_of.Tie as tie
 
 without-join-requires : tie.Need-without-join-requires
-without-join-requires c κs = (c .before .before .before .before .before .before .before .pre .0, (c .before .before .before .before .arrival-of .ensures .0, sym (ap foundOf (c .enum-told .given .1)) ∙ c .before .before .join-on .ensures .0))
+without-join-requires c κs = (c .before .before .before .before .before .before .before .before .pre .0, (c .before .before .before .before .arrival-of .ensures .0, sym (ap foundOf (c .enum-told .given .1)) ∙ c .before .before .join-on .ensures .0))
 
 returns : tie.Need-returns
 returns c = (choice-join _ _ _ (sym (ap foundOf (c .before .k .given .1)) ∙ c .before .before .before .join-on .ensures .0), below-at 16 (c .before .k .given .1) (c .before .before .before .join-on .ensures .1))

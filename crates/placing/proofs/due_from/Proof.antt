@@ -15,19 +15,19 @@ use Rattle.placing.proofs.due_from.Statement.{statement}
 use Rattle.placing.proofs.due_from.Tie as tie
 
 abbrev Inv-loop : tie.InvT-loop
-Inv-loop w t from m l₀ due₀ l due = (l ≤ m) × (l < linkCount (sheetIn w) → sourceOf (sheetIn w) l ≡ t) × (due ≡ sum l (dueBy (sheetIn w) (scheduleIn w) t from)) × (due ≤ 4294967295 * l)
+Inv-loop w kept t from m l₀ due₀ l due = (l ≤ m) × (l < linkCount (sheetIn w) → sourceOf (sheetIn w) l ≡ t) × (due ≡ sum l (dueBy (sheetIn w) (scheduleIn w) t from)) × (due ≤ 4294967295 * l)
 
 abbrev μ-loop : tie.MeasureT-loop
-μ-loop w t from m l₀ due₀ l due = m - l
+μ-loop w kept t from m l₀ due₀ l due = m - l
 
 links-requires : tie.Need-links-requires Inv-loop μ-loop
-links-requires c κs = c .before .pre .0 .kept .loaded
+links-requires c κs = c .before .before .pre .0 .kept .loaded
 
 first-requires : tie.Need-first-requires Inv-loop μ-loop
-first-requires c κs = (c .before .before .pre .0 .kept .loaded, (c .before .before .pre .0 .kept .caches .outward, c .before .before .pre .0 .task))
+first-requires c κs = (c .before .before .before .pre .0 .kept .loaded, (c .before .before .before .pre .0 .kept .caches .outward, c .before .before .before .pre .0 .task))
 
 loop-holds : tie.Need-loop-holds Inv-loop μ-loop
-loop-holds c = let s = c .before .before .before in
+loop-holds c = let s = c .before .before .before .before in
     let x = sheetIn (now (s .args .w)) in
     let y = scheduleIn (now (s .args .w)) in
     let d = s .pre .0 .kept .caches .outward in
@@ -39,22 +39,22 @@ loop-holds c = let s = c .before .before .before in
     )
 
 target-requires : tie.Need-target-requires Inv-loop μ-loop
-target-requires c κs = (c .before .before .before .before .before .pre .0 .kept .loaded, omega (arith, c .loop-test .taken, c .before .before .before .links .ensures .0))
+target-requires c κs = (c .before .before .before .before .before .before .pre .0 .kept .loaded, omega (arith, c .loop-test .taken, c .before .before .before .links .ensures .0))
 
 known-into-requires : tie.Need-known-into-requires Inv-loop μ-loop
-known-into-requires c κs = (c .before .before .before .before .before .before .pre .0 .kept, (c .target .ensures .1, target-free (c .before .before .before .before .before .before .pre .0) (c .before .before .loop .l) (omega (arith, c .before .loop-test .taken, c .before .before .before .before .links .ensures .0)) (c .before .before .loop .inv .1 (omega (arith, c .before .loop-test .taken, c .before .before .before .before .links .ensures .0))) (c .target .ensures .0), c .before .before .before .before .before .before .pre .1))
+known-into-requires c κs = (c .before .before .before .before .before .before .before .pre .0 .kept, (c .target .ensures .1, target-free (c .before .before .before .before .before .before .before .pre .0) (c .before .before .loop .l) (omega (arith, c .before .loop-test .taken, c .before .before .before .before .links .ensures .0)) (c .before .before .loop .inv .1 (omega (arith, c .before .loop-test .taken, c .before .before .before .before .links .ensures .0))) (c .target .ensures .0), c .before .before .before .before .before .before .before .pre .1))
 
 add-due : tie.Need-add-due Inv-loop μ-loop
 add-due c = omega (arith, c .before .before .before .loop .inv .0, c .before .before .before .loop .inv .3, c .before .before .before .before .before .links .ensures .1, c .known-into .ensures .1)
 
 next-requires : tie.Need-next-requires Inv-loop μ-loop
-next-requires c κs = (c .before .before .before .before .before .before .before .pre .0 .kept .loaded, (c .before .before .before .before .before .before .before .pre .0 .kept .caches .outward, omega (arith, c .before .before .loop-test .taken, c .before .before .before .before .before .links .ensures .0)))
+next-requires c κs = (c .before .before .before .before .before .before .before .before .pre .0 .kept .loaded, (c .before .before .before .before .before .before .before .before .pre .0 .kept .caches .outward, omega (arith, c .before .before .loop-test .taken, c .before .before .before .before .before .links .ensures .0)))
 
 loop-less : tie.Need-loop-less Inv-loop μ-loop
 loop-less c = omega (arith, c .before .before .before .loop-test .taken, c .next .ensures .2)
 
 loop-again : tie.Need-loop-again Inv-loop μ-loop
-loop-again c = let s = c .before .before .before .before .before .before .before .before in
+loop-again c = let s = c .before .before .before .before .before .before .before .before .before in
     let x = sheetIn (now (s .args .w)) in
     let y = scheduleIn (now (s .args .w)) in
     let d = s .pre .0 .kept .caches .outward in

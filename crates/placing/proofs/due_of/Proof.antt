@@ -8,7 +8,7 @@ use Rattle.placing.proofs.due_of.Statement.{statement}
 use Rattle.placing.proofs.due_of.Tie as tie
 
 returns : tie.Need-returns
-returns c = let a = c .before .before .before in due-byte (sheetIn (now (a .args .w))) (scheduleIn (now (a .args .w))) (a .args .t) (a .pre .1 .0) (c .before .if1 .taken) (a .args .k) (a .pre .1 .1) (c .four-of .ensures)
+returns c = let a = c .before .before .before .before in due-byte (sheetIn (now (a .args .w))) (scheduleIn (now (a .args .w))) (a .args .t) (a .pre .1 .0) (c .before .if1 .taken) (a .args .k) (a .pre .1 .1) (c .four-of .ensures)
 
 pub due-of-spec : {M : Type 1} → statement M
 due-of-spec =

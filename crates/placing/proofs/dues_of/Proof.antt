@@ -15,19 +15,19 @@ use Rattle.placing.proofs.dues_of.Statement.{statement}
 use Rattle.placing.proofs.dues_of.Tie as tie
 
 abbrev Inv-loop : tie.InvT-loop
-Inv-loop w t m l₀ x₀ l x = (l ≤ m) × (l < linkCount (sheetIn w) → sourceOf (sheetIn w) l ≡ t) × DuesTo (sheetIn w) (scheduleIn w) t l x
+Inv-loop w kept t m l₀ x₀ l x = (l ≤ m) × (l < linkCount (sheetIn w) → sourceOf (sheetIn w) l ≡ t) × DuesTo (sheetIn w) (scheduleIn w) t l x
 
 abbrev μ-loop : tie.MeasureT-loop
-μ-loop w t m l₀ x₀ l x = m - l
+μ-loop w kept t m l₀ x₀ l x = m - l
 
 links-requires : tie.Need-links-requires Inv-loop μ-loop
-links-requires c κs = c .before .pre .kept .loaded
+links-requires c κs = c .before .before .pre .kept .loaded
 
 first-requires : tie.Need-first-requires Inv-loop μ-loop
-first-requires c κs = (c .before .before .pre .kept .loaded, (c .before .before .pre .kept .caches .outward, c .before .before .pre .task))
+first-requires c κs = (c .before .before .before .pre .kept .loaded, (c .before .before .before .pre .kept .caches .outward, c .before .before .before .pre .task))
 
 loop-holds : tie.Need-loop-holds Inv-loop μ-loop
-loop-holds c = let s = c .before .before .before in
+loop-holds c = let s = c .before .before .before .before in
     let x = sheetIn (now (s .args .w)) in
     let y = scheduleIn (now (s .args .w)) in
     let o = s .pre .kept .caches .outward in
@@ -38,21 +38,21 @@ loop-holds c = let s = c .before .before .before in
     )
 
 target-requires : tie.Need-target-requires Inv-loop μ-loop
-target-requires c κs = (c .before .before .before .before .before .pre .kept .loaded, omega (arith, c .loop-test .taken, c .before .before .before .links .ensures .0))
+target-requires c κs = (c .before .before .before .before .before .before .pre .kept .loaded, omega (arith, c .loop-test .taken, c .before .before .before .links .ensures .0))
 
 more-due-requires : tie.Need-more-due-requires Inv-loop μ-loop
-more-due-requires c κs = let s = c .before .before .before .before .before .before in
+more-due-requires c κs = let s = c .before .before .before .before .before .before .before in
     let h : c .before .before .loop .l < linkCount (sheetIn (now (s .args .w))) = omega (arith, c .before .loop-test .taken, c .before .before .before .before .links .ensures .0) in
     (s .pre .kept, (c .target .ensures .1, target-free (s .pre) (c .before .before .loop .l) h (c .before .before .loop .inv .1 h) (c .target .ensures .0), small-dues (c .before .before .loop .inv .2) (omega (arith, c .before .before .before .before .links .ensures .1, c .before .before .before .before .links .ensures .0, h))))
 
 next-requires : tie.Need-next-requires Inv-loop μ-loop
-next-requires c κs = (c .before .before .before .before .before .before .before .pre .kept .loaded, (c .before .before .before .before .before .before .before .pre .kept .caches .outward, omega (arith, c .before .before .loop-test .taken, c .before .before .before .before .before .links .ensures .0)))
+next-requires c κs = (c .before .before .before .before .before .before .before .before .pre .kept .loaded, (c .before .before .before .before .before .before .before .before .pre .kept .caches .outward, omega (arith, c .before .before .loop-test .taken, c .before .before .before .before .before .links .ensures .0)))
 
 loop-less : tie.Need-loop-less Inv-loop μ-loop
 loop-less c = omega (arith, c .before .before .before .loop-test .taken, c .next .ensures .2)
 
 loop-again : tie.Need-loop-again Inv-loop μ-loop
-loop-again c = let s = c .before .before .before .before .before .before .before .before in
+loop-again c = let s = c .before .before .before .before .before .before .before .before .before in
     let x = sheetIn (now (s .args .w)) in
     let y = scheduleIn (now (s .args .w)) in
     let o = s .pre .kept .caches .outward in

@@ -6,19 +6,19 @@ use Rattle.placing.proofs.guard_of.Statement.{statement}
 use Rattle.placing.proofs.guard_of.Tie as tie
 
 priority-of-requires-2 : tie.Need-priority-of-requires-2
-priority-of-requires-2 c κs = let a = c .before .before .before .before .before .before .before in (a .pre .0 .kept, (a .pre .0 .levelled, below-at _ (c .before .before .u .given .1) (c .before .before .before .before .first-partly .ensures .1)))
+priority-of-requires-2 c κs = let a = c .before .before .before .before .before .before .before .before in (a .pre .0 .kept, (a .pre .0 .levelled, below-at _ (c .before .before .u .given .1) (c .before .before .before .before .first-partly .ensures .1)))
 
 bars-for-requires : tie.Need-bars-for-requires
-bars-for-requires c κs = let a = c .before .before .before .before .before .before .before .before .before in (a .pre .0, below-at _ (c .before .before .before .before .u .given .1) (c .before .before .before .before .before .before .first-partly .ensures .1))
+bars-for-requires c κs = let a = c .before .before .before .before .before .before .before .before .before .before in (a .pre .0, below-at _ (c .before .before .before .before .u .given .1) (c .before .before .before .before .before .before .first-partly .ensures .1))
 
 returns : tie.Need-returns
-returns c = guard-ahead _ _ (c .before .before .before .before .before .before .before .before .before .before .args .t) (c .before .before .before .before .before .before .before .first-partly .ensures .0) (c .before .before .before .before .before .u .given .1) (c .before .before .before .priority-of .ensures .0) (c .before .before .priority-of2 .ensures .0) (c .before .if1 .taken) (c .bars-for .ensures)
+returns c = guard-ahead _ _ (c .before .before .before .before .before .before .before .before .before .before .before .args .t) (c .before .before .before .before .before .before .before .first-partly .ensures .0) (c .before .before .before .before .before .u .given .1) (c .before .before .before .priority-of .ensures .0) (c .before .before .priority-of2 .ensures .0) (c .before .if1 .taken) (c .bars-for .ensures)
 
 returns-2 : tie.Need-returns-2
-returns-2 c = guard-none _ _ (c .before .before .before .before .before .args .t) (c .before .before .first-partly .ensures .0) (c .enum-told .given .1)
+returns-2 c = guard-none _ _ (c .before .before .before .before .before .before .args .t) (c .before .before .first-partly .ensures .0) (c .enum-told .given .1)
 
 returns-3 : tie.Need-returns-3
-returns-3 c = guard-behind _ _ (c .before .before .before .before .before .before .before .before .before .args .t) (c .before .before .before .before .before .before .first-partly .ensures .0) (c .before .before .before .before .u .given .1) (c .before .before .priority-of .ensures .0) (c .before .priority-of2 .ensures .0) (c .if1 .left)
+returns-3 c = guard-behind _ _ (c .before .before .before .before .before .before .before .before .before .before .args .t) (c .before .before .before .before .before .before .first-partly .ensures .0) (c .before .before .before .before .u .given .1) (c .before .before .priority-of .ensures .0) (c .before .priority-of2 .ensures .0) (c .if1 .left)
 
 pub guard-of-spec : {M : Type 1} → statement M
 guard-of-spec =

@@ -7,7 +7,7 @@ use Rattle.placing.proofs.idle_on.Statement.{statement}
 use Rattle.placing.proofs.idle_on.Tie as tie
 
 returns-2 : tie.Need-returns-2
-returns-2 c = let a = c .before .before .before .before .before in (none-idle (now (a .args .w)) (a .args .t) (a .pre .0) (a .pre .1) (c .before .before .before .due-from .ensures) (c .before .before .opened .ensures .0) (sym (c .before .may-be-idle .ensures) ∙ c .if1 .left), tt)
+returns-2 c = let a = c .before .before .before .before .before .before in (none-idle (now (a .args .w)) (now (a .args .kept)) (a .args .t) (a .pre .0) (a .pre .1) (c .before .before .before .due-from .ensures) (c .before .before .opened .ensures .0) (sym (c .before .may-be-idle .ensures) ∙ c .if1 .left), tt)
 
 pub idle-on-spec : {M : Type 1} → statement M
 idle-on-spec =

@@ -5,7 +5,7 @@ use Rattle.placing.proofs.join_key.Statement.{statement}
 use Rattle.placing.proofs.join_key.Tie as tie
 
 returns : tie.Need-returns
-returns c = let a = c .before .before .before .before .before .before in join-key-is _ _ (a .args .t) (a .args .k) (a .pre .1 .0 .1) (a .pre .1 .1) (a .pre .1 .0 .2) (c .before .before .before .before .start-on .ensures .0) (a .pre .1 .0 .0) (c .before .before .fits-on .ensures) (c .before .before .before .are-both .ensures) (c .before .are-both2 .ensures) (c .low-key .ensures)
+returns c = let a = c .before .before .before .before .before .before .before in join-key-is _ _ (a .args .t) (a .args .k) (a .pre .1 .0 .1) (a .pre .1 .1) (a .pre .1 .0 .2) (c .before .before .before .before .start-on .ensures .0) (a .pre .1 .0 .0) (c .before .before .fits-on .ensures) (c .before .before .before .are-both .ensures) (c .before .are-both2 .ensures) (c .low-key .ensures)
 
 pub join-key-spec : {M : Type 1} → statement M
 join-key-spec =

@@ -28,7 +28,7 @@ loop-again c = let x = c .before .before .before .before .before .before .before
     (omega (arith, c .before .before .before .before .loop-test .taken), c .is-either .ensures ∙ ap₂ either (c .before .before .before .before .before .loop .inv .1) (c .before .are-both .ensures ∙ ap₂ (λ (i j : ℕ). both (leb i (x .args .a)) (leb j (x .args .d))) e p) ∙ sym (any-one _ _))
 
 returns : tie.Need-returns Inv-loop μ-loop
-returns c = c .before .loop .inv .1 ∙ ap (λ (j : ℕ). any j (mayBeIdle (now (c .before .before .before .args .w)) (c .before .before .before .args .a) (c .before .before .before .args .d))) (omega (arith, c .before .loop .inv .0, c .loop-test .left))
+returns c = c .before .loop .inv .1 ∙ ap (λ (j : ℕ). any j (mayBeIdle (now (c .before .before .before .args .kept)) (c .before .before .before .args .a) (c .before .before .before .args .d))) (omega (arith, c .before .loop .inv .0, c .loop-test .left))
 
 pub may-be-idle-spec : {M : Type 1} → statement M
 may-be-idle-spec =

@@ -6,10 +6,10 @@ use Rattle.readiness.proofs.is_ready.Statement.{statement}
 use Rattle.readiness.proofs.is_ready.Tie as tie
 
 returns : tie.Need-returns
-returns c = placed-ready _ _ (c .before .before .before .args .t) (sym (c .before .is-placed .ensures) ∙ c .if1 .taken)
+returns c = placed-ready _ _ (c .before .before .before .before .args .t) (sym (c .before .is-placed .ensures) ∙ c .if1 .taken)
 
 returns-2 : tie.Need-returns-2
-returns-2 c = ready-kept (c .before .before .before .before .before .pre .0 .caches) (c .before .before .before .before .before .args .t) (c .before .before .before .before .before .pre .1) (c .before .word .ensures .0) (c .word2 .ensures .0) (sym (c .before .before .before .is-placed .ensures) ∙ c .before .before .if1 .left)
+returns-2 c = ready-kept (c .before .before .before .before .before .before .pre .0 .caches) (c .before .before .before .before .before .before .args .t) (c .before .before .before .before .before .before .pre .1) (c .before .word .ensures .0) (c .word2 .ensures .0) (sym (c .before .before .before .is-placed .ensures) ∙ c .before .before .if1 .left)
 
 pub is-ready-spec : {M : Type 1} → statement M
 is-ready-spec =
@@ -18,7 +18,6 @@ is-ready-spec =
     (λ c κs. search needs)
     (λ c. search needs)
     (λ c κs. search needs)
-    (λ c. search needs)
     (λ c κs. search needs)
     returns
     returns-2)

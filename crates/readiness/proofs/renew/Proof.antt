@@ -6,7 +6,7 @@ use Rattle.readiness.proofs.renew.Tie as tie
 
 renew-targets-requires : tie.Need-renew-targets-requires
 renew-targets-requires c κs =
-    let a = c .before .before .before .before .before .before .before in
+    let a = c .before .before .before .before .before .before .before .before in
     (a .pre .0, (a .pre .1 .0, (a .pre .1 .1 .0, (a .pre .1 .1 .1 .0, past-begins (a .args .t) (a .pre .0 .ranged) (a .pre .1 .1 .1 .0) (c .before .before .before .put .ensures) (a .pre .1 .1 .1 .1)))))
 
 pub renew-spec : {M : Type 1} → statement M

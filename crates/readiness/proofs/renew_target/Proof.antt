@@ -10,7 +10,7 @@ use Rattle.readiness.proofs.renew_target.Tie as tie
 
 returns : tie.Need-returns
 returns c =
-    let a = c .before .before .before .before .before .before .before .before .before .before .before .before .before .before in
+    let a = c .before .before .before .before .before .before .before .before .before .before .before .before .before .before .before in
     let t = a .args .t in
     let wait = a .pre .1 .1 .1 .1 .1 in
     let is = all-known (a .pre .0 .caches) t (a .pre .1 .1 .1 .0) (c .before .before .before .before .before .before .before .before .before .before .word .ensures .0) (c .before .before .before .before .before .before .before .before .before .word2 .ensures .0) (wait .free) (c .before .before .before .before .before .before .before .before .if1 .taken) in
@@ -19,7 +19,7 @@ returns c =
 
 returns-2 : tie.Need-returns-2
 returns-2 c =
-    let a = c .before .before .before .before .before .before .before .before .before .before in
+    let a = c .before .before .before .before .before .before .before .before .before .before .before in
     let t = a .args .t in
     let wait = a .pre .1 .1 .1 .1 .1 in
     let is = some-known (a .pre .0 .caches) t (a .pre .1 .1 .1 .0) (c .before .before .before .before .before .before .word .ensures .0) (c .before .before .before .before .before .word2 .ensures .0) (wait .free) (wait .known) (c .before .before .before .before .if1 .left) in
@@ -33,7 +33,6 @@ renew-target-spec =
     (λ c κs. search needs)
     (λ c. search needs)
     (λ c κs. search needs)
-    (λ c. search needs)
     (λ c κs. search needs)
     (λ c κs. search needs)
     (λ c. search needs)

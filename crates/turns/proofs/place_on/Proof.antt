@@ -9,11 +9,17 @@ use Rattle.turns.proofs.place_on.Statement.{statement}
 use Rattle.turns.proofs.place_on.Tie as tie
 
 renew-requires : tie.Need-renew-requires
-renew-requires c κs = let a = c .before .before .before .before .before .before .before .before in let g = c .before .before .before .before .put-on .ensures .1 in
+renew-requires c κs = let a = c .before .before .before .before .before .before .before .before .before .before .before .before .before in let g = c .before .before .before .before .before .before .before .put-on .ensures .1 in
     let h = a .pre .1 in
-    let can = placeable (now (a .args .w)) (a .args .t) (a .args .k) (choosing (a .pre .0) (h .0 .1) (h .1 .0 .0) (h .1 .0 .1)) (h .0 .2) in
-    (g .kept, (g .levelled, (early (g .timely) (omega (arith, h .0 .0)), (still-task (h .0 .1) (g .sheet), placed-beside (a .args .t) (a .args .k) can (h .1 .1) (g .sheet) (c .before .before .before .before .put-on .ensures .0)))))
+    let can = placeable (now (a .args .w)) (now (a .args .kept)) (a .args .t) (a .args .k) (choosing (a .pre .0) (h .0 .1) (h .1 .0 .0) (h .1 .0 .1)) (h .0 .2) in
+    (g .kept, (g .levelled, (early (g .timely) (omega (arith, h .0 .0)), (still-task (h .0 .1) (g .sheet), placed-beside (a .args .t) (a .args .k) can (h .1 .1) (g .sheet) (c .before .before .before .before .before .before .before .put-on .ensures .0)))))
 
 pub place-on-spec : {M : Type 1} → statement M
 place-on-spec =
-    tie.close (tie.spec (λ c κs. search needs) renew-requires (λ c. search needs) (λ c. search needs) (λ c. search needs))
+    tie.close (tie.spec
+    (λ c κs. search needs)
+    renew-requires
+    (λ c. search needs)
+    (λ c. search needs)
+    (λ c. search needs)
+    (λ c. search needs))

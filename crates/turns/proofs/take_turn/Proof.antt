@@ -10,13 +10,13 @@ use Rattle.turns.proofs.take_turn.Statement.{statement}
 use Rattle.turns.proofs.take_turn.Tie as tie
 
 place-task-requires : tie.Need-place-task-requires
-place-task-requires c κs = let a = c .before .before .before .before .before .before .before .before .before .before in (a .pre .0, ((a .pre .1 .0, below-at _ (c .before .before .before .t .given .1) (c .before .before .before .before .before .first-ready .ensures .1)), (first-is-ready _ _ _ (sym (ap foundOf (c .before .before .before .t .given .1)) ∙ c .before .before .before .before .before .first-ready .ensures .0), a .pre .1 .1)))
+place-task-requires c κs = let a = c .before .before .before .before .before .before .before .before .before .before .before .before .before in (a .pre .0, ((a .pre .1 .0, below-at _ (c .before .before .before .before .t .given .1) (c .before .before .before .before .before .before .first-ready .ensures .1)), (first-is-ready _ _ _ (sym (ap foundOf (c .before .before .before .before .t .given .1)) ∙ c .before .before .before .before .before .before .first-ready .ensures .0), a .pre .1 .1)))
 
 returns : tie.Need-returns
-returns c = (turn-none _ _ (sym (ap foundOf (c .enum-told .given .1)) ∙ c .before .before .first-ready .ensures .0), later-turns (omega arith) (c .before .before .before .before .before .before .before .pre .0), c .before .before .before .before .before .before .before .pre .1 .1)
+returns c = (turn-none _ _ (sym (ap foundOf (c .enum-told .given .1)) ∙ c .before .before .first-ready .ensures .0), later-turns (omega arith) (c .before .before .before .before .before .before .before .before .before .pre .0), c .before .before .before .before .before .before .before .before .before .pre .1 .1)
 
 returns-2 : tie.Need-returns-2
-returns-2 c = (turn-some _ _ (sym (ap foundOf (c .before .before .before .before .before .before .before .before .t .given .1)) ∙ c .before .before .before .before .before .before .before .before .before .before .first-ready .ensures .0) (c .before .before .before .before .place-task .ensures .0), c .before .before .before .before .place-task .ensures .1, c .before .before .before .before .place-task .ensures .2)
+returns-2 c = (turn-some _ _ (sym (ap foundOf (c .before .before .before .before .before .before .before .before .before .before .before .t .given .1)) ∙ c .before .before .before .before .before .before .before .before .before .before .before .before .before .first-ready .ensures .0) (c .before .before .before .before .before .before .place-task .ensures .0), c .before .before .before .before .before .before .place-task .ensures .1, c .before .before .before .before .before .before .place-task .ensures .2)
 
 pub take-turn-spec : {M : Type 1} → statement M
 take-turn-spec =
@@ -28,7 +28,9 @@ take-turn-spec =
     place-task-requires
     (λ c. search needs)
     (λ c. search needs)
+    (λ c. search needs)
     returns
+    (λ c. search needs)
     (λ c. search needs)
     (λ c. search needs)
     returns-2)

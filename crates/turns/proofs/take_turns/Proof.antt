@@ -7,7 +7,7 @@ use Rattle.turns.proofs.take_turns.Statement.{statement}
 use Rattle.turns.proofs.take_turns.Tie as tie
 
 begin-requires : tie.Need-begin-requires
-begin-requires c κs = let g = c .before .before .before .pre in (g .kept, (g .levelled, (early (g .timely) (omega arith), refl)))
+begin-requires c κs = let g = c .before .before .before .before .before .pre in (g .kept, (g .levelled, (early (g .timely) (omega arith), refl)))
 
 pub take-turns-spec : {M : Type 1} → statement M
 take-turns-spec =
@@ -17,5 +17,6 @@ take-turns-spec =
     begin-requires
     (λ c. search needs)
     (λ c κs. search needs)
+    (λ c. search needs)
     (λ c. search needs)
     (λ c. search needs))

@@ -35,7 +35,6 @@ empty-all-spec =
     (tie.spec
     Inv-loop
     μ-loop
-    (λ c. search needs)
     (λ c κs. search needs)
     loop-holds
     (λ c κs. search needs)

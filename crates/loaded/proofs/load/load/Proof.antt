@@ -1,21 +1,20 @@
 -- `load` (src/load.rt) keeps its contract.
-use mathlib.Core.Path.{refl}
+use native.Mathlib.Omega.{arith}
 use Rattle.loaded.proofs.Fresh.{loaded-all}
 use borrow.Author.Needs.{needs}
 use Rattle.loaded.proofs.load.load.Statement.{statement}
 use Rattle.loaded.proofs.load.load.Tie as tie
 
 returns : tie.Need-returns
-returns c = loaded-all _ _ _ _ _ _ _ _ _ _ _ refl (c .before .before .before .before .before .before .before .before .before .before .wipe .ensures) (c .before .before .before .before .before .before .empty-all .ensures) (c .before .before .load-all .ensures)
+returns c = loaded-all _ _ _ _ _ _ _ _ _ _ _ (omega arith) (c .before .before .before .before .before .before .before .before .before .before .before .before .before .before .wipe .ensures) (c .before .before .before .before .before .before .before .before .before .before .load-works .ensures) (c .before .before .before .before .before .before .empty-all .ensures) (c .before .before .load-all .ensures)
 
 pub load-spec : {M : Type 1} → statement M
 load-spec =
     tie.close
     (tie.spec
-    (λ c. search needs)
     (λ c κs. search needs)
     (λ c κs. search needs)
-    (λ c. search needs)
+    (λ c κs. search needs)
     (λ c κs. search needs)
     (λ c. search needs)
     returns)
