@@ -36,10 +36,6 @@ pub chained-under : {s : Sheet} {w w′ : List ℕ} → Rechained Source w w′ 
 unfolding headOf nextOf
 chained-under r = chained-same (λ t h. r .under (2576 + t)) (λ l h. r .under (2832 + l))
 
-pub next-frame : (e : End) (w w′ : List ℕ) (l : ℕ) → getD w′ (2832 + l) 0 ≡ getD w (2832 + l) 0 → nextOf e w′ l ≡ nextOf e w l
-unfolding nextOf
-next-frame e w w′ l q = ap (half e) q
-
 -- a sum to which only the links of t give something
 module _ {e : End} {s : Sheet} {w : List ℕ} (d : Chained e s w) (t : ℕ) (t-in : t < taskCount s) (f : ℕ → ℕ) (else : (l : ℕ) → l < linkCount s → endBy e s l ≢ t → f l ≡ 0) where
   pub own-first : {l : ℕ} → l ≡ headOf e w t → l < linkCount s → endBy e s l ≡ t

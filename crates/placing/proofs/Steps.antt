@@ -107,6 +107,11 @@ module _ (w own : List ℕ) (t : ℕ) (c : Choosing w own t) {a d : ℕ} (ea : a
       go (no l) (yes b) = sym (idle-late (sheetIn w) (scheduleIn w) t k (c .kept .caches .ends .ends k h) ea b)
       go (no l) (no b) = absurd (true≢false (sym (parts-both (leb (getD own (1536 + k) 0) a) (leb (getD own (1568 + k) 0) d) (le-leb (getD own (1536 + k) 0) a (omega arith)) (le-leb (getD own (1568 + k) 0) d (omega arith))) ∙ e))
 
+  -- as the code tests it
+  pub not-idle : (k : ℕ) → k < 16 → {x p : ℕ} {b : Bool} → x ≡ endOf (sheetIn w) (scheduleIn w) k → p ≡ getD own (1568 + k) 0 → b ≡ both (leb x a) (leb p d) → b ≡ false → 0 ≡ idleKey (sheetIn w) (scheduleIn w) t k
+  unfolding mayBeIdle
+  not-idle k h ex ep eb e = sym (no-key k h (ap₂ both (ap (λ (y : ℕ). leb y a) (c .kept .caches .ends .ends k h ∙ sym ex)) (ap (λ (y : ℕ). leb y d) (sym ep)) ∙ sym eb ∙ e))
+
   pub none-idle : {n : ℕ} → n ≡ scheduleIn w .opened → any n (mayBeIdle own a d) ≡ false → none ≡ idle (sheetIn w) (barred (sheetIn w)) (scheduleIn w) t
   none-idle {n} en e =
       let few = c .kept .few-opened in

@@ -299,20 +299,17 @@ fn join_on(w: &[u32], kept: &[u32], t: usize, bars: usize, a: usize) -> Found
     processor_of(best)
 }
 
-// The key of k in step 2; a is t's arrival. Where more links from k wait than are due from all processors (d), which is
-// mostly so, nothing else is looked at.
+// The key of k in step 2; a is t's arrival. Where k ends later, or more links from it wait than are due from all processors (d),
+// which is mostly so, nothing else is looked at.
 fn idle_key(w: &[u32], kept: &[u32], t: usize, a: usize, d: usize, dues: Counts, k: usize) -> usize
     requires { ⌜ Choosing (now w) (now kept) t ⌝ }
     requires { ⌜ (a ≡ arrival (sheetIn (now w)) (scheduleIn (now w)) t) × (k < 16) ⌝ }
     requires { ⌜ Dues (sheetIn (now w)) (scheduleIn (now w)) t d dues ⌝ }
     ensures { λ r. ⌜ r ≡ idleKey (sheetIn (now (w .entry))) (scheduleIn (now (w .entry))) t k ⌝ }
 {
-    let p = workspace::word(kept, 1568 + k);
-    if d < p {
-        return 0;
-    }
     let e = end_of(w, kept, k);
-    if e <= a {
+    let p = workspace::word(kept, 1568 + k);
+    if are_both(e <= a, p <= d) {
         if is_spent(w, kept, t, d, dues, k, p) {
             if fits_on(w, kept, t, k) {
                 return high_key(e, k);

@@ -26,9 +26,6 @@ module _ (w : List ℕ) (t k a b p o : ℕ) (long : fixed ≤ length w) (t-small
   pub put-low : (i : ℕ) → i < 3856 → getD new i 0 ≡ getD w i 0
   put-low i h = put-away i (omega arith) (omega arith) (omega arith) (omega arith) (omega arith) (omega arith)
 
-  pub put-high : (i : ℕ) → 4882 ≤ i → getD new i 0 ≡ getD w i 0
-  put-high i h = put-away i (omega arith) (omega arith) (omega arith) (omega arith) (omega arith) (omega arith)
-
   pub put-long : length new ≡ length w
   unfolding putWords
   put-long = simp length-set
