@@ -5,17 +5,22 @@ use mathlib.Core.Path.{_≡_, refl, sym, _∙_}
 use mathlib.Core.Logic.{_≢_}
 use mathlib.Core.List.{List}
 use native.Mathlib.Omega.{arith}
-use native.Mathlib.Decide.{decLt}
+use native.Mathlib.Decide.{decLt, ℕ-discrete}
 use borrow.Author.Tests.{ne-eqb, lt-ltb, le-ltb}
-use lib.ListN.{getD}
+use lib.ListN.{length, getD}
 use lib.Dec.{eqb, ltb}
-use Rattle.folds.specs.Folds.{both, either}
+use Rattle.folds.specs.Folds.{pick, both, either}
+use Rattle.folds.proofs.Tests.{either-true}
 use Rattle.folds.proofs.Laws.{sum-cong, greatest-cong}
-use Rattle.sheet.specs.Sheet.{Sheet, taskCount, linkCount, sourceOf}
+use Rattle.sheet.specs.Sheet.{Sheet, taskCount, linkCount, sourceOf, targetOf}
+use Rattle.sheet.specs.Tables.{sheetIn, Loaded}
+use Rattle.sheet.proofs.Rows.{ranged}
 use Rattle.planner.specs.Schedule.{Schedule, placed}
+use Rattle.planner.specs.Placing.{reachBy}
+use Rattle.schedule.specs.Layout.{scheduleIn}
 use Rattle.chains.specs.Chains.{headOf, nextOf, Chained}
 use Rattle.chains.specs.declared.End.the-variants.{Source}
-use Rattle.arrivals.specs.Kept.{countedBy, known, Gathered, Counted, Ends}
+use Rattle.arrivals.specs.Kept.{keptLength, countedBy, into, known, oneBy, Single, Gathered, Counted, Ends, Kept, Arrived}
 use Rattle.arrivals.specs.Steps.{upTo, Beside}
 use Rattle.arrivals.proofs.Fours.{four-cong}
 
@@ -42,14 +47,18 @@ up-skip s σ t a b l none h = go (decLt l a) (decLt l b)
     go (no p) (yes q) = rw (ne-eqb (sourceOf s l) t (none l (omega arith) q))
     go (no p) (no q) = rw (le-ltb l a (omega arith), le-ltb l b (omega arith))
 
-up-all : (s : Sheet) (σ : Schedule) (t m l : ℕ) → l < m → upTo s σ t m l ≡ placed σ (sourceOf s l)
+-- all links from placed tasks, once those from t are
+up-all : (s : Sheet) (σ : Schedule) (t m l : ℕ) → (sourceOf s l ≡ t → l < m) → upTo s σ t m l ≡ placed σ (sourceOf s l)
 unfolding upTo
-up-all s σ t m l h = rw (lt-ltb l m h) (go (placed σ (sourceOf s l)) (not (eqb (sourceOf s l) t)))
+up-all s σ t m l h = go (ℕ-discrete (sourceOf s l) t)
   where
-    go : (a b : Bool) → both a (either b true) ≡ a
-    go true true = refl
-    go true false = refl
-    go false b = refl
+    both-true : (a : Bool) → both a true ≡ a
+    both-true true = refl
+    both-true false = refl
+
+    go : Dec (sourceOf s l ≡ t) → both (placed σ (sourceOf s l)) (either (not (eqb (sourceOf s l) t)) (ltb l m)) ≡ placed σ (sourceOf s l)
+    go (yes e) = rw (lt-ltb l m (h e), either-true (not (eqb (sourceOf s l) t))) (both-true (placed σ (sourceOf s l)))
+    go (no e) = rw (ne-eqb (sourceOf s l) t e) (both-true (placed σ (sourceOf s l)))
 
 -- words that are the same say the same
 pub counted-frame : {s : Sheet} {σ : Schedule} {c : ℕ → Bool} {w w′ : List ℕ} → taskCount s ≤ 256 → ((i : ℕ) → 512 ≤ i → i < 1536 → getD w′ i 0 ≡ getD w i 0) → ((i : ℕ) → 1568 ≤ i → i < 1584 → getD w′ i 0 ≡ getD w i 0)
@@ -109,4 +118,47 @@ module _ {s : Sheet} {σ : Schedule} {w : List ℕ} (chained : Chained Source s 
 pub walk-done : {s : Sheet} {σ : Schedule} {t l : ℕ} {kept₀ kept : List ℕ} → linkCount s ≤ l → Walking s σ t l kept₀ kept → Beside kept₀ kept × Counted s σ (known s σ) kept
 walk-done {s} {σ} {t} {l} h g =
     let e : l ≡ linkCount s = omega (arith, g .here) in
-    (g .beside, counted-same (known s σ) (λ i k. up-all s σ t l i (rw e k)) (g .counted))
+    (g .beside, counted-same (known s σ) (λ i k. up-all s σ t l i (λ own. rw e k)) (g .counted))
+
+pub kept-arrived : {w own : List ℕ} → Kept w own → (t : ℕ) → t < taskCount (sheetIn w) → Arrived w own t
+kept-arrived k t h =
+    record {
+      long = omega (arith, k .long);
+      loaded = k .loaded;
+      ranged = k .ranged;
+      task = h;
+      number = k .caches .gathered .number t h;
+      seen = k .caches .counted .seen t h;
+      arrived = k .caches .counted .arrived t h;
+    }
+
+-- link l out of t is counted: no other one joins t and its target v, so that all known links into v are
+module _ {w : List ℕ} (loaded : Loaded w) (single : Single (sheetIn w)) {t l v : ℕ} (l-in : l < linkCount (sheetIn w)) (from-t : sourceOf (sheetIn w) l ≡ t) (ev : v ≡ targetOf (sheetIn w) l) where
+  abbrev s : Sheet
+  s = sheetIn w
+
+  abbrev σ : Schedule
+  σ = scheduleIn w
+
+  into-same : (x : ℕ → ℕ) (i : ℕ) → i < linkCount s → countedBy (into s v) x (upTo s σ t (l + 1)) i ≡ countedBy (into s v) x (known s σ) i
+  unfolding countedBy
+  into-same x i h = go (ℕ-discrete (targetOf s i) v)
+    where
+      go : Dec (targetOf s i ≡ v) → pick (both (eqb (targetOf s i) v) (upTo s σ t (l + 1) i)) (x i) 0 ≡ pick (both (eqb (targetOf s i) v) (placed σ (sourceOf s i))) (x i) 0
+      go (yes d) = rw (up-all s σ t (l + 1) i (λ e. omega (arith, single .once i l h l-in (e ∙ sym from-t) (d ∙ ev))))
+      go (no d) = rw (ne-eqb (targetOf s i) v d)
+
+  pub target-arrived : {kept₀ kept kept′ : List ℕ} → keptLength ≤ length kept₀ → Gathered s kept₀ → Walking s σ t l kept₀ kept → Beside kept kept′ → Counted s σ (upTo s σ t (l + 1)) kept′ → Arrived w kept′ v
+  target-arrived long gathered g f counted =
+      let range = ranged w loaded in
+      let h : v < taskCount s = rw ev (range .target l l-in) in
+      let beside = beside-trans (g .beside) f in
+      record {
+        long = omega (arith, beside .long);
+        loaded = loaded;
+        ranged = range;
+        task = h;
+        number = beside .low v (omega (arith, range .few-tasks)) ∙ gathered .number v h;
+        seen = counted .seen v h ∙ sum-cong (linkCount s) _ _ (into-same oneBy);
+        arrived = counted .arrived v h ∙ greatest-cong (linkCount s) _ _ (into-same (reachBy s σ));
+      }

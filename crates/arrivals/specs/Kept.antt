@@ -109,3 +109,13 @@ pub record Kept (w own : List ℕ) : Type 0 where
   pub few-opened : scheduleIn w .opened ≤ 16
   pub standing : (u : ℕ) → placed (scheduleIn w) u ≡ true → placeOf (scheduleIn w) u < scheduleIn w .opened
   pub caches : Caches (sheetIn w) (scheduleIn w) w own
+
+-- .. and own words with the counts of the links into task t, of all and of those that are known
+pub record Arrived (w own : List ℕ) (t : ℕ) : Type 0 where
+  pub long : keptLength ≤ length own
+  pub loaded : Loaded w
+  pub ranged : Ranged (sheetIn w)
+  pub task : t < taskCount (sheetIn w)
+  pub number : getD own t 0 ≡ sum (linkCount (sheetIn w)) (countedBy (into (sheetIn w) t) oneBy (λ l. true))
+  pub seen : getD own (512 + t) 0 ≡ sum (linkCount (sheetIn w)) (countedBy (into (sheetIn w) t) oneBy (known (sheetIn w) (scheduleIn w)))
+  pub arrived : getD own (768 + t) 0 ≡ greatest (linkCount (sheetIn w)) (countedBy (into (sheetIn w) t) (reachBy (sheetIn w) (scheduleIn w)) (known (sheetIn w) (scheduleIn w)))

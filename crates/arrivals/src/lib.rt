@@ -2,7 +2,7 @@
 ghost use mathlib.Core.Path.{_≡_};
 ghost use mathlib.Core.Bool.{true};
 ghost use Prim.Native.Nat.{_+_, _*_, _%_, _^_, _<_, _≤_};
-ghost use lib.ListN.{getD, length};
+ghost use lib.ListN.{length};
 ghost use Rattle.folds.specs.Folds.{pick};
 ghost use Rattle.sheet.specs.Sheet.{taskCount, linkCount, sourceOf, targetOf};
 ghost use Rattle.sheet.specs.Tables.{sheetIn, Loaded};
@@ -11,8 +11,8 @@ ghost use Rattle.planner.specs.Placing.{ready, endOf};
 ghost use Rattle.schedule.specs.Layout.{scheduleIn};
 ghost use Rattle.chains.specs.Frames.{Only};
 ghost use Rattle.chains.specs.Chains.{Chained};
-ghost use Rattle.chains.specs.declared.End.the-variants.{Source, Target};
-ghost use Rattle.arrivals.specs.Kept.{keptLength, known, Single, Gathered, Counted, SurveyedTo, Surveyed, Ends, Kept};
+ghost use Rattle.chains.specs.declared.End.the-variants.{Target};
+ghost use Rattle.arrivals.specs.Kept.{keptLength, Single, Gathered, Counted, SurveyedTo, Surveyed, Ends, Kept};
 ghost use Rattle.arrivals.specs.Reach.{further};
 ghost use Rattle.arrivals.specs.Steps.{countWords, upTo, Beside, Placeable, Landed, Released, Enough, GatheredTo};
 use chains::End;
@@ -78,7 +78,7 @@ fn one_of(k: usize) -> usize
 }
 
 // Link l is counted; it leads from t, which stands on k until f.
-fn count_link(w: &[u32], kept: &mut [u32], t: usize, k: usize, f: usize, l: usize)
+pub fn count_link(w: &[u32], kept: &mut [u32], t: usize, k: usize, f: usize, l: usize)
     requires { ⌜ Loaded (now w) × (keptLength ≤ length (now kept)) ⌝ }
     requires { ⌜ (k < 16) × (f < 2147483648) × (l < linkCount (sheetIn (now w))) × (sourceOf (sheetIn (now w)) l ≡ t) ⌝ }
     requires { ⌜ Single (sheetIn (now w)) × Landed (sheetIn (now w)) (scheduleIn (now w)) t k f ⌝ }
@@ -103,23 +103,6 @@ fn count_link(w: &[u32], kept: &mut [u32], t: usize, k: usize, f: usize, l: usiz
         f + c,
     );
     write_link(kept, v, k, seen + 1, reach, pending + 1, number + one_of(k));
-}
-
-// All links out of t, which stands on k until f, are counted.
-pub fn count_links(w: &[u32], kept: &mut [u32], t: usize, k: usize, f: usize)
-    requires { ⌜ Loaded (now w) × (keptLength ≤ length (now kept)) ⌝ }
-    requires { ⌜ Chained Source (sheetIn (now w)) (now w) ⌝ }
-    requires { ⌜ (k < 16) × (f < 2147483648) × (t < taskCount (sheetIn (now w))) ⌝ }
-    requires { ⌜ Single (sheetIn (now w)) × Landed (sheetIn (now w)) (scheduleIn (now w)) t k f ⌝ }
-    requires { ⌜ Counted (sheetIn (now w)) (scheduleIn (now w)) (upTo (sheetIn (now w)) (scheduleIn (now w)) t 0) (now kept) ⌝ }
-    ensures { λ _. ⌜ Beside (now (kept .entry)) (now (kept .exit)) × Counted (sheetIn (now (w .entry))) (scheduleIn (now (w .entry))) (known (sheetIn (now (w .entry))) (scheduleIn (now (w .entry)))) (now (kept .exit)) ⌝ }
-{
-    let m = tables::links(w);
-    let mut l = chains::first(w, End::Source, t);
-    while l < m {
-        count_link(w, kept, t, k, f, l);
-        l = chains::next(w, End::Source, l);
-    }
 }
 
 // k ends at f with t on it, from a on.

@@ -20,6 +20,7 @@ use Rattle.planner.specs.Schedule.{Schedule, placed, stands, placeOf}
 use Rattle.planner.specs.Placing.{reachBy, arrival, priority, firstPartlyReady, endOf, startFrom, startOn, startWith, startAt, holdsBy, holdsPredecessor, bestStart, endsWith, delays, barredFor, barred}
 use Rattle.schedule.specs.Layout.{scheduleIn}
 use Rattle.arrivals.specs.Kept.{countedBy, intoFrom, known, Kept}
+use Rattle.arrivals.proofs.Walks.{kept-arrived}
 use Rattle.words.specs.Found.{foundOf}
 use Rattle.words.specs.declared.Found.{Found}
 use Rattle.words.specs.declared.Found.the-variants.{At, Nothing}
@@ -73,7 +74,7 @@ module _ (w own : List ℕ) (kept : Kept w own) (u : ℕ) (h : u < taskCount (sh
   other = getD own (1024 + u) 0
 
   latest-is : latest ≡ arrival s σ u
-  latest-is = arrival-kept (kept .caches) u h
+  latest-is = arrival-kept (kept-arrived kept u h)
 
   -- that processor is open and holds a predecessor of u
   module _ (late : 0 < latest) where

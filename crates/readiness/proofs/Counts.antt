@@ -11,10 +11,12 @@ use lib.Dec.{eqb, ltb}
 use Rattle.folds.specs.Folds.{pick, both, either, all, any, sum}
 use Rattle.folds.proofs.Tests.{both-false}
 use Rattle.folds.proofs.Laws.{all-eqb, any-ltb, sum-mono, sum-zeros}
-use Rattle.sheet.specs.Sheet.{Sheet, taskCount, linkCount, sourceOf, targetOf}
+use Rattle.sheet.specs.Sheet.{Sheet, linkCount, sourceOf, targetOf}
+use Rattle.sheet.specs.Tables.{sheetIn}
 use Rattle.planner.specs.Schedule.{Schedule, placed}
 use Rattle.planner.specs.Placing.{comes, lacks, satisfied, ready, partlyReady, arrivalBy, arrival}
-use Rattle.arrivals.specs.Kept.{countedBy, into, oneBy, known, Caches}
+use Rattle.schedule.specs.Layout.{scheduleIn}
+use Rattle.arrivals.specs.Kept.{countedBy, into, oneBy, known, Arrived}
 
 module _ (s : Sheet) (σ : Schedule) (t : ℕ) where
   pub placed-ready : placed σ t ≡ true → false ≡ ready s σ t
@@ -25,10 +27,16 @@ module _ (s : Sheet) (σ : Schedule) (t : ℕ) where
   unfolding partlyReady
   placed-partly e = rw e
 
-module _ {s : Sheet} {σ : Schedule} {w kept : List ℕ} (c : Caches s σ w kept) (t : ℕ) (h : t < taskCount s) where
+module _ {w kept : List ℕ} {t : ℕ} (c : Arrived w kept t) where
+  abbrev s : Sheet
+  s = sheetIn w
+
+  abbrev σ : Schedule
+  σ = scheduleIn w
+
   pub arrival-kept : getD kept (768 + t) 0 ≡ arrival s σ t
   unfolding arrival arrivalBy comes countedBy
-  arrival-kept = c .counted .arrived t h
+  arrival-kept = c .arrived
 
   less : (a b : Bool) → pick (both a b) 1 0 ≤ pick (both a true) 1 0
   less true true = omega arith
@@ -38,14 +46,14 @@ module _ {s : Sheet} {σ : Schedule} {w kept : List ℕ} (c : Caches s σ w kept
   few : getD kept (512 + t) 0 ≤ getD kept t 0
   unfolding countedBy
   few =
-      rw (c .counted .seen t h, c .gathered .number t h)
+      rw (c .seen, c .number)
       (sum-mono (linkCount s) (countedBy (into s t) oneBy (known s σ)) (countedBy (into s t) oneBy (λ l. true)) (λ l k. less (eqb (targetOf s l) t) (placed σ (sourceOf s l))))
 
   -- as many links are known as there are
   satisfied-kept : eqb (getD kept (512 + t) 0) (getD kept t 0) ≡ all (linkCount s) (satisfied s σ t)
   unfolding countedBy satisfied
   satisfied-kept =
-      rw (c .counted .seen t h, c .gathered .number t h)
+      rw (c .seen, c .number)
       (all-eqb (linkCount s) (countedBy (into s t) oneBy (known s σ)) (countedBy (into s t) oneBy (λ l. true)) (satisfied s σ t)
       (λ l k. less (eqb (targetOf s l) t) (placed σ (sourceOf s l))) (λ l k. is (eqb (targetOf s l) t) (placed σ (sourceOf s l))))
     where
@@ -57,7 +65,7 @@ module _ {s : Sheet} {σ : Schedule} {w kept : List ℕ} (c : Caches s σ w kept
   lacks-kept : ltb (getD kept (512 + t) 0) (getD kept t 0) ≡ any (linkCount s) (lacks s σ t)
   unfolding countedBy lacks
   lacks-kept =
-      rw (c .counted .seen t h, c .gathered .number t h)
+      rw (c .seen, c .number)
       (any-ltb (linkCount s) (countedBy (into s t) oneBy (known s σ)) (countedBy (into s t) oneBy (λ l. true)) (lacks s σ t)
       (λ l k. less (eqb (targetOf s l) t) (placed σ (sourceOf s l))) (λ l k. is (eqb (targetOf s l) t) (placed σ (sourceOf s l))))
     where
@@ -69,7 +77,7 @@ module _ {s : Sheet} {σ : Schedule} {w kept : List ℕ} (c : Caches s σ w kept
   comes-kept : ltb 0 (getD kept (512 + t) 0) ≡ any (linkCount s) (comes s σ t)
   unfolding countedBy comes
   comes-kept =
-      rw (c .counted .seen t h)
+      rw (c .seen)
       (ap (λ (x : ℕ). ltb x (sum (linkCount s) (countedBy (into s t) oneBy (known s σ)))) (sym (sum-zeros (linkCount s) (λ l. 0) (λ l k. refl)))
       ∙ any-ltb (linkCount s) (λ l. 0) (countedBy (into s t) oneBy (known s σ)) (comes s σ t) (λ l k. omega arith) (λ l k. is (both (eqb (targetOf s l) t) (placed σ (sourceOf s l)))))
     where

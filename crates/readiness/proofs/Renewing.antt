@@ -40,12 +40,6 @@ partly-key s σ t e eb ex = e ∙ ap₂ (λ (b : Bool) (x : ℕ). pick b x 0) eb
 pub as-was : {q : List ℕ} → Blocked q → (i : ℕ) → Changed q q i (getD q i 0)
 as-was b i = record { blocked = b; here = refl; others = λ j l n. refl }
 
--- the walk over the links from t has come to link l
-pub record Walking (s : Sheet) (σ : Schedule) (t l : ℕ) (q : List ℕ) : Type 0 where
-  pub here : l ≤ linkCount s
-  pub own : l < linkCount s → sourceOf s l ≡ t
-  pub keys : KeyedPast s σ t l q
-
 module _ {s : Sheet} {σ : Schedule} where
   pub renewed-by : {q q₁ q₂ : List ℕ} {t x y : ℕ} → t < 256 → Changed q q₁ t x → Changed q₁ q₂ (256 + t) y → x ≡ readyKey s σ t → y ≡ partlyKey s σ t → Renewed s σ q q₂ t
   renewed-by h c d ex ey =
@@ -121,48 +115,42 @@ module _ {s : Sheet} {σ : Schedule} where
 
   -- the links from t, chained
   module _ {w : List ℕ} (chained : Chained Source s w) (ranged : Ranged s) (t : ℕ) (h : t < taskCount s) where
-    pub walk-begins : {l : ℕ} {q : List ℕ} → l ≡ headOf Source w t → l ≤ linkCount s → KeyedPast s σ t 0 q → Walking s σ t l q
-    walk-begins {l} e few k =
+    -- at the first link
+    pub past-first : {l : ℕ} {q : List ℕ} → l ≡ headOf Source w t → KeyedPast s σ t 0 q → KeyedPast s σ t l q
+    past-first {l} e k =
         record {
-          here = few;
-          own = λ b. rw e (chained .head-own t h (rw e at b));
-          keys = record {
-            blocked = k .blocked;
-            fresh = λ u m p. k .fresh u m (record { none-leads = λ i a b o. go p i b o (decLt i l) });
-            waiting = λ i a b o. k .waiting i (omega arith) b o;
-            blank = k .blank;
-          };
+          blocked = k .blocked;
+          fresh = λ u m p. k .fresh u m (record { none-leads = λ i a b o. go p i b o (decLt i l) });
+          waiting = λ i a b o. k .waiting i (omega arith) b o;
+          blank = k .blank;
         }
       where
         go : {u : ℕ} → Passed s t l u → (i : ℕ) → i < linkCount s → sourceOf s i ≡ t → Dec (i < l) → targetOf s i ≢ u
         go p i b o (yes c) = absurd (chained .head-none t h i (omega (arith, e)) o)
         go p i b o (no c) = p .none-leads i (omega arith) b o
 
-    pub walk-more : Single s → {l l′ v : ℕ} {q q′ : List ℕ} → l < linkCount s → l′ ≡ nextOf Source w l → l′ ≤ linkCount s → v ≡ targetOf s l → Renewed s σ q q′ v → Walking s σ t l q → Walking s σ t l′ q′
-    walk-more single {l} {l′} {v} b e few ev r g =
+    -- .. and at the next one
+    pub past-next : Single s → {l l′ v : ℕ} {q q′ : List ℕ} → l < linkCount s → sourceOf s l ≡ t → l′ ≡ nextOf Source w l → v ≡ targetOf s l → Renewed s σ q q′ v → KeyedPast s σ t l q → KeyedPast s σ t l′ q′
+    past-next single {l} {l′} {v} b own e ev r g =
         record {
-          here = few;
-          own = λ x. rw e (chained .next-own l b (rw e at x)) ∙ g .own b;
-          keys = record {
-            blocked = r .blocked;
-            fresh = λ u m p. now-fresh r (omega (arith, ranged .few-tasks)) (λ n. g .keys .fresh u m (record { none-leads = λ i a c o. go n p i a c o (ℕ-discrete i l) (decLt i l′) }));
-            waiting =
-                λ i a c o. still-waiting r (omega (arith, ranged .few-tasks, ranged .target i c))
-                (λ d. absurd (omega (arith, e, chained .next-more l b, single .once i l c b (o ∙ sym (g .own b)) (d ∙ ev)))) (g .keys .waiting i (omega (arith, e, chained .next-more l b)) c o);
-            blank = λ u m c. still-blank r c (omega (arith, ev, ranged .target l b)) (g .keys .blank u m c);
-          };
+          blocked = r .blocked;
+          fresh = λ u m p. now-fresh r (omega (arith, ranged .few-tasks)) (λ n. g .fresh u m (record { none-leads = λ i a c o. go n p i a c o (ℕ-discrete i l) (decLt i l′) }));
+          waiting =
+              λ i a c o. still-waiting r (omega (arith, ranged .few-tasks, ranged .target i c))
+              (λ d. absurd (omega (arith, e, chained .next-more l b, single .once i l c b (o ∙ sym own) (d ∙ ev)))) (g .waiting i (omega (arith, e, chained .next-more l b)) c o);
+          blank = λ u m c. still-blank r c (omega (arith, ev, ranged .target l b)) (g .blank u m c);
         }
       where
         go : {u : ℕ} → u ≢ v → Passed s t l′ u → (i : ℕ) → l ≤ i → i < linkCount s → sourceOf s i ≡ t → Dec (i ≡ l) → Dec (i < l′) → targetOf s i ≢ u
         go n p i a c o (yes d) f = λ x. n (sym x ∙ ap (targetOf s) d ∙ sym ev)
-        go n p i a c o (no d) (yes f) = absurd (chained .next-none l b i (omega arith) (omega (arith, e)) (o ∙ sym (g .own b)))
+        go n p i a c o (no d) (yes f) = absurd (chained .next-none l b i (omega arith) (omega (arith, e)) (o ∙ sym own))
         go n p i a c o (no d) (no f) = p .none-leads i (omega arith) c o
 
-  pub target-waits : (t : ℕ) {l v : ℕ} {q : List ℕ} → v ≡ targetOf s l → l < linkCount s → Walking s σ t l q → Waiting s σ q v
-  target-waits t {l} e h g = rw e (g .keys .waiting l (omega arith) h (g .own h))
+  pub target-waits : {t l v : ℕ} {q : List ℕ} → v ≡ targetOf s l → l < linkCount s → sourceOf s l ≡ t → KeyedPast s σ t l q → Waiting s σ q v
+  target-waits {l = l} e h own k = rw e (k .waiting l (omega arith) h own)
 
-  pub walk-done : {t l : ℕ} {q : List ℕ} → linkCount s ≤ l → Walking s σ t l q → Keyed s σ q
-  walk-done h g = let k = g .keys in record { keys = record { blocked = k .blocked; fresh = λ u m. k .fresh u m (record { none-leads = λ i a b o. absurd (omega arith) }); blank = k .blank } }
+  pub past-all : {t l : ℕ} {q : List ℕ} → linkCount s ≤ l → KeyedPast s σ t l q → Keyed s σ q
+  past-all h k = record { keys = record { blocked = k .blocked; fresh = λ u m. k .fresh u m (record { none-leads = λ i a b o. absurd (omega arith) }); blank = k .blank } }
 
 -- t goes on k: the keys of all tasks stay, but for those of t and of its successors
 module _ (s : Sheet) (σ : Schedule) (t k a f : ℕ) where

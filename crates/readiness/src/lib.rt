@@ -1,7 +1,7 @@
 // Who is ready, who partly, when messages are there, and who goes first, by a table of keys that each placing brings up to date.
 ghost use mathlib.Core.Path.{_≡_};
-ghost use Prim.Native.Nat.{_+_, _<_};
-ghost use lib.ListN.{replicate};
+ghost use Prim.Native.Nat.{_<_, _≤_};
+ghost use lib.ListN.{length, replicate};
 ghost use Rattle.folds.specs.Folds.{pick};
 ghost use Rattle.keys.specs.Keys.{Blocked};
 ghost use Rattle.words.specs.Found.{foundOf, Below};
@@ -11,8 +11,11 @@ ghost use Rattle.planner.specs.Schedule.{placed};
 ghost use Rattle.planner.specs.Placing.{ready, partlyReady, arrival, priority, firstReady, firstPartlyReady};
 ghost use Rattle.levelling.specs.Found.{Levelled};
 ghost use Rattle.schedule.specs.Layout.{scheduleIn};
-ghost use Rattle.arrivals.specs.Kept.{Kept};
-ghost use Rattle.readiness.specs.Keyed.{keyOf, taskOf, Early, Renewed, Waiting, Keyed, KeyedPast, KeyedBeside};
+ghost use Rattle.chains.specs.Chains.{Chained};
+ghost use Rattle.chains.specs.declared.End.the-variants.{Source};
+ghost use Rattle.arrivals.specs.Kept.{keptLength, known, Single, Gathered, Counted, Kept, Arrived};
+ghost use Rattle.arrivals.specs.Steps.{upTo, Beside, Landed};
+ghost use Rattle.readiness.specs.Keyed.{keyOf, taskOf, Early, Renewed, Waiting, Keyed, KeyedBeside};
 use chains::End;
 use sheet::tables;
 use words::Found;
@@ -27,16 +30,14 @@ fn is_placed(w: &[u32], t: usize) -> bool
 
 // When the messages to t from placed tasks are all there.
 pub fn arrival_of(w: &[u32], kept: &[u32], t: usize) -> usize
-    requires { ⌜ Kept (now w) (now kept) ⌝ }
-    requires { ⌜ t < taskCount (sheetIn (now w)) ⌝ }
+    requires { ⌜ Arrived (now w) (now kept) t ⌝ }
     ensures { λ r. ⌜ (r ≡ arrival (sheetIn (now (w .entry))) (scheduleIn (now (w .entry))) t) × (r < 4294967296) ⌝ }
 {
     workspace::word(kept, 768 + t)
 }
 
 fn is_ready(w: &[u32], kept: &[u32], t: usize) -> bool
-    requires { ⌜ Kept (now w) (now kept) ⌝ }
-    requires { ⌜ t < taskCount (sheetIn (now w)) ⌝ }
+    requires { ⌜ Arrived (now w) (now kept) t ⌝ }
     ensures { λ r. ⌜ r ≡ ready (sheetIn (now (w .entry))) (scheduleIn (now (w .entry))) t ⌝ }
 {
     if is_placed(w, t) {
@@ -47,8 +48,7 @@ fn is_ready(w: &[u32], kept: &[u32], t: usize) -> bool
 }
 
 fn is_partly_ready(w: &[u32], kept: &[u32], t: usize) -> bool
-    requires { ⌜ Kept (now w) (now kept) ⌝ }
-    requires { ⌜ t < taskCount (sheetIn (now w)) ⌝ }
+    requires { ⌜ Arrived (now w) (now kept) t ⌝ }
     ensures { λ r. ⌜ r ≡ partlyReady (sheetIn (now (w .entry))) (scheduleIn (now (w .entry))) t ⌝ }
 {
     if is_placed(w, t) {
@@ -60,9 +60,8 @@ fn is_partly_ready(w: &[u32], kept: &[u32], t: usize) -> bool
 }
 
 pub fn priority_of(w: &[u32], kept: &[u32], t: usize) -> usize
-    requires { ⌜ Kept (now w) (now kept) ⌝ }
+    requires { ⌜ Arrived (now w) (now kept) t ⌝ }
     requires { ⌜ Levelled (sheetIn (now w)) (now w) ⌝ }
-    requires { ⌜ t < taskCount (sheetIn (now w)) ⌝ }
     ensures { λ r. ⌜ (r ≡ priority (sheetIn (now (w .entry))) (scheduleIn (now (w .entry))) t) × (r < 8589934592) ⌝ }
 {
     arrival_of(w, kept, t) + schedule::level_of(w, t)
@@ -70,10 +69,9 @@ pub fn priority_of(w: &[u32], kept: &[u32], t: usize) -> usize
 
 // The key of t.
 fn key_of(w: &[u32], kept: &[u32], t: usize) -> u64
-    requires { ⌜ Kept (now w) (now kept) ⌝ }
+    requires { ⌜ Arrived (now w) (now kept) t ⌝ }
     requires { ⌜ Levelled (sheetIn (now w)) (now w) ⌝ }
     requires { ⌜ Early (scheduleIn (now w)) ⌝ }
-    requires { ⌜ t < taskCount (sheetIn (now w)) ⌝ }
     ensures { λ r. ⌜ r ≡ keyOf (sheetIn (now (w .entry))) (scheduleIn (now (w .entry))) t ⌝ }
 {
     let p = priority_of(w, kept, t);
@@ -90,10 +88,9 @@ fn key_if(test: bool, key: u64) -> u64
 
 // The keys of t as it stands now.
 fn renew_task(w: &[u32], kept: &[u32], q: &mut [u64], t: usize)
-    requires { ⌜ Kept (now w) (now kept) ⌝ }
+    requires { ⌜ Arrived (now w) (now kept) t ⌝ }
     requires { ⌜ Levelled (sheetIn (now w)) (now w) ⌝ }
     requires { ⌜ Early (scheduleIn (now w)) ⌝ }
-    requires { ⌜ t < taskCount (sheetIn (now w)) ⌝ }
     requires { ⌜ Blocked (now q) ⌝ }
     ensures { λ _. ⌜ Renewed (sheetIn (now (w .entry))) (scheduleIn (now (w .entry))) (now (q .entry)) (now (q .exit)) t ⌝ }
 {
@@ -106,10 +103,9 @@ fn renew_task(w: &[u32], kept: &[u32], q: &mut [u64], t: usize)
 
 // The keys of t, to which a link from the task just placed leads: it was not ready before, and its key only rises.
 fn renew_target(w: &[u32], kept: &[u32], q: &mut [u64], t: usize)
-    requires { ⌜ Kept (now w) (now kept) ⌝ }
+    requires { ⌜ Arrived (now w) (now kept) t ⌝ }
     requires { ⌜ Levelled (sheetIn (now w)) (now w) ⌝ }
     requires { ⌜ Early (scheduleIn (now w)) ⌝ }
-    requires { ⌜ t < taskCount (sheetIn (now w)) ⌝ }
     requires { ⌜ Blocked (now q) ⌝ }
     requires { ⌜ Waiting (sheetIn (now w)) (scheduleIn (now w)) (now q) t ⌝ }
     ensures { λ _. ⌜ Renewed (sheetIn (now (w .entry))) (scheduleIn (now (w .entry))) (now (q .entry)) (now (q .exit)) t ⌝ }
@@ -123,34 +119,26 @@ fn renew_target(w: &[u32], kept: &[u32], q: &mut [u64], t: usize)
     }
 }
 
-// The keys of the tasks to which the links from t lead.
-fn renew_targets(w: &[u32], kept: &[u32], q: &mut [u64], t: usize)
-    requires { ⌜ Kept (now w) (now kept) ⌝ }
-    requires { ⌜ Levelled (sheetIn (now w)) (now w) ⌝ }
-    requires { ⌜ Early (scheduleIn (now w)) ⌝ }
-    requires { ⌜ t < taskCount (sheetIn (now w)) ⌝ }
-    requires { ⌜ KeyedPast (sheetIn (now w)) (scheduleIn (now w)) t 0 (now q) ⌝ }
-    ensures { λ _. ⌜ Keyed (sheetIn (now (w .entry))) (scheduleIn (now (w .entry))) (now (q .exit)) ⌝ }
+// The links out of t, which stands on k until f, are counted, and the keys of t and of their targets follow: in one walk, since
+// each target's counts are whole once its link is counted.
+pub fn count_links(w: &[u32], kept: &mut [u32], q: &mut [u64], t: usize, k: usize, f: usize)
+    requires { ⌜ Loaded (now w) × (keptLength ≤ length (now kept)) ⌝ }
+    requires { ⌜ Chained Source (sheetIn (now w)) (now w) ⌝ }
+    requires { ⌜ (k < 16) × (f < 2147483648) × (t < taskCount (sheetIn (now w))) ⌝ }
+    requires { ⌜ Single (sheetIn (now w)) × Landed (sheetIn (now w)) (scheduleIn (now w)) t k f ⌝ }
+    requires { ⌜ Gathered (sheetIn (now w)) (now kept) × Counted (sheetIn (now w)) (scheduleIn (now w)) (upTo (sheetIn (now w)) (scheduleIn (now w)) t 0) (now kept) ⌝ }
+    requires { ⌜ Levelled (sheetIn (now w)) (now w) × Early (scheduleIn (now w)) ⌝ }
+    requires { ⌜ KeyedBeside (sheetIn (now w)) (scheduleIn (now w)) t (now q) ⌝ }
+    ensures { λ _. ⌜ Beside (now (kept .entry)) (now (kept .exit)) × Counted (sheetIn (now (w .entry))) (scheduleIn (now (w .entry))) (known (sheetIn (now (w .entry))) (scheduleIn (now (w .entry)))) (now (kept .exit)) × Keyed (sheetIn (now (w .entry))) (scheduleIn (now (w .entry))) (now (q .exit)) ⌝ }
 {
+    keys::put(q, t, 0);
     let m = tables::links(w);
     let mut l = chains::first(w, End::Source, t);
     while l < m {
+        arrivals::count_link(w, kept, t, k, f, l);
         renew_target(w, kept, q, tables::target(w, l));
         l = chains::next(w, End::Source, l);
     }
-}
-
-// The keys after t was placed.
-pub fn renew(w: &[u32], kept: &[u32], q: &mut [u64], t: usize)
-    requires { ⌜ Kept (now w) (now kept) ⌝ }
-    requires { ⌜ Levelled (sheetIn (now w)) (now w) ⌝ }
-    requires { ⌜ Early (scheduleIn (now w)) ⌝ }
-    requires { ⌜ t < taskCount (sheetIn (now w)) ⌝ }
-    requires { ⌜ KeyedBeside (sheetIn (now w)) (scheduleIn (now w)) t (now q) ⌝ }
-    ensures { λ _. ⌜ Keyed (sheetIn (now (w .entry))) (scheduleIn (now (w .entry))) (now (q .exit)) ⌝ }
-{
-    keys::put(q, t, 0);
-    renew_targets(w, kept, q, t);
 }
 
 // The keys of all tasks, in a table of noughts.

@@ -13,6 +13,7 @@ use Rattle.sheet.specs.Sheet.{Sheet, taskCount, linkCount, workOf, sourceOf, co
 use Rattle.sheet.specs.Tables.{Ranged}
 use Rattle.planner.specs.Schedule.{Schedule, empty, put, stands, finishOf}
 use Rattle.planner.specs.Placing.{comes, endBy, endOf, startBy, startFrom, startOn}
+use Rattle.readiness.specs.Keyed.{Early}
 use Rattle.turns.specs.Turns.{Timely}
 
 module _ (s : Sheet) (σ : Schedule) (j : ℕ) (ranged : Ranged s) (timely : Timely j σ) (t k : ℕ) where
@@ -46,3 +47,7 @@ put-timely σ j t k a b timely h = record { early = λ u. at u (ℕ-discrete u t
 pub empty-timely : (s : Sheet) → Timely 0 (empty s)
 unfolding finishOf
 empty-timely s = record { early = λ u. rw (getD-replicate {A = ℕ} (taskCount s) u 0) (omega arith) }
+
+-- 256 turns are all there are
+pub early : {j : ℕ} {σ : Schedule} → Timely j σ → j ≤ 256 → Early σ
+early t h = record { early = λ u. omega (arith, t .early u) }

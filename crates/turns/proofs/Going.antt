@@ -21,17 +21,19 @@ use Rattle.chains.specs.Frames.{Only}
 use Rattle.chains.specs.declared.End.the-variants.{Source}
 use Rattle.chains.proofs.Frames.{same-sheet, same-loaded}
 use Rattle.chains.proofs.Walks.{chained-frame}
-use Rattle.arrivals.specs.Kept.{keptLength, known, Single, Counted, Surveyed, Ends, Caches}
+use Rattle.arrivals.specs.Kept.{keptLength, known, Single, Gathered, Counted, Surveyed, Ends, Caches}
 use Rattle.arrivals.specs.Steps.{upTo, Beside, Placeable, Landed, Released, Enough}
 use Rattle.arrivals.proofs.Walks.{counted-frame, gathered-frame, ends-frame}
 use Rattle.arrivals.proofs.Placing as placing
 use Rattle.arrivals.proofs.Settling.{enough}
 use Rattle.arrivals.proofs.Surveys.{surveyed-frame, kept-frame}
+use Rattle.readiness.specs.Keyed.{Early, Keyed, KeyedBeside}
+use Rattle.readiness.proofs.Renewing.{keyed-beside}
 use Rattle.placing.specs.Choosing.{Choosing}
 use Rattle.placing.proofs.Starts.{placeable}
 use Rattle.placing.proofs.Guards.{end-le-start}
 use Rattle.turns.specs.Turns.{Timely, Going}
-use Rattle.turns.proofs.Bounds.{put-timely, finish-early}
+use Rattle.turns.proofs.Bounds.{put-timely, finish-early, early}
 
 -- what is known of the numbers when t is placed at turn j
 pub record Putting (w own : List ℕ) (j t k a f p o : ℕ) : Type 0 where
@@ -60,6 +62,9 @@ module _ {w own own₁ : List ℕ} {j t k a f p o : ℕ} (u : Putting w own j t 
   pub t-small : t < 256
   t-small = omega (arith, range .few-tasks, u .can .task)
 
+  timely′ : Timely (j + 1) σ′
+  timely′ = put-timely σ j t k a f (u .going .timely) (u .early)
+
   p-small : p < 256
   p-small = omega (arith, u .placed-is, u .going .placed, u .turn)
 
@@ -80,6 +85,9 @@ module _ {w own own₁ : List ℕ} {j t k a f p o : ℕ} (u : Putting w own j t 
     counted₂ =
         placing.counted-begins s σ t k a f (u .can) own₁ own₂ r₂ (surveyed-frame (λ i h l. o₁ .high i (omega arith)) (u .surveyed))
         (counted-frame (range .few-tasks) (λ i h l. o₁ .low i l) (λ i h l. o₁ .high i h) (λ i h. o₁ .high i (omega arith)) (u .going .kept .caches .counted))
+
+    gathered₂ : Gathered s own₂
+    gathered₂ = gathered-frame (range .few-tasks) (λ i h l. r₂ .low i (omega arith) ∙ o₁ .low i (omega arith)) (u .going .kept .caches .gathered)
 
     module _ {w₃ : List ℕ} (e₃ : w₃ ≡ putWords w t k a f p o) where
       low₃ : (i : ℕ) → i < 3856 → getD w₃ i 0 ≡ getD w i 0
@@ -104,12 +112,24 @@ module _ {w own own₁ : List ℕ} {j t k a f p o : ℕ} (u : Putting w own j t 
       chain₃ : Chained Source s w₃
       chain₃ = chained-frame (range .few-tasks) (range .few-links) (λ i h l. low₃ i l) (u .going .kept .caches .outward)
 
+      levelled₃ : Levelled s w₃
+      levelled₃ = levelled-frame (range .few-tasks) (range .few-links) low₃ (u .going .levelled)
+
       -- what the walk over the links out of t starts from
-      pub walks₃ : (Loaded w₃ × (keptLength ≤ length own₂)) × (Chained Source (sheetIn w₃) w₃ × (((k < 16) × (f < 2147483648) × (t < taskCount (sheetIn w₃))) × ((Single (sheetIn w₃) × Landed (sheetIn w₃) (scheduleIn w₃) t k f) × Counted (sheetIn w₃) (scheduleIn w₃) (upTo (sheetIn w₃) (scheduleIn w₃) t 0) own₂)))
-      walks₃ = (
+      pub walks₃ : {q : List ℕ} → Keyed s σ q → (Loaded w₃ × (keptLength ≤ length own₂)) × (Chained Source (sheetIn w₃) w₃ × (((k < 16) × (f < 2147483648) × (t < taskCount (sheetIn w₃))) × ((Single (sheetIn w₃) × Landed (sheetIn w₃) (scheduleIn w₃) t k f)
+          × ((Gathered (sheetIn w₃) own₂ × Counted (sheetIn w₃) (scheduleIn w₃) (upTo (sheetIn w₃) (scheduleIn w₃) t 0) own₂) × ((Levelled (sheetIn w₃) w₃ × Early (scheduleIn w₃)) × KeyedBeside (sheetIn w₃) (scheduleIn w₃) t q)))))
+      walks₃ keyed = (
         (loaded₃, omega (arith, long₂)),
-        rw (sheet₃, schedule₃)
-            (chain₃, ((u .can .on, omega (arith, u .early, u .turn), u .can .task), ((u .going .kept .single, placing.landed s σ t k a f (u .can)), counted₂))),
+        rw (sheet₃, schedule₃) (
+          chain₃,
+          (
+            (u .can .on, omega (arith, u .early, u .turn), u .can .task),
+            (
+              (u .going .kept .single, placing.landed s σ t k a f (u .can)),
+              ((gathered₂, counted₂), ((levelled₃, early timely′ (omega (arith, u .turn))), keyed-beside s σ t k a f (u .can) keyed)),
+            ),
+          ),
+        ),
       )
 
       module _ {own₄ : List ℕ} (b₄ : Beside own₂ own₄) (counted : Counted (sheetIn w₃) (scheduleIn w₃) (known (sheetIn w₃) (scheduleIn w₃)) own₄) where
@@ -118,7 +138,7 @@ module _ {w own own₁ : List ℕ} {j t k a f p o : ℕ} (u : Putting w own j t 
             record {
               outward = chain₃;
               inward = chained-frame (range .few-tasks) (range .few-links) (λ i h l. low₃ i l) (u .going .kept .caches .inward);
-              gathered = gathered-frame (range .few-tasks) (λ i h l. b₄ .low i l ∙ r₂ .low i (omega arith) ∙ o₁ .low i (omega arith)) (u .going .kept .caches .gathered);
+              gathered = gathered-frame (range .few-tasks) (λ i h l. b₄ .low i l) gathered₂;
               counted = subst (λ (τ : Schedule). Counted s τ (known s τ) own₄) schedule₃ (subst (λ (x : Sheet). Counted x (scheduleIn w₃) (known x (scheduleIn w₃)) own₄) sheet₃ counted);
               ends = ends-frame (λ i h l. b₄ .mid i h l ∙ r₂ .low i l) ends;
               closed = placing.closed-put s σ t k a f (u .can);
@@ -147,8 +167,8 @@ module _ {w own own₁ : List ℕ} {j t k a f p o : ℕ} (u : Putting w own j t 
                     standing = rw schedule₃ standing₄;
                     caches = subst (λ (x : Sheet). Caches x (scheduleIn w₃) w₃ own₄) (sym sheet₃) (subst (λ (τ : Schedule). Caches s τ w₃ own₄) (sym schedule₃) caches₄);
                   };
-              levelled = subst (λ (x : Sheet). Levelled x w₃) (sym sheet₃) (levelled-frame (range .few-tasks) (range .few-links) low₃ (u .going .levelled));
-              timely = subst (Timely (j + 1)) (sym schedule₃) (put-timely σ j t k a f (u .going .timely) (u .early));
+              levelled = subst (λ (x : Sheet). Levelled x w₃) (sym sheet₃) levelled₃;
+              timely = subst (Timely (j + 1)) (sym schedule₃) timely′;
               placed = omega (arith, placed₃, u .placed-is, u .going .placed);
             }
 

@@ -2,6 +2,5 @@
 pub mod Bounds
 pub mod Going
 pub mod Turns
-pub mod Keys
 pub mod Emptying
 pub mod Beginning

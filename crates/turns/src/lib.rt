@@ -21,12 +21,13 @@ pub enum Planned {
     Refused(usize),
 }
 
-// t goes on k at turn j.
-fn put_on(w: &mut [u32], kept: &mut [u32], j: usize, t: usize, k: usize)
+// t goes on k at turn j, and the keys follow.
+fn put_on(w: &mut [u32], kept: &mut [u32], q: &mut [u64], j: usize, t: usize, k: usize)
     requires { ⌜ Going (now w) j (now w) (now kept) ⌝ }
     requires { ⌜ (j < 256) × (t < taskCount (sheetIn (now w))) × (k < 16) ⌝ }
     requires { ⌜ (ready (sheetIn (now w)) (scheduleIn (now w)) t ≡ true) × Surveyed (sheetIn (now w)) (scheduleIn (now w)) t (now kept) ⌝ }
-    ensures { λ _. ⌜ (scheduleIn (now (w .exit)) ≡ placedFrom (sheetIn (now (w .entry))) (barred (sheetIn (now (w .entry)))) (scheduleIn (now (w .entry))) t k (startOn (sheetIn (now (w .entry))) (scheduleIn (now (w .entry))) t k)) × Going (now (w .entry)) (j + 1) (now (w .exit)) (now (kept .exit)) ⌝ }
+    requires { ⌜ Keyed (sheetIn (now w)) (scheduleIn (now w)) (now q) ⌝ }
+    ensures { λ _. ⌜ (scheduleIn (now (w .exit)) ≡ placedFrom (sheetIn (now (w .entry))) (barred (sheetIn (now (w .entry)))) (scheduleIn (now (w .entry))) t k (startOn (sheetIn (now (w .entry))) (scheduleIn (now (w .entry))) t k)) × Going (now (w .entry)) (j + 1) (now (w .exit)) (now (kept .exit)) × Keyed (sheetIn (now (w .exit))) (scheduleIn (now (w .exit))) (now (q .exit)) ⌝ }
 {
     let start = placing::start_on(w, kept, t, k);
     let finish = start + tables::work(w, t);
@@ -35,19 +36,7 @@ fn put_on(w: &mut [u32], kept: &mut [u32], j: usize, t: usize, k: usize)
     arrivals::settle(w, kept, t, k, start, finish);
     arrivals::release(kept);
     schedule::put(w, t, k, start, finish, n, open);
-    arrivals::count_links(w, kept, t, k, finish);
-}
-
-// t goes on k at turn j, and the keys follow.
-fn place_on(w: &mut [u32], kept: &mut [u32], q: &mut [u64], j: usize, t: usize, k: usize)
-    requires { ⌜ Going (now w) j (now w) (now kept) ⌝ }
-    requires { ⌜ (j < 256) × (t < taskCount (sheetIn (now w))) × (k < 16) ⌝ }
-    requires { ⌜ (ready (sheetIn (now w)) (scheduleIn (now w)) t ≡ true) × Surveyed (sheetIn (now w)) (scheduleIn (now w)) t (now kept) ⌝ }
-    requires { ⌜ Keyed (sheetIn (now w)) (scheduleIn (now w)) (now q) ⌝ }
-    ensures { λ _. ⌜ (scheduleIn (now (w .exit)) ≡ placedFrom (sheetIn (now (w .entry))) (barred (sheetIn (now (w .entry)))) (scheduleIn (now (w .entry))) t k (startOn (sheetIn (now (w .entry))) (scheduleIn (now (w .entry))) t k)) × Going (now (w .entry)) (j + 1) (now (w .exit)) (now (kept .exit)) × Keyed (sheetIn (now (w .exit))) (scheduleIn (now (w .exit))) (now (q .exit)) ⌝ }
-{
-    put_on(w, kept, j, t, k);
-    readiness::renew(w, kept, q, t);
+    readiness::count_links(w, kept, q, t, k, finish);
 }
 
 // The first ready task, which is surveyed, goes where the steps say, or is refused.
@@ -61,7 +50,7 @@ fn place_surveyed(w: &mut [u32], kept: &mut [u32], q: &mut [u64], j: usize, t: u
     match placing::choice_of(w, kept, q, t) {
         Found::Nothing => Planned::Refused(t),
         Found::At(k) => {
-            place_on(w, kept, q, j, t, k);
+            put_on(w, kept, q, j, t, k);
             Planned::Done
         }
     }

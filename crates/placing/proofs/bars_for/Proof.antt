@@ -2,10 +2,14 @@
 use mathlib.Core.Path.{ap₂}
 use Prim.Native.Nat.{_+_}
 use denote.Ref.{now}
+use Rattle.arrivals.proofs.Walks.{kept-arrived}
 use Rattle.placing.proofs.Guards.{bars-done, bars-here, bars-late, bars-never, main-of}
 use borrow.Author.Needs.{needs}
 use Rattle.placing.proofs.bars_for.Statement.{statement}
 use Rattle.placing.proofs.bars_for.Tie as tie
+
+arrival-of-requires : tie.Need-arrival-of-requires
+arrival-of-requires c κs = let a = c .before .before in kept-arrived (a .pre .0 .kept) (a .args .u) (a .pre .1)
 
 returns : tie.Need-returns
 returns c = let a = c .before .before .before .before in bars-never (now (a .args .w)) (now (a .args .kept)) (a .pre .0 .kept) (a .args .u) (a .pre .1) (a .args .t) (c .before .arrival-of .ensures .0) (c .if1 .taken)
@@ -29,7 +33,7 @@ pub bars-for-spec : {M : Type 1} → statement M
 bars-for-spec =
     tie.close
     (tie.spec
-    (λ c κs. search needs)
+    arrival-of-requires
     returns
     (λ c. search needs)
     (λ c κs. search needs)

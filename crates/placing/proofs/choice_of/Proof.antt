@@ -1,11 +1,15 @@
 -- `choice_of` (src/lib.rt) keeps its contract.
 use mathlib.Core.Path.{_∙_, ap, sym}
+use Rattle.arrivals.proofs.Walks.{kept-arrived}
 use Rattle.words.proofs.Searches.{below-at}
 use Rattle.words.specs.Found.{foundOf}
 use Rattle.placing.proofs.Steps.{choice-join}
 use borrow.Author.Needs.{needs}
 use Rattle.placing.proofs.choice_of.Statement.{statement}
 use Rattle.placing.proofs.choice_of.Tie as tie
+
+arrival-of-requires : tie.Need-arrival-of-requires
+arrival-of-requires c κs = let a = c .before .before .before in kept-arrived (a .pre .0 .kept) (a .args .t) (a .pre .0 .task)
 
 without-join-requires : tie.Need-without-join-requires
 without-join-requires c κs = (c .before .before .before .before .before .before .before .before .pre .0, (c .before .before .before .before .arrival-of .ensures .0, sym (ap foundOf (c .enum-told .given .1)) ∙ c .before .before .join-on .ensures .0))
@@ -17,7 +21,7 @@ pub choice-of-spec : {M : Type 1} → statement M
 choice-of-spec =
     tie.close
     (tie.spec
-    (λ c κs. search needs)
+    arrival-of-requires
     (λ c κs. search needs)
     (λ c κs. search needs)
     (λ c. search needs)

@@ -1,12 +1,16 @@
 -- `guard_of` (src/lib.rt) keeps its contract.
+use Rattle.arrivals.proofs.Walks.{kept-arrived}
 use Rattle.words.proofs.Searches.{below-at}
 use Rattle.placing.proofs.Guards.{guard-ahead, guard-behind, guard-none}
 use borrow.Author.Needs.{needs}
 use Rattle.placing.proofs.guard_of.Statement.{statement}
 use Rattle.placing.proofs.guard_of.Tie as tie
 
+priority-of-requires : tie.Need-priority-of-requires
+priority-of-requires c κs = let a = c .before .before .before .before .before .before .before in (kept-arrived (a .pre .0 .kept) (a .args .t) (a .pre .0 .task), a .pre .0 .levelled)
+
 priority-of-requires-2 : tie.Need-priority-of-requires-2
-priority-of-requires-2 c κs = let a = c .before .before .before .before .before .before .before .before in (a .pre .0 .kept, (a .pre .0 .levelled, below-at _ (c .before .before .u .given .1) (c .before .before .before .before .first-partly .ensures .1)))
+priority-of-requires-2 c κs = let a = c .before .before .before .before .before .before .before .before in (kept-arrived (a .pre .0 .kept) _ (below-at _ (c .before .before .u .given .1) (c .before .before .before .before .first-partly .ensures .1)), a .pre .0 .levelled)
 
 bars-for-requires : tie.Need-bars-for-requires
 bars-for-requires c κs = let a = c .before .before .before .before .before .before .before .before .before .before in (a .pre .0, below-at _ (c .before .before .before .before .u .given .1) (c .before .before .before .before .before .before .first-partly .ensures .1))
@@ -27,7 +31,7 @@ guard-of-spec =
     (λ c κs. search needs)
     (λ c. search needs)
     (λ c. search needs)
-    (λ c κs. search needs)
+    priority-of-requires
     priority-of-requires-2
     bars-for-requires
     returns

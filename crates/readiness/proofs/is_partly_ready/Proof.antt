@@ -9,10 +9,10 @@ returns : tie.Need-returns
 returns c = placed-partly _ _ (c .before .before .before .before .args .t) (sym (c .before .is-placed .ensures) ∙ c .if1 .taken)
 
 returns-2 : tie.Need-returns-2
-returns-2 c = partly-some (c .before .before .before .before .before .before .before .pre .0 .caches) (c .before .before .before .before .before .before .before .args .t) (c .before .before .before .before .before .before .before .pre .1) (c .before .before .word .ensures .0) (c .before .word2 .ensures .0) (sym (c .before .before .before .before .is-placed .ensures) ∙ c .before .before .before .if1 .left) (c .if2 .taken)
+returns-2 c = partly-some (c .before .before .before .before .before .before .before .pre) (c .before .before .word .ensures .0) (c .before .word2 .ensures .0) (sym (c .before .before .before .before .is-placed .ensures) ∙ c .before .before .before .if1 .left) (c .if2 .taken)
 
 returns-3 : tie.Need-returns-3
-returns-3 c = partly-none (c .before .before .before .before .before .before .before .pre .0 .caches) (c .before .before .before .before .before .before .before .args .t) (c .before .before .before .before .before .before .before .pre .1) (c .before .before .word .ensures .0) (c .before .word2 .ensures .0) (sym (c .before .before .before .before .is-placed .ensures) ∙ c .before .before .before .if1 .left) (c .if2 .left)
+returns-3 c = partly-none (c .before .before .before .before .before .before .before .pre) (c .before .before .word .ensures .0) (c .before .word2 .ensures .0) (sym (c .before .before .before .before .is-placed .ensures) ∙ c .before .before .before .if1 .left) (c .if2 .left)
 
 pub is-partly-ready-spec : {M : Type 1} → statement M
 is-partly-ready-spec =

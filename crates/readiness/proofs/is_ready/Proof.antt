@@ -9,7 +9,7 @@ returns : tie.Need-returns
 returns c = placed-ready _ _ (c .before .before .before .before .args .t) (sym (c .before .is-placed .ensures) ∙ c .if1 .taken)
 
 returns-2 : tie.Need-returns-2
-returns-2 c = ready-kept (c .before .before .before .before .before .before .pre .0 .caches) (c .before .before .before .before .before .before .args .t) (c .before .before .before .before .before .before .pre .1) (c .before .word .ensures .0) (c .word2 .ensures .0) (sym (c .before .before .before .is-placed .ensures) ∙ c .before .before .if1 .left)
+returns-2 c = ready-kept (c .before .before .before .before .before .before .pre) (c .before .word .ensures .0) (c .word2 .ensures .0) (sym (c .before .before .before .is-placed .ensures) ∙ c .before .before .if1 .left)
 
 pub is-ready-spec : {M : Type 1} → statement M
 is-ready-spec =

@@ -9,10 +9,16 @@ use Rattle.readiness.proofs.key_of.Statement.{statement}
 use Rattle.readiness.proofs.key_of.Tie as tie
 
 mul-result-2 : tie.Need-mul-result-2
-mul-result-2 c = let a = c .before .before .before .before in omega (arith, c .before .priority-of .ensures .0, c .level-of .ensures .0, priority-le (sheetIn (now (a .args .w))) (a .pre .0 .ranged) (a .pre .1 .1 .0) (a .args .t) (a .pre .1 .1 .1), level-le (sheetIn (now (a .args .w))) (a .pre .0 .ranged) (a .args .t) (a .pre .1 .1 .1))
+mul-result-2 c =
+    let a = c .before .before .before .before in
+    let w = now (a .args .w) in
+    omega (arith, c .before .priority-of .ensures .0, c .level-of .ensures .0, priority-le (sheetIn w) (a .pre .0 .ranged) (a .pre .1 .1) (a .args .t) (a .pre .0 .task), level-le (sheetIn w) (a .pre .0 .ranged) (a .args .t) (a .pre .0 .task))
 
 add-result-3 : tie.Need-add-result-3
-add-result-3 c = let a = c .before .before .before .before in omega (arith, c .before .priority-of .ensures .0, c .level-of .ensures .0, priority-le (sheetIn (now (a .args .w))) (a .pre .0 .ranged) (a .pre .1 .1 .0) (a .args .t) (a .pre .1 .1 .1), level-le (sheetIn (now (a .args .w))) (a .pre .0 .ranged) (a .args .t) (a .pre .1 .1 .1))
+add-result-3 c =
+    let a = c .before .before .before .before in
+    let w = now (a .args .w) in
+    omega (arith, c .before .priority-of .ensures .0, c .level-of .ensures .0, priority-le (sheetIn w) (a .pre .0 .ranged) (a .pre .1 .1) (a .args .t) (a .pre .0 .task), level-le (sheetIn w) (a .pre .0 .ranged) (a .args .t) (a .pre .0 .task))
 
 returns : tie.Need-returns
 unfolding keyOf

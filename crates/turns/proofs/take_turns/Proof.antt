@@ -1,7 +1,7 @@
 -- `take_turns` (src/lib.rt) keeps its contract.
 use mathlib.Core.Path.{refl}
 use native.Mathlib.Omega.{arith}
-use Rattle.turns.proofs.Keys.{early}
+use Rattle.turns.proofs.Bounds.{early}
 use borrow.Author.Needs.{needs}
 use Rattle.turns.proofs.take_turns.Statement.{statement}
 use Rattle.turns.proofs.take_turns.Tie as tie
