@@ -43,13 +43,10 @@ data Coming (s : Sheet) (b : Bundle) (w : List ℕ) (σ : State) (k n : ℕ) : T
   comes : (c : Command) → next b σ k ≡ some c → processorOf σ k .position < length (programmeOf b k) → Known s c → getD w n 0 ≡ wordOf s c → Coming s b w σ k n
   over : next b σ k ≡ none → getD w n 0 ≡ endCode → Coming s b w σ k n
 
-module _ (w : List ℕ) (k : ℕ) (near : k < 16) (n : ℕ) (here : n ≡ nextIn w k % 4096) (x : ℕ) (there : x ≡ getD w n 0) (i : ℕ) (at : i ≡ x % 2048) where
+module _ (w : List ℕ) (k : ℕ) (near : k < 16) (n : ℕ) (here : n ≡ nextIn w k) (x : ℕ) (there : x ≡ getD w n 0) (i : ℕ) (at : i ≡ x % 2048) where
   module _ (s : Sheet) (b : Bundle) (σ : State) (h : Keeps s b w σ) where
     abbrev p : ℕ
     p = processorOf σ k .position
-
-    n-is : n ≡ nextIn w k
-    n-is = omega (arith, h .next k near, h .inside k near, h .programmed .high k near)
 
     long : 1120 ≤ length w
     long = omega (arith, h .programmed .long)
@@ -58,7 +55,7 @@ module _ (w : List ℕ) (k : ℕ) (near : k < 16) (n : ℕ) (here : n ≡ nextIn
     unfolding next
     coming =
         let d = h .programmed .decoded k near in
-        let e : n ≡ firstIn w k + p = n-is ∙ h .next k near in
+        let e : n ≡ firstIn w k + p = here ∙ h .next k near in
         elim (decLt p (length (programmeOf b k))) [
           | yes l ↦
               comes (getD (programmeOf b k) p (run 0)) (command-at (programmeOf b k) p l) l (d .known p l) (ap (λ (i : ℕ). getD w i 0) e ∙ d .word p l)
@@ -80,7 +77,6 @@ module _ (w : List ℕ) (k : ℕ) (near : k < 16) (n : ℕ) (here : n ≡ nextIn
         let r = h .room k near in
         let wf : workOf s t < 65536 = h .programmed .ranged .works t o in
         let sf : storeOf s t < 65536 = h .programmed .ranged .stores t o in
-        let here = n-is in
         let v = placedWords w k (nextIn w k + 1) (max (clockIn w k) 0 + amount % 65536) (storeIn w k + amount / 65536) in
         let bounds = h .programmed .high k near in
         let m : Moved (linkCount s) w v k (nextIn w k + 1) (max (processorOf σ k .clock) 0 + workOf s t) (processorOf σ k .store + storeOf s t) =
@@ -111,7 +107,6 @@ module _ (w : List ℕ) (k : ℕ) (near : k < 16) (n : ℕ) (here : n ≡ nextIn
             let cf : costOf s l < 65536 = h .programmed .ranged .costs l o in
             let is : amount ≡ costOf s l = omega arith in
             let r = h .room k near in
-            let here = n-is in
             let stamp = (clockIn w k + amount + 1) % 4294967296 in
             let u = set w (96 + l) stamp in
             let v = placedWords u k (nextIn u k + 1) (max (clockIn u k) 0 + 0) (storeIn u k + 0) in
@@ -182,7 +177,6 @@ module _ (w : List ℕ) (k : ℕ) (near : k < 16) (n : ℕ) (here : n ≡ nextIn
             let amount = x / 2048 % 65536 in
             let size : amount ≡ bytesOf s l = is in
             let r = h .room k near in
-            let here = n-is in
             let got : stampOf σ l ≡ some y = sym t ∙ ap stampIn q in
             let bf : bytesOf s l < 65536 = h .programmed .ranged .sizes l o in
             let late = h .roomy l y got in

@@ -66,13 +66,12 @@ fn receive(w: &mut [u32], k: usize, amount: usize, i: usize) -> bool
     true
 }
 
-// One command of processor k. Numbers are cut to the words that are there, so that none is tested again.
+// One command of processor k. The word that it works with is among the first 2,048, and so is there.
 fn command(w: &mut [u32], k: usize) -> bool
     requires { ⌜ k < 16 ⌝ }
     ensures { λ r. ⌜ StepIs Keeps (now (w .entry)) (now (w .exit)) k r ⌝ }
 {
-    let c = words::word(w, 4 * k) % 4096;
-    let x = words::word(w, c);
+    let x = words::word(w, words::word(w, 4 * k));
     let i = x % 2048;
     if x < 134217728 {
         let amount = words::word(w, i);
