@@ -144,7 +144,7 @@ module _ (w : List ℕ) (loaded : Loaded w) (standing : Standing (sheetIn w) (sc
         decimal-short 2 t (omega (arith, ranged w loaded .few-tasks)),
         decimal-short 1 (placeOf (scheduleIn w) t) (omega (arith, standing .places t h)),
         decimal-short 9 (startOf (scheduleIn w) t) (omega (arith, start-in w t h, words (4112 + t))),
-        decimal-short 9 (finishOf (scheduleIn w) t) (omega (arith, finish-in w t h, words (4368 + t))),
+        decimal-short 9 (finishOf (scheduleIn w) t) (omega (arith, finish-in w t h, words (4112 + t))),
       )
 
   pub schedule-most : length (scheduleLines (sheetIn w) (scheduleIn w)) ≤ 29 * (taskCount (sheetIn w) + 1)

@@ -1,9 +1,10 @@
 -- A task placed in the words is the task put in the schedule.
-use Prim.Native.Nat.{ℕ, suc, _+_, _≤_, _<_, max}
-use mathlib.Core.Path.{_≡_, ap, ap₂, _∙_}
+use Prim.Native.Nat.{ℕ, suc, _+_, _-_, _*_, _%_, _/_, _≤_, _<_, max}
+use mathlib.Core.Path.{_≡_, ap, ap₂, sym, _∙_}
 use mathlib.Core.List.{List, [], _∷_, _++_}
-use mathlib.Core.Logic.{_≢_}
+use mathlib.Core.Logic.{_≢_, _⊎_, inl, inr, ⊎-elim}
 use native.Mathlib.Omega.{arith}
+use native.Mathlib.Decide.{ℕ-discrete}
 use native.Mathlib.Numerals.{add-one}
 use lib.ListN.{length, getD, set, length-set}
 use lib.Seq.{getD-set-same, getD-set-other}
@@ -12,93 +13,150 @@ use Rattle.folds.specs.Folds.{listed}
 use Rattle.folds.proofs.Loops.{listed-one}
 use Rattle.folds.proofs.Lists.{listed-cong, set-listed}
 use Rattle.planner.specs.Schedule.{put}
-use Rattle.schedule.specs.Layout.{scheduleIn, putWords}
+use Rattle.schedule.specs.Layout.{onIn, turnIn, finishIn, startIn, scheduleIn, placeWords, turnWords, putWords}
 
-module _ (w : List ℕ) (t k a b p o : ℕ) (long : fixed ≤ length w) (t-small : t < 256) (p-small : p < 256) where
+pub place-long : (w : List ℕ) (t k : ℕ) → length (placeWords w t k) ≡ length w
+unfolding placeWords
+place-long w t k = length-set w (3856 + t) _
+
+pub turn-long : (w : List ℕ) (p t : ℕ) → length (turnWords w p t) ≡ length w
+unfolding turnWords
+turn-long w p t = length-set w (3856 + p) _
+
+-- t on k: its place, and no turn, changes
+module _ (w : List ℕ) (t k : ℕ) (there : 3856 + t < length w) (k-small : k < 16) where
+  pub place-far : (i : ℕ) → i ≢ 3856 + t → getD (placeWords w t k) i 0 ≡ getD w i 0
+  unfolding placeWords
+  place-far i h = getD-set-other w (3856 + t) i _ 0 h
+
+  place-word : getD (placeWords w t k) (3856 + t) 0 ≡ k + 65536 * (getD w (3856 + t) 0 / 65536)
+  unfolding placeWords
+  place-word = getD-set-same w (3856 + t) _ 0 there
+
+  pub place-here : onIn (placeWords w t k) t ≡ k
+  place-here = omega (arith, place-word)
+
+  pub place-else : (i : ℕ) → i ≢ t → onIn (placeWords w t k) i ≡ onIn w i
+  place-else i h = ap (λ (x : ℕ). x % 65536) (place-far (3856 + i) (λ q. h (omega arith)))
+
+  pub place-turns : (i : ℕ) → turnIn (placeWords w t k) i ≡ turnIn w i
+  place-turns i = go (ℕ-discrete i t)
+    where
+      go : Dec (i ≡ t) → turnIn (placeWords w t k) i ≡ turnIn w i
+      go (yes q) = rw q (omega (arith, place-word))
+      go (no q) = ap (λ (x : ℕ). x / 65536) (place-far (3856 + i) (λ e. q (omega arith)))
+
+-- t at turn p: that turn, and no place, changes
+module _ (w : List ℕ) (p t : ℕ) (there : 3856 + p < length w) where
+  pub turn-far : (i : ℕ) → i ≢ 3856 + p → getD (turnWords w p t) i 0 ≡ getD w i 0
+  unfolding turnWords
+  turn-far i h = getD-set-other w (3856 + p) i _ 0 h
+
+  turn-word : getD (turnWords w p t) (3856 + p) 0 ≡ getD w (3856 + p) 0 % 65536 + 65536 * t
+  unfolding turnWords
+  turn-word = getD-set-same w (3856 + p) _ 0 there
+
+  pub turn-here : turnIn (turnWords w p t) p ≡ t
+  turn-here = omega (arith, turn-word)
+
+  pub turn-else : (i : ℕ) → i ≢ p → turnIn (turnWords w p t) i ≡ turnIn w i
+  turn-else i h = ap (λ (x : ℕ). x / 65536) (turn-far (3856 + i) (λ q. h (omega arith)))
+
+  pub turn-places : (i : ℕ) → onIn (turnWords w p t) i ≡ onIn w i
+  turn-places i = go (ℕ-discrete i p)
+    where
+      go : Dec (i ≡ p) → onIn (turnWords w p t) i ≡ onIn w i
+      go (yes q) = rw q (omega (arith, turn-word))
+      go (no q) = ap (λ (x : ℕ). x % 65536) (turn-far (3856 + i) (λ e. q (omega arith)))
+
+module _ (w : List ℕ) (t k b p o : ℕ) (long : fixed ≤ length w) (t-small : t < 256) (k-small : k < 16) (p-small : p < 256) where
   abbrev new : List ℕ
-  new = putWords w t k a b p o
+  new = putWords w t k b p o
 
-  -- what was not written
-  put-away : (i : ℕ) → i ≢ 3856 + t → i ≢ 4112 + t → i ≢ 4368 + t → i ≢ 4624 + p → i ≢ 4881 → i ≢ 4880 → getD new i 0 ≡ getD w i 0
-  unfolding putWords
-  put-away i h₁ h₂ h₃ h₄ h₅ h₆ = simp getD-set-other
+  abbrev on-k : List ℕ
+  on-k = placeWords w t k
 
-  pub put-low : (i : ℕ) → i < 3856 → getD new i 0 ≡ getD w i 0
-  put-low i h = put-away i (omega arith) (omega arith) (omega arith) (omega arith) (omega arith) (omega arith)
+  there : 3856 + t < length w
+  there = omega arith
+
+  behind : 3856 + p < length on-k
+  behind = omega (arith, place-long w t k)
 
   pub put-long : length new ≡ length w
   unfolding putWords
-  put-long = simp length-set
+  put-long = simp length-set (turn-long on-k p t ∙ place-long w t k)
 
-  put-on : getD new (3856 + t) 0 ≡ k
+  -- places and turns
+  put-first : (i : ℕ) → i < 256 → getD new (3856 + i) 0 ≡ getD (turnWords on-k p t) (3856 + i) 0
   unfolding putWords
-  put-on =
-      let h0 : 3856 + t ≢ 4112 + t = omega arith in
-      let h1 : 3856 + t ≢ 4368 + t = omega arith in
-      let h2 : 3856 + t ≢ 4624 + p = omega arith in
-      let h3 : 3856 + t ≢ 4881 = omega arith in
-      let h4 : 3856 + t ≢ 4880 = omega arith in
-      let l : 3856 + t < length w = omega arith in
-      simp (getD-set-other, getD-set-same)
+  put-first i h =
+      let h₁ : 3856 + i ≢ 4112 + t = omega arith in
+      let h₂ : 3856 + i ≢ 4369 = omega arith in
+      let h₃ : 3856 + i ≢ 4368 = omega arith in
+      simp getD-set-other
 
-  put-start : getD new (4112 + t) 0 ≡ a
+  put-on : onIn new t ≡ k
+  put-on = ap (λ (x : ℕ). x % 65536) (put-first t t-small) ∙ turn-places on-k p t behind t ∙ place-here w t k there k-small
+
+  put-on-else : (i : ℕ) → i < 256 → i ≢ t → onIn new i ≡ onIn w i
+  put-on-else i h d = ap (λ (x : ℕ). x % 65536) (put-first i h) ∙ turn-places on-k p t behind i ∙ place-else w t k there k-small i d
+
+  put-turn : turnIn new p ≡ t
+  put-turn = ap (λ (x : ℕ). x / 65536) (put-first p p-small) ∙ turn-here on-k p t behind
+
+  put-turn-else : (i : ℕ) → i < 256 → i ≢ p → turnIn new i ≡ turnIn w i
+  put-turn-else i h d = ap (λ (x : ℕ). x / 65536) (put-first i h) ∙ turn-else on-k p t behind i d ∙ place-turns w t k there k-small i
+
+  -- the other words
+  put-away : (i : ℕ) → (i < 3856) ⊎ (4112 ≤ i) → i ≢ 4112 + t → i ≢ 4369 → i ≢ 4368 → getD new i 0 ≡ getD w i 0
   unfolding putWords
-  put-start =
-      let h0 : 4112 + t ≢ 4368 + t = omega arith in
-      let h1 : 4112 + t ≢ 4624 + p = omega arith in
-      let h2 : 4112 + t ≢ 4881 = omega arith in
-      let h3 : 4112 + t ≢ 4880 = omega arith in
-      let l : 4112 + t < length (set w (3856 + t) k) = simp length-set (omega arith) in
-      simp (getD-set-other, getD-set-same)
+  put-away i out h₁ h₂ h₃ =
+      let a = turn-far on-k p t behind i (⊎-elim (λ (q : i < 3856) e. omega arith) (λ (q : 4112 ≤ i) e. omega arith) out) in
+      let c = place-far w t k there k-small i (⊎-elim (λ (q : i < 3856) e. omega arith) (λ (q : 4112 ≤ i) e. omega arith) out) in
+      simp getD-set-other (a ∙ c)
 
-  put-finish : getD new (4368 + t) 0 ≡ b
+  pub put-low : (i : ℕ) → i < 3856 → getD new i 0 ≡ getD w i 0
+  put-low i h = put-away i (inl h) (omega arith) (omega arith) (omega arith)
+
+  put-finish : finishIn new t ≡ b
   unfolding putWords
   put-finish =
-      let h0 : 4368 + t ≢ 4624 + p = omega arith in
-      let h1 : 4368 + t ≢ 4881 = omega arith in
-      let h2 : 4368 + t ≢ 4880 = omega arith in
-      let l : 4368 + t < length (set (set w (3856 + t) k) (4112 + t) a) = simp length-set (omega arith) in
+      let h₁ : 4112 + t ≢ 4369 = omega arith in
+      let h₂ : 4112 + t ≢ 4368 = omega arith in
+      let l : 4112 + t < length (turnWords on-k p t) = omega (arith, turn-long on-k p t, place-long w t k) in
       simp (getD-set-other, getD-set-same)
 
-  put-order : getD new (4624 + p) 0 ≡ t
-  unfolding putWords
-  put-order =
-      let h0 : 4624 + p ≢ 4881 = omega arith in
-      let h1 : 4624 + p ≢ 4880 = omega arith in
-      let l : 4624 + p < length (set (set (set w (3856 + t) k) (4112 + t) a) (4368 + t) b) = simp length-set (omega arith) in
-      simp (getD-set-other, getD-set-same)
+  put-finish-else : (i : ℕ) → i < 256 → i ≢ t → finishIn new i ≡ finishIn w i
+  put-finish-else i h d = put-away (4112 + i) (inr (omega arith)) (λ e. d (omega arith)) (omega arith) (omega arith)
 
-  pub put-placed : getD new 4881 0 ≡ p + 1
+  pub put-placed : getD new 4369 0 ≡ p + 1
   unfolding putWords
   put-placed =
-      let h0 : (_≡_ {A = ℕ} 4881 4880 → ⊥) = omega arith in
-      let l : 4881 < length (set (set (set (set w (3856 + t) k) (4112 + t) a) (4368 + t) b) (4624 + p) t) = simp length-set (omega arith) in
+      let h : (_≡_ {A = ℕ} 4369 4368 → ⊥) = omega arith in
+      let l : 4369 < length (set (turnWords on-k p t) (4112 + t) b) = simp length-set (omega (arith, turn-long on-k p t, place-long w t k)) in
       simp (getD-set-other, getD-set-same)
 
-  put-opened : getD new 4880 0 ≡ o
+  put-opened : getD new 4368 0 ≡ o
   unfolding putWords
-  put-opened = getD-set-same (set (set (set (set (set w (3856 + t) k) (4112 + t) a) (4368 + t) b) (4624 + p) t) 4881 (p + 1)) 4880 o 0 (simp length-set (omega arith))
+  put-opened = getD-set-same (set (set (turnWords on-k p t) (4112 + t) b) 4369 (p + 1)) 4368 o 0 (simp length-set (omega (arith, turn-long on-k p t, place-long w t k)))
 
-  -- a table in which only t was written
-  table-put : (at v : ℕ) → ((i : ℕ) → i < 256 → i ≢ t → (at + i ≢ 3856 + t) × (at + i ≢ 4112 + t) × (at + i ≢ 4368 + t) × (at + i < 4624)) → getD w 0 0 ≤ 256
-      → getD new (at + t) 0 ≡ v → listed (getD new 0 0) (λ i. getD new (at + i) 0) ≡ set (listed (getD w 0 0) (λ i. getD w (at + i) 0)) t v
-  table-put at v apart few e =
-      ap (λ (n : ℕ). listed n (λ i. getD new (at + i) 0)) (put-low 0 (omega arith))
-      ∙ set-listed (getD w 0 0) (λ i. getD w (at + i) 0) (λ i. getD new (at + i) 0) t v e
-      (λ i h d. let q = apart i (omega arith) d in put-away (at + i) (q .0) (q .1) (q .2) (omega arith) (omega arith) (omega arith))
+  -- a table in which only the row of t changes
+  table-put : (f f′ : ℕ → ℕ) (v : ℕ) → getD w 0 0 ≤ 256 → f′ t ≡ v → ((i : ℕ) → i < 256 → i ≢ t → f′ i ≡ f i) → listed (getD new 0 0) f′ ≡ set (listed (getD w 0 0) f) t v
+  table-put f f′ v few here else =
+      ap (λ (n : ℕ). listed n f′) (put-low 0 (omega arith)) ∙ set-listed (getD w 0 0) f f′ t v here (λ i h d. else i (omega arith) d)
 
-  pub schedule-put : getD w 0 0 ≤ 256 → p ≡ getD w 4881 0 → o ≡ max (getD w 4880 0) (k + 1) → scheduleIn new ≡ put (scheduleIn w) t k a b
+  pub schedule-put : (a : ℕ) → b ≡ a + getD w (16 + t) 0 % 65536 → getD w 0 0 ≤ 256 → p ≡ getD w 4369 0 → o ≡ max (getD w 4368 0) (k + 1) → scheduleIn new ≡ put (scheduleIn w) t k a b
   unfolding scheduleIn
-  schedule-put few p-is o-is =
-      let on = table-put 3856 k (λ i h d. (omega arith, omega arith, omega arith, omega arith)) few put-on in
-      let start = table-put 4112 a (λ i h d. (omega arith, omega arith, omega arith, omega arith)) few put-start in
-      let finish = table-put 4368 b (λ i h d. (omega arith, omega arith, omega arith, omega arith)) few put-finish in
-      let order : listed (getD new 4881 0) (λ i. getD new (4624 + i) 0) ≡ listed (getD w 4881 0) (λ i. getD w (4624 + i) 0) ++ t ∷ [] =
-      ap (λ (n : ℕ). listed n (λ i. getD new (4624 + i) 0)) put-placed
-      ∙ listed-one p (λ i. getD new (4624 + i) 0)
+  schedule-put a b-is few p-is o-is =
+      let works : (i : ℕ) → i < 256 → getD new (16 + i) 0 ≡ getD w (16 + i) 0 = λ i h. put-low (16 + i) (omega arith) in
+      let on = table-put (λ i. onIn w i) (λ i. onIn new i) k few put-on put-on-else in
+      let start = table-put (λ i. startIn w i) (λ i. startIn new i) a few (omega (arith, put-finish, works t t-small)) (λ i h d. ap₂ (λ (x y : ℕ). x - y % 65536) (put-finish-else i h d) (works i h)) in
+      let finish = table-put (λ i. finishIn w i) (λ i. finishIn new i) b few put-finish put-finish-else in
+      let order : listed (getD new 4369 0) (λ i. turnIn new i) ≡ listed (getD w 4369 0) (λ i. turnIn w i) ++ t ∷ [] =
+      ap (λ (n : ℕ). listed n (λ i. turnIn new i)) put-placed
+      ∙ listed-one p (λ i. turnIn new i)
       ∙ ap₂ (λ (l : List ℕ) (x : ℕ). l ++ x ∷ [])
-      (listed-cong p (λ i. getD new (4624 + i) 0) (λ i. getD w (4624 + i) 0) (λ i h. put-away (4624 + i) (omega arith) (omega arith) (omega arith) (omega arith) (omega arith) (omega arith))
-      ∙ ap (λ (n : ℕ). listed n (λ i. getD w (4624 + i) 0)) p-is)
-      put-order in
-      let opened : getD new 4880 0 ≡ max (getD w 4880 0) (suc k) = put-opened ∙ o-is ∙ ap (max (getD w 4880 0)) (add-one k) in
+      (listed-cong p (λ i. turnIn new i) (λ i. turnIn w i) (λ i h. put-turn-else i (omega arith) (λ e. omega arith)) ∙ ap (λ (n : ℕ). listed n (λ i. turnIn w i)) p-is)
+      put-turn in
+      let opened : getD new 4368 0 ≡ max (getD w 4368 0) (suc k) = put-opened ∙ o-is ∙ ap (max (getD w 4368 0)) (add-one k) in
       λ x. record { on = on x; start = start x; finish = finish x; order = order x; opened = opened x }

@@ -9,7 +9,7 @@ ghost use Rattle.graph.specs.Graph.{level};
 ghost use Rattle.levelling.specs.Found.{Levelled};
 ghost use Rattle.planner.specs.Schedule.{placeOf, startOf, finishOf};
 ghost use Rattle.planner.specs.Planner.{claimOf};
-ghost use Rattle.schedule.specs.Layout.{scheduleIn, putWords};
+ghost use Rattle.schedule.specs.Layout.{scheduleIn, placeWords, turnWords, putWords};
 use sheet::tables;
 
 // The processor of t, or 16 while it is not placed.
@@ -18,7 +18,7 @@ pub fn place(w: &[u32], t: usize) -> usize
     requires { ⌜ t < taskCount (sheetIn (now w)) ⌝ }
     ensures { λ r. ⌜ (r ≡ placeOf (scheduleIn (now (w .entry))) t) × (r < 4294967296) ⌝ }
 {
-    workspace::word(w, 3856 + t)
+    workspace::word(w, 3856 + t) % 65536
 }
 
 pub fn start(w: &[u32], t: usize) -> usize
@@ -26,7 +26,7 @@ pub fn start(w: &[u32], t: usize) -> usize
     requires { ⌜ t < taskCount (sheetIn (now w)) ⌝ }
     ensures { λ r. ⌜ (r ≡ startOf (scheduleIn (now (w .entry))) t) × (r < 4294967296) ⌝ }
 {
-    workspace::word(w, 4112 + t)
+    words::minus(finish(w, t), tables::work(w, t))
 }
 
 pub fn finish(w: &[u32], t: usize) -> usize
@@ -34,7 +34,7 @@ pub fn finish(w: &[u32], t: usize) -> usize
     requires { ⌜ t < taskCount (sheetIn (now w)) ⌝ }
     ensures { λ r. ⌜ (r ≡ finishOf (scheduleIn (now (w .entry))) t) × (r < 4294967296) ⌝ }
 {
-    workspace::word(w, 4368 + t)
+    workspace::word(w, 4112 + t)
 }
 
 // The task that was placed at turn i.
@@ -43,7 +43,7 @@ pub fn turn(w: &[u32], i: usize) -> usize
     requires { ⌜ (i < 256) × (i < length ((scheduleIn (now w)) .order)) ⌝ }
     ensures { λ r. ⌜ (r ≡ getD ((scheduleIn (now (w .entry))) .order) i 0) × (r < 4294967296) ⌝ }
 {
-    workspace::word(w, 4624 + i)
+    workspace::word(w, 3856 + i) / 65536
 }
 
 pub fn opened(w: &[u32]) -> usize
@@ -51,15 +51,15 @@ pub fn opened(w: &[u32]) -> usize
     requires { ⌜ scheduleIn (now w) .opened ≤ 16 ⌝ }
     ensures { λ r. ⌜ (r ≡ scheduleIn (now (w .entry)) .opened) × (r ≤ 16) ⌝ }
 {
-    workspace::word(w, 4880)
+    workspace::word(w, 4368)
 }
 
 // How many tasks are placed.
 pub fn placed(w: &[u32]) -> usize
     requires { ⌜ Loaded (now w) ⌝ }
-    ensures { λ r. ⌜ (r ≡ length ((scheduleIn (now (w .entry))) .order)) × (r ≡ getD (now (w .entry)) 4881 0) × (r < 4294967296) ⌝ }
+    ensures { λ r. ⌜ (r ≡ length ((scheduleIn (now (w .entry))) .order)) × (r ≡ getD (now (w .entry)) 4369 0) × (r < 4294967296) ⌝ }
 {
-    workspace::word(w, 4881)
+    workspace::word(w, 4369)
 }
 
 pub fn level_of(w: &[u32], t: usize) -> usize
@@ -71,18 +71,35 @@ pub fn level_of(w: &[u32], t: usize) -> usize
     workspace::word(w, 2320 + t)
 }
 
-// t on k from start to finish, as the task after the n that are placed; so many processors are open now.
-pub fn put(w: &mut [u32], t: usize, k: usize, start: usize, finish: usize, n: usize, opened: usize)
-    requires { ⌜ fixed ≤ length (now w) ⌝ }
-    requires { ⌜ (t < 256) × (k < 16) × (start < 4294967296) × (finish < 4294967296) × (n < 256) × (opened ≤ 16) ⌝ }
-    ensures { λ _. ⌜ now (w .exit) ≡ putWords (now (w .entry)) t k start finish n opened ⌝ }
+// t is on k.
+fn put_place(w: &mut [u32], t: usize, k: usize)
+    requires { ⌜ (fixed ≤ length (now w)) × (t < 256) × (k < 16) ⌝ }
+    ensures { λ _. ⌜ now (w .exit) ≡ placeWords (now (w .entry)) t k ⌝ }
 {
-    w[3856 + t] = workspace::narrow(k);
-    w[4112 + t] = workspace::narrow(start);
-    w[4368 + t] = workspace::narrow(finish);
-    w[4624 + n] = workspace::narrow(t);
-    w[4881] = workspace::narrow(n + 1);
-    w[4880] = workspace::narrow(opened);
+    let x = workspace::word(w, 3856 + t);
+    w[3856 + t] = workspace::narrow(k + 65536 * (x / 65536));
+}
+
+// t is the task of turn n.
+fn put_turn(w: &mut [u32], n: usize, t: usize)
+    requires { ⌜ (fixed ≤ length (now w)) × (n < 256) × (t < 256) ⌝ }
+    ensures { λ _. ⌜ now (w .exit) ≡ turnWords (now (w .entry)) n t ⌝ }
+{
+    let x = workspace::word(w, 3856 + n);
+    w[3856 + n] = workspace::narrow(x % 65536 + 65536 * t);
+}
+
+// t on k until it finishes, as the task after the n that are placed; so many processors are open now.
+pub fn put(w: &mut [u32], t: usize, k: usize, finish: usize, n: usize, opened: usize)
+    requires { ⌜ fixed ≤ length (now w) ⌝ }
+    requires { ⌜ (t < 256) × (k < 16) × (finish < 4294967296) × (n < 256) × (opened ≤ 16) ⌝ }
+    ensures { λ _. ⌜ now (w .exit) ≡ putWords (now (w .entry)) t k finish n opened ⌝ }
+{
+    put_place(w, t, k);
+    put_turn(w, n, t);
+    w[4112 + t] = workspace::narrow(finish);
+    w[4369] = workspace::narrow(n + 1);
+    w[4368] = workspace::narrow(opened);
 }
 
 // The claim: the latest finish.

@@ -57,7 +57,7 @@ module _ {w w₁ : List ℕ} (loaded : Loaded w) (levelled : Levelled (sheetIn w
 
     -- the words of the schedule are those of w₁
     schedule₂ : scheduleIn w₂ ≡ empty s
-    schedule₂ = schedule-frame w₁ w₂ (loaded₁ .tasks) (omega (arith, e₁ .placed)) (r₂ .only .low 0 (omega arith)) (λ i h l. r₂ .only .high i h) ∙ e₁ .schedule
+    schedule₂ = schedule-frame w₁ w₂ (loaded₁ .tasks) (omega (arith, e₁ .placed)) (λ i h. r₂ .only .low i (omega arith)) (λ i h l. r₂ .only .high i h) ∙ e₁ .schedule
 
     empty₂ : (u : ℕ) → placeOf (scheduleIn w₂) u ≡ 16
     unfolding placeOf
@@ -117,7 +117,7 @@ module _ {w w₁ : List ℕ} (loaded : Loaded w) (levelled : Levelled (sheetIn w
                   };
               levelled = subst (λ (x : Sheet). Levelled x w₂) (sym sheet₂) (record { inward = inward₂; levels = λ t h. low₂ (2320 + t) (omega (arith, ranged w loaded .few-tasks)) ∙ levelled .levels t h });
               timely = subst (Timely 0) (sym schedule₂) (empty-timely s);
-              placed = omega (arith, r₂ .only .high 4881 (omega arith), e₁ .placed);
+              placed = omega (arith, r₂ .only .high 4369 (omega arith), e₁ .placed);
             }
 
     planned-by : {a : Answer Schedule} → a ≡ turns (sheetIn w₂) (barred (sheetIn w₂)) (taskCount (sheetIn w₂)) (scheduleIn w₂) → a ≡ planned s

@@ -1,5 +1,5 @@
 -- t goes on k from a to f: of what is kept the ends and stores (own₁) and the links that wait (own₂), then the schedule (w₃), then the links out of t (own₄).
-use Prim.Native.Nat.{ℕ, _+_, _*_, _≤_, _<_, max}
+use Prim.Native.Nat.{ℕ, _+_, _*_, _%_, _≤_, _<_, max}
 use mathlib.Core.Bool.{true}
 use mathlib.Core.Path.{_≡_, refl, ap, sym, _∙_, subst}
 use mathlib.Core.List.{List}
@@ -8,7 +8,7 @@ use native.Mathlib.Decide.{ℕ-discrete}
 use lib.ListN.{length, getD}
 use Rattle.sheet.specs.Sheet.{Sheet, taskCount, workOf}
 use Rattle.sheet.specs.Tables.{sheetIn, Loaded, Ranged}
-use Rattle.sheet.proofs.Rows.{ranged}
+use Rattle.sheet.proofs.Rows.{ranged, work-in}
 use Rattle.planner.specs.Schedule.{Schedule, placeOf, placed, put}
 use Rattle.planner.specs.Placing.{ready, endOf, startOn}
 use Rattle.planner.proofs.Schedules.{on-other, placed-other}
@@ -43,7 +43,8 @@ pub record Putting (w own : List ℕ) (j t k a f p o : ℕ) : Type 0 where
   pub turn : j < 256
   pub late : endOf (sheetIn w) (scheduleIn w) k ≤ f
   pub early : f ≤ 131070 * (j + 1)
-  pub placed-is : p ≡ getD w 4881 0
+  pub lasts : f ≡ a + getD w (16 + t) 0 % 65536
+  pub placed-is : p ≡ getD w 4369 0
   pub opened-is : o ≡ max (scheduleIn w .opened) (k + 1)
 
 module _ {w own own₁ : List ℕ} {j t k a f p o : ℕ} (u : Putting w own j t k a f p o) (o₁ : Only 1536 1568 own own₁) (ends : Ends (sheetIn w) (put (scheduleIn w) t k a f) own₁) where
@@ -89,12 +90,12 @@ module _ {w own own₁ : List ℕ} {j t k a f p o : ℕ} (u : Putting w own j t 
     gathered₂ : Gathered s own₂
     gathered₂ = gathered-frame (range .few-tasks) (λ i h l. r₂ .low i (omega arith) ∙ o₁ .low i (omega arith)) (u .going .kept .caches .gathered)
 
-    module _ {w₃ : List ℕ} (e₃ : w₃ ≡ putWords w t k a f p o) where
+    module _ {w₃ : List ℕ} (e₃ : w₃ ≡ putWords w t k f p o) where
       low₃ : (i : ℕ) → i < 3856 → getD w₃ i 0 ≡ getD w i 0
-      low₃ i h = rw e₃ (put-low w t k a f p o (u .going .kept .loaded .long) t-small p-small i h)
+      low₃ i h = rw e₃ (put-low w t k f p o (u .going .kept .loaded .long) t-small (u .can .on) p-small i h)
 
       long₃ : length w₃ ≡ length w
-      long₃ = rw e₃ (put-long w t k a f p o (u .going .kept .loaded .long) t-small p-small)
+      long₃ = rw e₃ (put-long w t k f p o (u .going .kept .loaded .long) t-small (u .can .on) p-small)
 
       loaded₃ : Loaded w₃
       loaded₃ = same-loaded w w₃ (u .going .kept .loaded) low₃ long₃
@@ -104,10 +105,10 @@ module _ {w own own₁ : List ℕ} {j t k a f p o : ℕ} (u : Putting w own j t 
 
       pub schedule₃ : scheduleIn w₃ ≡ σ′
       unfolding scheduleIn
-      schedule₃ = ap scheduleIn e₃ ∙ schedule-put w t k a f p o (u .going .kept .loaded .long) t-small p-small (u .going .kept .loaded .tasks) (u .placed-is) (u .opened-is)
+      schedule₃ = ap scheduleIn e₃ ∙ schedule-put w t k f p o (u .going .kept .loaded .long) t-small (u .can .on) p-small a (u .lasts) (u .going .kept .loaded .tasks) (u .placed-is) (u .opened-is)
 
-      placed₃ : getD w₃ 4881 0 ≡ p + 1
-      placed₃ = rw e₃ (put-placed w t k a f p o (u .going .kept .loaded .long) t-small p-small)
+      placed₃ : getD w₃ 4369 0 ≡ p + 1
+      placed₃ = rw e₃ (put-placed w t k f p o (u .going .kept .loaded .long) t-small (u .can .on) p-small)
 
       chain₃ : Chained Source s w₃
       chain₃ = chained-frame (range .few-tasks) (range .few-links) (λ i h l. low₃ i l) (u .going .kept .caches .outward)
@@ -178,8 +179,8 @@ choosing g h r v = record { kept = g .kept; levelled = g .levelled; task = h; is
 
 -- the numbers as the code finds them
 pub putting : {w own : List ℕ} {j t k a y p x o : ℕ} → Going w j w own → j < 256 → t < taskCount (sheetIn w) → k < 16 → ready (sheetIn w) (scheduleIn w) t ≡ true → Surveyed (sheetIn w) (scheduleIn w) t own
-    → a ≡ startOn (sheetIn w) (scheduleIn w) t k → y ≡ workOf (sheetIn w) t → p ≡ getD w 4881 0 → x ≡ scheduleIn w .opened → o ≡ max x (k + 1) → Putting w own j t k a (a + y) p o
-putting {w} {own} {j} {t} {k} g turn h on r v ea ey ep ex eo =
+    → a ≡ startOn (sheetIn w) (scheduleIn w) t k → y ≡ workOf (sheetIn w) t → p ≡ getD w 4369 0 → x ≡ scheduleIn w .opened → o ≡ max x (k + 1) → Putting w own j t k a (a + y) p o
+putting {w} {own} {j} {t} {k} {a} g turn h on r v ea ey ep ex eo =
     record {
       going = g;
       can = placeable w own t k (choosing g h r v) on;
@@ -187,6 +188,7 @@ putting {w} {own} {j} {t} {k} g turn h on r v ea ey ep ex eo =
       turn = turn;
       late = omega (arith, end-le-start (sheetIn w) (scheduleIn w) t k);
       early = finish-early (sheetIn w) (scheduleIn w) j (g .kept .ranged) (g .timely) t k ea ey h;
+      lasts = ap (λ (z : ℕ). a + z) (ey ∙ work-in w t h);
       placed-is = ep;
       opened-is = eo ∙ ap (λ (z : ℕ). max z (k + 1)) ex;
     }

@@ -32,20 +32,19 @@ pub record Going (w₀ : List ℕ) (j : ℕ) (w own : List ℕ) : Type 0 where
   pub kept : Kept w own
   pub levelled : Levelled (sheetIn w) w
   pub timely : Timely j (scheduleIn w)
-  pub placed : getD w 4881 0 ≤ j
+  pub placed : getD w 4369 0 ≤ j
 
 -- the tables of the schedule below t are those of the empty one
 pub record Cleared (w₀ : List ℕ) (t : ℕ) (w : List ℕ) : Type 0 where
-  pub only : Only 3856 4896 w₀ w
+  pub only : Only 3856 4384 w₀ w
   pub on : (u : ℕ) → u < t → getD w (3856 + u) 0 ≡ 16
-  pub start : (u : ℕ) → u < t → getD w (4112 + u) 0 ≡ 0
-  pub finish : (u : ℕ) → u < t → getD w (4368 + u) 0 ≡ 0
+  pub finish : (u : ℕ) → u < t → getD w (4112 + u) 0 ≡ 0
 
 -- the empty schedule
 pub record Emptied (w₀ w : List ℕ) : Type 0 where
-  pub only : Only 3856 4896 w₀ w
+  pub only : Only 3856 4384 w₀ w
   pub schedule : scheduleIn w ≡ empty (sheetIn w₀)
-  pub placed : getD w 4881 0 ≡ 0
+  pub placed : getD w 4369 0 ≡ 0
 
 -- what a planned area has besides its schedule: sheet and levels as they were, the chains of links, and small numbers
 pub record Afterwards (w₀ w : List ℕ) : Type 0 where

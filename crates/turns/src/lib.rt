@@ -35,7 +35,7 @@ fn put_on(w: &mut [u32], kept: &mut [u32], q: &mut [u64], j: usize, t: usize, k:
     let n = schedule::placed(w);
     arrivals::settle(w, kept, t, k, start, finish);
     arrivals::release(kept);
-    schedule::put(w, t, k, start, finish, n, open);
+    schedule::put(w, t, k, finish, n, open);
     readiness::count_links(w, kept, q, t, k, finish);
 }
 
@@ -122,7 +122,6 @@ fn clear_tables(w: &mut [u32])
     while t < n {
         w[3856 + t] = 16;
         w[4112 + t] = 0;
-        w[4368 + t] = 0;
         t += 1;
     }
 }
@@ -133,8 +132,8 @@ fn clear(w: &mut [u32])
     ensures { λ _. ⌜ Emptied (now (w .entry)) (now (w .exit)) ⌝ }
 {
     clear_tables(w);
-    w[4880] = 0;
-    w[4881] = 0;
+    w[4368] = 0;
+    w[4369] = 0;
 }
 
 // The schedule of the sheet in the tables, in the words from 3856 on, or the task that is refused.

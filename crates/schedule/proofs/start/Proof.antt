@@ -1,20 +1,24 @@
 -- `start` (src/lib.rt) keeps its contract.
-use mathlib.Core.Path.{_∙_, sym}
+use Prim.Native.Nat.{ℕ, _-_}
+use mathlib.Core.Path.{_∙_, ap₂, sym}
 use native.Mathlib.Omega.{arith}
 use denote.Ref.{now}
-use Rattle.schedule.proofs.Rows.{start-in}
-use Rattle.sheet.proofs.Rows.{task-index}
+use borrow.Author.Needs.{needs}
+use Rattle.sheet.proofs.Rows.{work-in}
+use Rattle.schedule.proofs.Rows.{start-in, finish-in}
 use Rattle.schedule.proofs.start.Statement.{statement}
 use Rattle.schedule.proofs.start.Tie as tie
 
-add-word : tie.Need-add-word
-add-word c = let s = c .before in omega (arith, task-index (now (s .args .w)) (s .args .t) (s .pre .0) (s .pre .1))
-
-word-requires : tie.Need-word-requires
-word-requires c κs = let s = c .before in omega (arith, task-index (now (s .args .w)) (s .args .t) (s .pre .0) (s .pre .1), s .pre .0 .long)
-
 returns : tie.Need-returns
-returns c = let s = c .before .before in (c .word .ensures .0 ∙ sym (start-in (now (s .args .w)) (s .args .t) (s .pre .1)), c .word .ensures .1)
+returns c =
+    let s = c .before .before .before .before in
+    let w = now (s .args .w) in
+    let t = s .args .t in (
+      c .minus .ensures
+          ∙ ap₂ _-_ (c .before .before .finish .ensures .0 ∙ finish-in w t (s .pre .1)) (c .before .work .ensures .0 ∙ work-in w t (s .pre .1))
+          ∙ sym (start-in w t (s .pre .1)),
+      omega (arith, c .minus .ensures, c .before .before .finish .ensures .1),
+    )
 
 pub start-spec : {M : Type 1} → statement M
-start-spec = tie.close (tie.spec add-word word-requires returns)
+start-spec = tie.close (tie.spec (λ c κs. search needs) (λ c κs. search needs) (λ c κs. search needs) returns)

@@ -23,9 +23,6 @@ slice-write-w c = omega (arith, c .before .before .tasks .ensures .1, c .before 
 slice-write-w-2 : tie.Need-slice-write-w-2 Inv-loop μ-loop
 slice-write-w-2 c = simp length-set (omega (arith, c .before .before .tasks .ensures .1, c .before .loop .inv .1 .only .long, c .before .before .before .before .before .pre .long))
 
-slice-write-w-3 : tie.Need-slice-write-w-3 Inv-loop μ-loop
-slice-write-w-3 c = simp length-set (omega (arith, c .before .before .tasks .ensures .1, c .before .loop .inv .1 .only .long, c .before .before .before .before .before .pre .long))
-
 loop-again : tie.Need-loop-again Inv-loop μ-loop
 loop-again c = (omega arith, cleared-more (c .before .before .before .before .before .pre .long) (omega (arith, c .loop-test .taken, c .before .before .tasks .ensures .1)) (c .before .loop .inv .1))
 
@@ -49,9 +46,6 @@ clear-tables-spec =
     (λ c. search needs)
     (λ c. search needs)
     slice-write-w-2
-    (λ c. search needs)
-    (λ c. search needs)
-    slice-write-w-3
     (λ c. search needs)
     (λ c. search needs)
     loop-again

@@ -41,7 +41,6 @@ put-requires c κs =
       (
         t-small u (c .before .before .before .before .before .before .before .settle .ensures .0) (c .before .before .before .before .before .before .before .settle .ensures .1),
         omega (arith, s .pre .1 .0 .2),
-        c .before .before .before .before .before .before .before .before .before .before .before .before .before .before .before .before .before .start-on .ensures .1,
         omega (arith, u .early, u .turn),
         omega (arith, u .placed-is, u .going .placed, u .turn),
         omega (arith, u .opened-is, u .going .kept .few-opened, s .pre .1 .0 .2),
