@@ -1,12 +1,11 @@
 -- The end of peeling: where all tasks are taken off there is no circle and the levels are there; where one is left there is a circle.
-use Prim.Native.Nat.{ℕ, zero, suc, _+_, _≤_, _<_}
+use Prim.Native.Nat.{ℕ, zero, suc, _≤_, _<_}
 use mathlib.Core.Option.{none}
 use mathlib.Core.Path.{_≡_, ap, sym, _∙_, subst}
 use mathlib.Core.List.{List}
 use native.Mathlib.Omega.{arith}
 use native.Mathlib.Decide.{ℕ-discrete}
 use borrow.Author.Tests.{lt-ltb}
-use lib.ListN.{getD}
 use Rattle.folds.specs.Folds.{sum}
 use Rattle.folds.proofs.Laws.{sum-zeros, sum-mono}
 use Rattle.sheet.specs.Sheet.{Sheet, taskCount, linkCount, sourceOf, targetOf}
@@ -16,7 +15,7 @@ use Rattle.chains.specs.Frames.{Only}
 use Rattle.chains.specs.Chains.{Rechained, Chained}
 use Rattle.chains.specs.declared.End.the-variants.{Target}
 use Rattle.chains.proofs.Frames.{only-trans}
-use Rattle.peeling.specs.Words.{Held, Outside, inQueue, doneBy}
+use Rattle.peeling.specs.Words.{Held, Outside, placeIn, inQueue, doneBy}
 use Rattle.peeling.specs.Peeling.{dueBy, levelIn, Peeled}
 use Rattle.words.specs.Found.{foundOf}
 use Rattle.levelling.specs.Found.{Levelled, LevelsAre}
@@ -31,10 +30,10 @@ use Rattle.peeling.proofs.Turns.{chain-here}
 
 -- all are taken off
 module _ (s : Sheet) (k : ℕ) (w : List ℕ) (declared : Declared s) (p : Peeled s k k 0 0 w) (all : k ≡ taskCount s) where
-  placed : (t : ℕ) → t < taskCount s → getD w (4368 + t) 0 < 256
+  placed : (t : ℕ) → t < taskCount s → placeIn w t < 256
   placed = queued-all (p .peel .queued) all
 
-  ranked : Ranked s (λ t. getD w (4368 + t) 0)
+  ranked : Ranked s (placeIn w)
   ranked =
       record {
         falls = λ l h. p .peel .falls l h (placed (sourceOf s l) (declared .source l h));
@@ -46,11 +45,11 @@ module _ (s : Sheet) (k : ℕ) (w : List ℕ) (declared : Declared s) (p : Peele
   solved = record { is = λ t h. p .peel .solved t h (p .peel .queued .few t h (placed t h)) }
 
   pub peeled-free : circle s ≡ none
-  peeled-free = ranked-none s (λ t. getD w (4368 + t) 0) ranked
+  peeled-free = ranked-none s (placeIn w) ranked
 
   pub peeled-levels : Chained Target s w → Levelled s w
   unfolding levelIn
-  peeled-levels inward = record { inward = inward; levels = λ t h. sym (level-is s (λ u. getD w (4368 + u) 0) (levelIn w) (declared .target) ranked solved t h) }
+  peeled-levels inward = record { inward = inward; levels = λ t h. sym (level-is s (placeIn w) (levelIn w) (declared .target) ranked solved t h) }
 
 sum-ones : (n : ℕ) → n ≤ sum n (λ t. 1)
 unfolding sum
@@ -59,15 +58,15 @@ sum-ones (suc n) = omega (arith, sum-ones n)
 
 -- one is left: were there no circle, the left one of lowest rank would have no link to another that is left
 module _ (s : Sheet) (k : ℕ) (w : List ℕ) (declared : Declared s) (p : Peeled s k k 0 0 w) (free : circle s ≡ none) where
-  no-link : (t l : ℕ) → l < linkCount s → (sourceOf s l ≡ t → getD w (4368 + targetOf s l) 0 < 256) → dueBy s (doneBy s k w) t l ≡ 0
+  no-link : (t l : ℕ) → l < linkCount s → (sourceOf s l ≡ t → placeIn w (targetOf s l) < 256) → dueBy s (doneBy s k w) t l ≡ 0
   unfolding doneBy
   no-link t l h g = go (ℕ-discrete (sourceOf s l) t)
     where
       go : Dec (sourceOf s l ≡ t) → dueBy s (doneBy s k w) t l ≡ 0
-      go (yes e) = due-lit s (doneBy s k w) t l (lt-ltb (getD w (4368 + targetOf s l) 0) k (p .peel .queued .few (targetOf s l) (declared .target l h) (g e)))
+      go (yes e) = due-lit s (doneBy s k w) t l (lt-ltb (placeIn w (targetOf s l)) k (p .peel .queued .few (targetOf s l) (declared .target l h) (g e)))
       go (no e) = due-other s (doneBy s k w) t l e
 
-  all-placed : (r t : ℕ) → t < taskCount s → rankOf s t < r → getD w (4368 + t) 0 < 256
+  all-placed : (r t : ℕ) → t < taskCount s → rankOf s t < r → placeIn w t < 256
   all-placed zero t h g = absurd (omega arith)
   all-placed (suc r) t h g =
       let ranks = none-ranked s declared free in
@@ -94,9 +93,9 @@ find-goes {w} {w₁} {w₂} h d b =
 
 pub levels-free : {w w₁ w₂ : List ℕ} {k n : ℕ} → Held w → Rechained Target w w₁ × Chained Target (sheetIn w) w₁ → Outside w₁ w₂ × Peeled (sheetIn w₁) k k 0 0 w₂ → n ≡ taskCount (sheetIn w₂) → k ≡ n → LevelsAre w w₂ Nothing
 levels-free {w} {w₁} {w₂} {k} {n} h c d e q =
-    let b : Only 2320 4624 w w₁ = only-kept (c .0 .only) in
+    let b : Only 2320 4368 w w₁ = only-kept (c .0 .only) in
     let same : sheetIn w₁ ≡ sheetIn w = kept-sheet h b in
-    let kept : Only 2320 4624 w w₂ = only-trans b (d .0 .kept) in
+    let kept : Only 2320 4368 w w₂ = only-trans b (d .0 .kept) in
     let p : Peeled (sheetIn w) k k 0 0 w₂ = subst (λ (s : Sheet). Peeled s k k 0 0 w₂) same (d .1) in
     let all : k ≡ taskCount (sheetIn w) = q ∙ e ∙ ap taskCount (kept-sheet h kept) in
     record {
@@ -107,9 +106,9 @@ levels-free {w} {w₁} {w₂} {k} {n} h c d e q =
 
 pub levels-found : {w w₁ w₂ w₃ : List ℕ} {k n : ℕ} {r : Found} → Held w → Rechained Target w w₁ → Outside w₁ w₂ × Peeled (sheetIn w₁) k k 0 0 w₂ → n ≡ taskCount (sheetIn w₂) → (k ≡ n → ⊥) → Outside w₂ w₃ × (foundOf r ≡ circle (sheetIn w₂)) → LevelsAre w w₃ r
 levels-found {w} {w₁} {w₂} {w₃} {k} {n} {r} h o d e q t =
-    let b : Only 2320 4624 w w₁ = only-kept (o .only) in
+    let b : Only 2320 4368 w w₁ = only-kept (o .only) in
     let same : sheetIn w₁ ≡ sheetIn w = kept-sheet h b in
-    let kept : Only 2320 4624 w w₂ = only-trans b (d .0 .kept) in
+    let kept : Only 2320 4368 w w₂ = only-trans b (d .0 .kept) in
     let same₂ : sheetIn w₂ ≡ sheetIn w = kept-sheet h kept in
     let p : Peeled (sheetIn w) k k 0 0 w₂ = subst (λ (s : Sheet). Peeled s k k 0 0 w₂) same (d .1) in
     record {

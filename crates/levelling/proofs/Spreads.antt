@@ -9,7 +9,6 @@ use native.Mathlib.Omega.{arith}
 use native.Mathlib.Decide.{decLt, ℕ-discrete}
 use borrow.Author.Tests.{lt-ltb}
 use lib.ListN.{length, getD, set}
-use lib.Seq.{getD-set-same, getD-set-other}
 use Rattle.workspace.specs.Area.{fixed}
 use Rattle.folds.specs.Folds.{first}
 use Rattle.folds.proofs.Laws.{first-found, first-none}
@@ -19,34 +18,39 @@ use Rattle.sheet.specs.Tables.{sheetIn}
 use Rattle.graph.specs.Graph.{reaches, onCircle, circle}
 use Rattle.chains.specs.Chains.{headOf, nextOf, Chained}
 use Rattle.chains.specs.declared.End.the-variants.{Target}
-use Rattle.peeling.specs.Words.{Held, Outside, Queued, pushed, doneBy, doneUpTo}
+use Rattle.peeling.specs.Words.{Held, Outside, placeIn, Queued, pushed, doneBy, doneUpTo}
 use Rattle.peeling.specs.Peeling.{Emptied, Noted, Search, Searched, Spreading}
 use Rattle.levelling.specs.Found.{SpreadIs}
 use Rattle.levelling.specs.declared.search.Spread.{Spread}
 use Rattle.levelling.specs.declared.search.Spread.the-variants.{Back, On}
 use Rattle.graph.proofs.Reaches.{Declared, link-reaches, reaches-along, reaches-none}
 use Rattle.peeling.proofs.Frames.{loaded-declared, outside-sheet, outside-held, outside-none, outside-trans, outside-own, outside-from}
+use Rattle.peeling.proofs.Places.{place-in, place-off, place-far, place-none}
 use Rattle.peeling.proofs.Pushes.{queued-few, queued-room, queued-push, push-here, push-else, push-outside}
 use Rattle.peeling.proofs.Walks.{up-none, up-hop, up-end, up-same, up-late, up-else}
 use Rattle.peeling.proofs.Starts.{queued-none, done-none}
 use Rattle.peeling.proofs.Turns.{chain-here}
 
 -- a task is noted
-module _ (w : List ℕ) (h : Held w) (k u : ℕ) (u-in : u < taskCount (sheetIn w)) (q : Queued (taskCount (sheetIn w)) k w) {x : ℕ} (x-is : x ≡ getD w (4368 + u) 0) where
-  pub note-stays : x < 256 → Outside w w × Noted (taskCount (sheetIn w)) k u k w w
+module _ (w : List ℕ) (h : Held w) (k u : ℕ) (u-in : u < taskCount (sheetIn w)) (q : Queued (taskCount (sheetIn w)) k w) {x : ℕ} (x-is : x ≡ getD w (3856 + u) 0) where
+  pub note-stays : 65536 ≤ x → Outside w w × Noted (taskCount (sheetIn w)) k u k w w
   note-stays l =
-      (outside-none w, record { queued = q; more = omega arith; here = omega arith; else = λ t e. refl; kept = λ t e. refl; late = λ e. absurd (omega arith) })
+      let here : placeIn w u < 256 = place-in w u (rw x-is at l) in
+      (outside-none w, record { queued = q; more = omega arith; here = here; else = λ t g e. refl; kept = λ t g e. refl; late = λ e. absurd (omega arith) })
 
-  pub note-room : 256 ≤ x → k < 256
-  note-room l = omega (arith, h .few-tasks, queued-room u q u-in (omega arith))
+  note-free : x < 65536 → 256 ≤ placeIn w u
+  note-free l = place-off w u (rw x-is at l)
 
-  pub note-goes : 256 ≤ x → (w′ : List ℕ) → w′ ≡ pushed w k u → Outside w w′ × Noted (taskCount (sheetIn w)) k u (k + 1) w w′
+  pub note-room : x < 65536 → k < 256
+  note-room l = omega (arith, h .few-tasks, queued-room u q u-in (note-free l))
+
+  pub note-goes : x < 65536 → (w′ : List ℕ) → w′ ≡ pushed w k u → Outside w w′ × Noted (taskCount (sheetIn w)) k u (k + 1) w w′
   note-goes l w′ e =
       let n : ℕ = taskCount (sheetIn w) in
-      let free : 256 ≤ getD w (4368 + u) 0 = omega arith in
+      let free : 256 ≤ placeIn w u = note-free l in
       let room = note-room l in
-      let there : getD (pushed w k u) (4368 + u) 0 ≡ k = push-here n k u w (h .few-tasks) (h .long) u-in free q in
-      let else : (t : ℕ) → t ≢ u → getD (pushed w k u) (4368 + t) 0 ≡ getD w (4368 + t) 0 = push-else n k u w (h .few-tasks) (h .long) u-in free q in
+      let there : placeIn (pushed w k u) u ≡ k = push-here n k u w (h .few-tasks) (h .long) u-in free q in
+      let else : (t : ℕ) → t < n → t ≢ u → placeIn (pushed w k u) t ≡ placeIn w t = push-else n k u w (h .few-tasks) (h .long) u-in free q in
       subst (λ (z : List ℕ). Outside w z × Noted n k u (k + 1) w z) (sym e) (
         push-outside n k u w (h .few-tasks) (h .long) u-in free q,
         record {
@@ -54,14 +58,14 @@ module _ (w : List ℕ) (h : Held w) (k u : ℕ) (u-in : u < taskCount (sheetIn 
           more = omega arith;
           here = rw there room;
           else = else;
-          kept = λ t g. else t (λ z. let y : getD w (4368 + t) 0 ≡ getD w (4368 + u) 0 = ap (λ (v : ℕ). getD w (4368 + v) 0) z in absurd (omega arith));
+          kept = λ t p g. else t p (λ z. let y : placeIn w t ≡ placeIn w u = ap (placeIn w) z in absurd (omega arith));
           late = λ g. there;
         },
       )
 
 pub search-same : {s : Sheet} {goal k : ℕ} {w : List ℕ} (c c′ : ℕ → Bool) → ((l : ℕ) → l < linkCount s → c l ≡ c′ l) → Search s goal c k w → Search s goal c′ k w
 search-same c c′ e p =
-    record { queued = p .queued; goal-in = p .goal-in; sound = p .sound; closed = λ l h q. p .closed l h (e l h ∙ q); apart = λ l h q. p .apart l h (e l h ∙ q) }
+    record { queued = p .queued; goal-task = p .goal-task; goal-in = p .goal-in; sound = p .sound; closed = λ l h q. p .closed l h (e l h ∙ q); apart = λ l h q. p .apart l h (e l h ∙ q) }
 
 module _ (s : Sheet) (declared : Declared s) (few : taskCount s ≤ 256) (goal i l v : ℕ) where
   module _ (k : ℕ) (w : List ℕ) (p : Spreading s goal i k l v w) (l-in : l < linkCount s) (to : targetOf s l ≡ v) where
@@ -75,7 +79,7 @@ module _ (s : Sheet) (declared : Declared s) (few : taskCount s ≤ 256) (goal i
         go : Dec (targetOf s l ≡ goal) → reaches (taskCount s) s (sourceOf s l) goal ≡ true
         go (yes e) = reaches-along s declared l goal l-in (inl e)
         go (no e) =
-            let x : getD w (4368 + targetOf s l) 0 ≡ i = ap (λ (z : ℕ). getD w (4368 + z) 0) to ∙ p .here in
+            let x : placeIn w (targetOf s l) ≡ i = ap (placeIn w) to ∙ p .here in
             reaches-along s declared l goal l-in (inr (p .search .sound (targetOf s l) (declared .target l l-in) (omega (arith, few-i)) e))
 
     pub spread-back : sourceOf s l ≡ goal → onCircle s goal ≡ true
@@ -84,35 +88,35 @@ module _ (s : Sheet) (declared : Declared s) (few : taskCount s ≤ 256) (goal i
 
     module _ {u r : ℕ} (w′ : List ℕ) (u-is : u ≡ sourceOf s l) (other : u ≡ goal → ⊥) (n : Noted (taskCount s) k u r w w′) where
       -- the links that were counted before
-      was : (j : ℕ) → doneUpTo s i (l + 1) v w j ≡ doneUpTo s i (l + 1) v w′ j
-      was j = go (ℕ-discrete (targetOf s j) u) (decLt (getD w (4368 + targetOf s j) 0) 256)
+      was : (j : ℕ) → j < linkCount s → doneUpTo s i (l + 1) v w j ≡ doneUpTo s i (l + 1) v w′ j
+      was j g = go (ℕ-discrete (targetOf s j) u) (decLt (placeIn w (targetOf s j)) 256)
         where
-          go : Dec (targetOf s j ≡ u) → Dec (getD w (4368 + targetOf s j) 0 < 256) → doneUpTo s i (l + 1) v w j ≡ doneUpTo s i (l + 1) v w′ j
-          go d (yes h) = up-same s i v j w w′ (l + 1) (n .kept (targetOf s j) h)
-          go (no e) (no h) = up-same s i v j w w′ (l + 1) (n .else (targetOf s j) e)
+          go : Dec (targetOf s j ≡ u) → Dec (placeIn w (targetOf s j) < 256) → doneUpTo s i (l + 1) v w j ≡ doneUpTo s i (l + 1) v w′ j
+          go d (yes h) = up-same s i v j w w′ (l + 1) (n .kept (targetOf s j) (declared .target j g) h)
+          go (no e) (no h) = up-same s i v j w w′ (l + 1) (n .else (targetOf s j) (declared .target j g) e)
           go (yes e) (no h) =
-              let a : getD w (4368 + targetOf s j) 0 ≡ getD w (4368 + u) 0 = ap (λ (z : ℕ). getD w (4368 + z) 0) e in
-              let b : getD w′ (4368 + targetOf s j) 0 ≡ getD w′ (4368 + u) 0 = ap (λ (z : ℕ). getD w′ (4368 + z) 0) e in
+              let a : placeIn w (targetOf s j) ≡ placeIn w u = ap (placeIn w) e in
+              let b : placeIn w′ (targetOf s j) ≡ placeIn w′ u = ap (placeIn w′) e in
               let late = n .late (omega arith) in
               let f = few-i in
               up-late s i v j w w′ (l + 1) (omega arith) (omega (arith, p .early))
 
-      closed′ : (j : ℕ) → j < linkCount s → doneUpTo s i (l + 1) v w′ j ≡ true → Dec (j ≡ l) → getD w′ (4368 + sourceOf s j) 0 < 256
+      closed′ : (j : ℕ) → j < linkCount s → doneUpTo s i (l + 1) v w′ j ≡ true → Dec (j ≡ l) → placeIn w′ (sourceOf s j) < 256
       closed′ j h q (yes e) =
           let x : sourceOf s j ≡ u = ap (sourceOf s) e ∙ sym u-is in
-          let y : getD w′ (4368 + sourceOf s j) 0 ≡ getD w′ (4368 + u) 0 = ap (λ (z : ℕ). getD w′ (4368 + z) 0) x in
+          let y : placeIn w′ (sourceOf s j) ≡ placeIn w′ u = ap (placeIn w′) x in
           omega (arith, n .here)
       closed′ j h q (no e) =
-          let x = p .search .closed j h (sym (up-else s i v l j w e) ∙ was j ∙ q) in
-          rw (n .kept (sourceOf s j) x) x
+          let x = p .search .closed j h (sym (up-else s i v l j w e) ∙ was j h ∙ q) in
+          rw (n .kept (sourceOf s j) (declared .source j h) x) x
 
       apart′ : (j : ℕ) → j < linkCount s → doneUpTo s i (l + 1) v w′ j ≡ true → Dec (j ≡ l) → sourceOf s j ≡ goal → ⊥
       apart′ j h q (yes e) g = other (u-is ∙ ap (sourceOf s) (sym e) ∙ g)
-      apart′ j h q (no e) g = p .search .apart j h (sym (up-else s i v l j w e) ∙ was j ∙ q) g
+      apart′ j h q (no e) g = p .search .apart j h (sym (up-else s i v l j w e) ∙ was j h ∙ q) g
 
-      sound′ : (t : ℕ) → t < taskCount s → getD w′ (4368 + t) 0 < 256 → (t ≡ goal → ⊥) → Dec (t ≡ u) → reaches (taskCount s) s t goal ≡ true
+      sound′ : (t : ℕ) → t < taskCount s → placeIn w′ t < 256 → (t ≡ goal → ⊥) → Dec (t ≡ u) → reaches (taskCount s) s t goal ≡ true
       sound′ t h g d (yes e) = ap (λ (x : ℕ). reaches (taskCount s) s x goal) (e ∙ u-is) ∙ reached
-      sound′ t h g d (no e) = p .search .sound t h (omega (arith, n .else t e)) d
+      sound′ t h g d (no e) = p .search .sound t h (omega (arith, n .else t h e)) d
 
       pub spread-turns : Spreading s goal i r (l + 1) v w′
       spread-turns =
@@ -120,13 +124,14 @@ module _ (s : Sheet) (declared : Declared s) (few : taskCount s ≤ 256) (goal i
           record {
             search = record {
               queued = n .queued;
-              goal-in = rw (n .kept goal (p .search .goal-in)) (p .search .goal-in);
+              goal-task = p .search .goal-task;
+              goal-in = rw (n .kept goal (p .search .goal-task) (p .search .goal-in)) (p .search .goal-in);
               sound = λ t h g d. sound′ t h g d (ℕ-discrete t u);
               closed = λ j h q. closed′ j h q (ℕ-discrete j l);
               apart = λ j h q. apart′ j h q (ℕ-discrete j l);
             };
             task = p .task;
-            here = n .kept v (omega (arith, p .here)) ∙ p .here;
+            here = n .kept v (p .task) (omega (arith, p .here)) ∙ p .here;
             early = omega (arith, p .early, n .more);
           }
 
@@ -140,15 +145,15 @@ pub record SpreadTo (w₀ : List ℕ) (goal v k l : ℕ) (w : List ℕ) : Type 0
   pub outside : Outside w₀ w
   pub here : l ≤ linkCount (sheetIn w₀)
   pub own : l < linkCount (sheetIn w₀) → targetOf (sheetIn w₀) l ≡ v
-  pub spreading : Spreading (sheetIn w₀) goal (getD w₀ (4368 + v) 0) k l v w
+  pub spreading : Spreading (sheetIn w₀) goal (placeIn w₀ v) k l v w
 
-pub spread-starts : (w : List ℕ) (goal v k r : ℕ) → Held w → Chained Target (sheetIn w) w → Spreading (sheetIn w) goal (getD w (4368 + v) 0) k 0 v w → r ≡ headOf Target w v → SpreadTo w goal v k r w
+pub spread-starts : (w : List ℕ) (goal v k r : ℕ) → Held w → Chained Target (sheetIn w) w → Spreading (sheetIn w) goal (placeIn w v) k 0 v w → r ≡ headOf Target w v → SpreadTo w goal v k r w
 spread-starts w goal v k r h d p e =
     record {
       outside = outside-none w;
       here = rw e (d .head-few v (p .task));
       own = λ g. ap (targetOf (sheetIn w)) e ∙ d .head-own v (p .task) (rw e at g);
-      spreading = spread-hop (sheetIn w) w goal (getD w (4368 + v) 0) k 0 r v p (omega arith) (λ l g a b. d .head-none v (p .task) l (rw e at b));
+      spreading = spread-hop (sheetIn w) w goal (placeIn w v) k 0 r v p (omega arith) (λ l g a b. d .head-none v (p .task) l (rw e at b));
     }
 
 -- what a turn asks
@@ -161,7 +166,7 @@ spread-source {w₀} {w} {goal} {v} {k} {l} h p g = rw (outside-sheet h (p .outs
 
 pub spread-closes : {w₀ w : List ℕ} {goal v k l u : ℕ} → Held w₀ → SpreadTo w₀ goal v k l w → l < linkCount (sheetIn w₀) → u ≡ sourceOf (sheetIn w) l → u ≡ goal → onCircle (sheetIn w₀) goal ≡ true
 spread-closes {w₀} {w} {goal} {v} {k} {l} {u} h p g e q =
-    spread-back (sheetIn w₀) (loaded-declared (h .loaded)) (h .few-tasks) goal (getD w₀ (4368 + v) 0) l v k w (p .spreading) g (p .own g) (ap (λ (s : Sheet). sourceOf s l) (sym (outside-sheet h (p .outside))) ∙ sym e ∙ q)
+    spread-back (sheetIn w₀) (loaded-declared (h .loaded)) (h .few-tasks) goal (placeIn w₀ v) l v k w (p .spreading) g (p .own g) (ap (λ (s : Sheet). sourceOf s l) (sym (outside-sheet h (p .outside))) ∙ sym e ∙ q)
 
 pub spread-goes : {w₀ w w′ : List ℕ} {goal v k k′ l u r : ℕ} → Held w₀ → Chained Target (sheetIn w₀) w₀ → SpreadTo w₀ goal v k l w → l < linkCount (sheetIn w₀) → u ≡ sourceOf (sheetIn w) l → (u ≡ goal → ⊥)
     → Outside w w′ × Noted (taskCount (sheetIn w)) k u k′ w w′ → r ≡ nextOf Target w′ l → SpreadTo w₀ goal v k′ r w′
@@ -170,13 +175,13 @@ spread-goes {w₀} {w} {w′} {goal} {v} {k} {k′} {l} {u} {r} h d p g e o t q 
     let c : Chained Target (sheetIn w₀) w′ = chain-here h d b in
     let to = p .own g in
     let n : Noted (taskCount (sheetIn w₀)) k u k′ w w′ = outside-from (λ (s : Sheet). Noted (taskCount s) k u k′ w w′) h (p .outside) (t .1) in
-    let m : Spreading (sheetIn w₀) goal (getD w₀ (4368 + v) 0) k′ (l + 1) v w′ =
-    spread-turns (sheetIn w₀) (loaded-declared (h .loaded)) (h .few-tasks) goal (getD w₀ (4368 + v) 0) l v k w (p .spreading) g to w′ (e ∙ ap (λ (s : Sheet). sourceOf s l) (outside-sheet h (p .outside))) o n in
+    let m : Spreading (sheetIn w₀) goal (placeIn w₀ v) k′ (l + 1) v w′ =
+    spread-turns (sheetIn w₀) (loaded-declared (h .loaded)) (h .few-tasks) goal (placeIn w₀ v) l v k w (p .spreading) g to w′ (e ∙ ap (λ (s : Sheet). sourceOf s l) (outside-sheet h (p .outside))) o n in
     record {
       outside = b;
       here = rw q (c .next-few l g);
       own = λ a. ap (targetOf (sheetIn w₀)) q ∙ c .next-own l g (rw q at a) ∙ to;
-      spreading = spread-hop (sheetIn w₀) w′ goal (getD w₀ (4368 + v) 0) k′ (l + 1) r v m (let x = c .next-more l g in omega arith) (λ j a x y z. c .next-none l g j (omega arith) (rw q at y) (z ∙ sym to));
+      spreading = spread-hop (sheetIn w₀) w′ goal (placeIn w₀ v) k′ (l + 1) r v m (let x = c .next-more l g in omega arith) (λ j a x y z. c .next-none l g j (omega arith) (rw q at y) (z ∙ sym to));
     }
 
 pub spread-less : {w₀ w w′ : List ℕ} {goal v k l r : ℕ} → Held w₀ → Chained Target (sheetIn w₀) w₀ → SpreadTo w₀ goal v k l w → l < linkCount (sheetIn w₀) → Outside w w′ → r ≡ nextOf Target w′ l → l < r
@@ -185,14 +190,14 @@ spread-less {w₀} {w} {w′} {goal} {v} {k} {l} {r} h d p g t e =
     let x = c .next-more l g in
     omega arith
 
-pub spread-ends : {w₀ w : List ℕ} {goal v k l : ℕ} → Held w₀ → SpreadTo w₀ goal v k l w → linkCount (sheetIn w₀) ≤ l → Searched (sheetIn w₀) goal (getD w₀ (4368 + v) 0 + 1) k w
+pub spread-ends : {w₀ w : List ℕ} {goal v k l : ℕ} → Held w₀ → SpreadTo w₀ goal v k l w → linkCount (sheetIn w₀) ≤ l → Searched (sheetIn w₀) goal (placeIn w₀ v + 1) k w
 spread-ends {w₀} {w} {goal} {v} {k} {l} h p g =
     let s : Sheet = sheetIn w₀ in
-    let i : ℕ = getD w₀ (4368 + v) 0 in
+    let i : ℕ = placeIn w₀ v in
     let q = p .spreading in
     record { search = search-same (doneUpTo s i l v w) (doneBy s (i + 1) w) (λ j a. up-end s i v j w l (omega arith) (q .here) (λ x. only (targetOf s j) (loaded-declared (h .loaded) .target j a) x)) (q .search) }
   where
-    only : (t : ℕ) → t < taskCount (sheetIn w₀) → getD w (4368 + t) 0 ≡ getD w₀ (4368 + v) 0 → t ≡ v
+    only : (t : ℕ) → t < taskCount (sheetIn w₀) → placeIn w t ≡ placeIn w₀ v → t ≡ v
     only t a x =
         let q = p .spreading in
         let f = queued-few (q .search .queued) in
@@ -205,12 +210,12 @@ spread-ends {w₀} {w} {goal} {v} {k} {l} h p g =
 pub emptied-none : (w : List ℕ) → Emptied 0 w
 emptied-none w = record { at = λ t h. absurd (omega arith) }
 
-pub emptied-more : {w : List ℕ} (t : ℕ) → 4368 + t < length w → Emptied t w → Emptied (t + 1) (set w (4368 + t) 256)
+pub emptied-more : {w : List ℕ} (t : ℕ) → 3856 + t < length w → Emptied t w → Emptied (t + 1) (set w (3856 + t) 0)
 emptied-more {w} t h d = record { at = λ u k. go u k (ℕ-discrete u t) }
   where
-    go : (u : ℕ) → u < t + 1 → Dec (u ≡ t) → getD (set w (4368 + t) 256) (4368 + u) 0 ≡ 256
-    go u k (yes e) = rw e (getD-set-same w (4368 + t) 256 0 h)
-    go u k (no e) = getD-set-other w (4368 + t) (4368 + u) 256 0 (λ x. e (omega arith)) ∙ d .at u (omega arith)
+    go : (u : ℕ) → u < t + 1 → Dec (u ≡ t) → placeIn (set w (3856 + t) 0) u ≡ 256
+    go u k (yes e) = rw e (place-none w t h 0 (omega arith))
+    go u k (no e) = place-far w (3856 + t) 0 u (λ x. e (omega arith)) ∙ d .at u (omega arith)
 
 pub emptied-at : {n t : ℕ} {w : List ℕ} → Emptied t w → t ≡ n → Emptied n w
 emptied-at {n} {t} {w} d e = subst (λ (x : ℕ). Emptied x w) e d
@@ -218,16 +223,17 @@ emptied-at {n} {t} {w} d e = subst (λ (x : ℕ). Emptied x w) e d
 pub search-starts : {s : Sheet} {goal : ℕ} {w w′ : List ℕ} → taskCount s ≤ 256 → fixed ≤ length w → goal < taskCount s → Emptied (taskCount s) w → w′ ≡ pushed w 0 goal → Outside w w′ × Searched s goal 0 1 w′
 search-starts {s} {goal} {w} {w′} few long g blank e =
     let q : Queued (taskCount s) 0 w = queued-none (blank .at) in
-    let free : 256 ≤ getD w (4368 + goal) 0 = omega (arith, blank .at goal g) in
-    let there : getD (pushed w 0 goal) (4368 + goal) 0 ≡ 0 = push-here (taskCount s) 0 goal w few long g free q in
-    let else : (t : ℕ) → t ≢ goal → getD (pushed w 0 goal) (4368 + t) 0 ≡ getD w (4368 + t) 0 = push-else (taskCount s) 0 goal w few long g free q in
+    let free : 256 ≤ placeIn w goal = omega (arith, blank .at goal g) in
+    let there : placeIn (pushed w 0 goal) goal ≡ 0 = push-here (taskCount s) 0 goal w few long g free q in
+    let else : (t : ℕ) → t < taskCount s → t ≢ goal → placeIn (pushed w 0 goal) t ≡ placeIn w t = push-else (taskCount s) 0 goal w few long g free q in
     subst (λ (x : List ℕ). Outside w x × Searched s goal 0 1 x) (sym e) (
       push-outside (taskCount s) 0 goal w few long g free q,
       record {
         search = record {
           queued = queued-push (taskCount s) 0 goal w few long g free q;
+          goal-task = g;
           goal-in = rw there (omega arith);
-          sound = λ t h a d. absurd (omega (arith, else t d, blank .at t h));
+          sound = λ t h a d. absurd (omega (arith, else t h d, blank .at t h));
           closed = λ l h x. absurd (true≢false (sym x ∙ done-none s (pushed w 0 goal) l));
           apart = λ l h x. absurd (true≢false (sym x ∙ done-none s (pushed w 0 goal) l));
         };
@@ -236,9 +242,9 @@ search-starts {s} {goal} {w} {w′} few long g blank e =
 
 -- the next task of the queue
 module _ (s : Sheet) (w : List ℕ) (goal i k : ℕ) (p : Searched s goal i k w) (left : i < k) {v : ℕ} (v-is : v ≡ getD w (4112 + i) 0) where
-  pub search-next : Spreading s goal (getD w (4368 + v) 0) k 0 v w × (getD w (4368 + v) 0 ≡ i)
+  pub search-next : Spreading s goal (placeIn w v) k 0 v w × (placeIn w v ≡ i)
   search-next =
-      let here : getD w (4368 + v) 0 ≡ i = ap (λ (z : ℕ). getD w (4368 + z) 0) v-is ∙ p .search .queued .place i left in (
+      let here : placeIn w v ≡ i = ap (placeIn w) v-is ∙ p .search .queued .place i left in (
         subst (λ (j : ℕ). Spreading s goal j k 0 v w) (sym here)
             (record {
               search = search-same (doneBy s i w) (doneUpTo s i 0 v w) (λ l h. up-none s i v l w) (p .search);
@@ -251,15 +257,15 @@ module _ (s : Sheet) (w : List ℕ) (goal i k : ℕ) (p : Searched s goal i k w)
 
 -- every task of the queue was looked at: what leads to the goal is in it, and no link of the goal leads there
 module _ (s : Sheet) (w : List ℕ) (goal i k : ℕ) (declared : Declared s) (goal-task : goal < taskCount s) (p : Searched s goal i k w) (all : k ≤ i) where
-  done-in : (l : ℕ) → l < linkCount s → getD w (4368 + targetOf s l) 0 < 256 → doneBy s i w l ≡ true
+  done-in : (l : ℕ) → l < linkCount s → placeIn w (targetOf s l) < 256 → doneBy s i w l ≡ true
   unfolding doneBy
-  done-in l h g = lt-ltb (getD w (4368 + targetOf s l) 0) i (omega (arith, p .search .queued .few (targetOf s l) (declared .target l h) g))
+  done-in l h g = lt-ltb (placeIn w (targetOf s l)) i (omega (arith, p .search .queued .few (targetOf s l) (declared .target l h) g))
 
-  leads-in : (n t : ℕ) → reaches n s t goal ≡ true → (getD w (4368 + t) 0 < 256) × (t ≢ goal)
+  leads-in : (n t : ℕ) → reaches n s t goal ≡ true → (placeIn w t < 256) × (t ≢ goal)
   leads-in zero t e = absurd (false≢true (sym (reaches-none s t goal) ∙ e))
   leads-in (suc n) t e =
       let m = link-reaches s n t goal e in
-      let g : getD w (4368 + targetOf s (m .0)) 0 < 256 =
+      let g : placeIn w (targetOf s (m .0)) < 256 =
       ⊎-elim (λ q. rw q (p .search .goal-in)) (λ q. leads-in n (targetOf s (m .0)) q .0) (m .3) in
       let c = done-in (m .0) (m .1) g in
       (rw (m .2) at (p .search .closed (m .0) (m .1) c), λ q. p .search .apart (m .0) (m .1) c (m .2 ∙ q))

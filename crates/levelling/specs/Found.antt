@@ -26,7 +26,7 @@ pub record Levelled (s : Sheet) (w : List ℕ) : Type 0 where
 pub record LevelsAre (w w′ : List ℕ) (r : Found) : Type 0 where
   pub answer : foundOf r ≡ circle (sheetIn w)
   pub levels : circle (sheetIn w) ≡ none → Levelled (sheetIn w) w′
-  pub kept : Only 2320 4624 w w′
+  pub kept : Only 2320 4368 w w′
 
 -- after the links into one more task of the search, of which i are looked at
 pub record SpreadIs (s : Sheet) (goal i : ℕ) (w : List ℕ) (r : Spread) : Type 0 where

@@ -1,13 +1,12 @@
 // The lowest task on a circle: for one task after the other, the tasks that lead to it, until a link out of it leads to one of them.
 ghost use mathlib.Core.Path.{_≡_};
 ghost use Prim.Native.Nat.{_+_, _<_};
-ghost use lib.ListN.{getD};
 ghost use Rattle.sheet.specs.Sheet.{taskCount};
 ghost use Rattle.sheet.specs.Tables.{sheetIn};
 ghost use Rattle.graph.specs.Graph.{onCircle, circle};
 ghost use Rattle.chains.specs.Chains.{Chained};
 ghost use Rattle.chains.specs.declared.End.the-variants.{Target};
-ghost use Rattle.peeling.specs.Words.{Held, Outside, Queued};
+ghost use Rattle.peeling.specs.Words.{Held, Outside, placeIn, Queued};
 ghost use Rattle.peeling.specs.Peeling.{Emptied, Noted, Searched, Spreading};
 ghost use Rattle.words.specs.Found.{foundOf};
 ghost use Rattle.levelling.specs.Found.{SpreadIs};
@@ -29,7 +28,7 @@ fn note(w: &mut [u32], k: usize, u: usize) -> usize
     requires { ⌜ Queued (taskCount (sheetIn (now w))) k (now w) ⌝ }
     ensures { λ r. ⌜ Outside (now (w .entry)) (now (w .exit)) × Noted (taskCount (sheetIn (now (w .entry)))) k u r (now (w .entry)) (now (w .exit)) ⌝ }
 {
-    if workspace::word(w, 4368 + u) < 256 {
+    if 65536 <= workspace::word(w, 3856 + u) {
         return k;
     }
     queue::push(w, k, u);
@@ -40,8 +39,8 @@ fn note(w: &mut [u32], k: usize, u: usize) -> usize
 fn walk_into(w: &mut [u32], goal: usize, k: usize, v: usize) -> Spread
     requires { ⌜ Held (now w) ⌝ }
     requires { ⌜ Chained Target (sheetIn (now w)) (now w) ⌝ }
-    requires { ⌜ Spreading (sheetIn (now w)) goal (getD (now w) (4368 + v) 0) k 0 v (now w) ⌝ }
-    ensures { λ r. ⌜ Outside (now (w .entry)) (now (w .exit)) × SpreadIs (sheetIn (now (w .entry))) goal (getD (now (w .entry)) (4368 + v) 0 + 1) (now (w .exit)) r ⌝ }
+    requires { ⌜ Spreading (sheetIn (now w)) goal (placeIn (now w) v) k 0 v (now w) ⌝ }
+    ensures { λ r. ⌜ Outside (now (w .entry)) (now (w .exit)) × SpreadIs (sheetIn (now (w .entry))) goal (placeIn (now (w .entry)) v + 1) (now (w .exit)) r ⌝ }
 {
     let m = tables::links(w);
     let mut q = k;
@@ -100,7 +99,7 @@ fn empty(w: &mut [u32])
     let n = tables::tasks(w);
     let mut t: usize = 0;
     while t < n {
-        w[4368 + t] = 256;
+        w[3856 + t] = 0;
         t += 1;
     }
 }

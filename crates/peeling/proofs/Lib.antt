@@ -1,5 +1,6 @@
 -- The laws of `peeling`.
 pub mod Frames
+pub mod Places
 pub mod Pushes
 pub mod Lights
 pub mod Walks

@@ -9,55 +9,55 @@ use Rattle.sheet.specs.Tables.{sheetIn, Loaded}
 use Rattle.sheet.proofs.Rows.{ranged}
 use Rattle.chains.specs.Chains.{headOf, nextOf, Chained}
 use Rattle.chains.specs.declared.End.the-variants.{Target}
-use Rattle.peeling.specs.Words.{Held, Outside, pushed}
+use Rattle.peeling.specs.Words.{Held, Outside, placeIn, pushed}
 use Rattle.peeling.specs.Peeling.{Peeled, Walking, Counted, Filled}
 use Rattle.peeling.proofs.Frames.{loaded-declared, outside-sheet, outside-held, outside-none, outside-trans, outside-chained, outside-own, outside-from}
 use Rattle.peeling.proofs.Pushes.{queued-few}
 use Rattle.peeling.proofs.Walks as walks
 
 module _ (w : List ℕ) (h : Held w) where
-  module _ (k v l : ℕ) (l-in : l < linkCount (sheetIn w)) (to : targetOf (sheetIn w) l ≡ v) (p : Walking (sheetIn w) (getD w (4368 + v) 0) k l v 0 0 w) where
+  module _ (k v l : ℕ) (l-in : l < linkCount (sheetIn w)) (to : targetOf (sheetIn w) l ≡ v) (p : Walking (sheetIn w) (placeIn w v) k l v 0 0 w) where
     cheap : costOf (sheetIn w) l ≤ 65535
     cheap = omega (arith, ranged w (h .loaded) .costs l l-in)
 
     pub visit-degree : {u d : ℕ} → u ≡ sourceOf (sheetIn w) l → d ≡ getD w (3856 + u) 0 → 1 ≤ d
-    visit-degree = walks.visit-degree (sheetIn w) w (loaded-declared (h .loaded)) (h .few-tasks) (h .long) (getD w (4368 + v) 0) k l v p l-in to cheap
+    visit-degree = walks.visit-degree (sheetIn w) w (loaded-declared (h .loaded)) (h .few-tasks) (h .long) (placeIn w v) k l v p l-in to cheap
 
     pub visit-room : k < 256
-    visit-room = walks.visit-room (sheetIn w) w (loaded-declared (h .loaded)) (h .few-tasks) (h .long) (getD w (4368 + v) 0) k l v p l-in to cheap
+    visit-room = walks.visit-room (sheetIn w) w (loaded-declared (h .loaded)) (h .few-tasks) (h .long) (placeIn w v) k l v p l-in to cheap
 
     pub visit-fits : {u c x y z : ℕ} → u ≡ sourceOf (sheetIn w) l → c ≡ costOf (sheetIn w) l → x ≡ getD w (2320 + v) 0 → y ≡ getD w (2320 + u) 0 → z ≡ max y (c + x) → z < 4294967296
-    visit-fits = walks.visit-fits (sheetIn w) w (loaded-declared (h .loaded)) (h .few-tasks) (h .long) (getD w (4368 + v) 0) k l v p l-in to cheap
+    visit-fits = walks.visit-fits (sheetIn w) w (loaded-declared (h .loaded)) (h .few-tasks) (h .long) (placeIn w v) k l v p l-in to cheap
 
     module _ {u c x y d z z′ e : ℕ} (eu : u ≡ sourceOf (sheetIn w) l) (ec : c ≡ costOf (sheetIn w) l) (ex : x ≡ getD w (2320 + v) 0) (ey : y ≡ getD w (2320 + u) 0) (ed : d ≡ getD w (3856 + u) 0) (ez : z ≡ max y (c + x)) (ez′ : z′ ≡ z) (ee : e ≡ d - 1) where
-      pub visit-stays : (w′ : List ℕ) → w′ ≡ set (set w (2320 + u) z′) (3856 + u) e → (d ≡ 1 → ⊥) → Outside w w′ × Walking (sheetIn w) (getD w (4368 + v) 0) k (l + 1) v 0 0 w′
-      visit-stays = walks.visit-stays (sheetIn w) w (loaded-declared (h .loaded)) (h .few-tasks) (h .long) (getD w (4368 + v) 0) k l v p l-in to cheap eu ec ex ey ed ez ez′ ee
+      pub visit-stays : (w′ : List ℕ) → w′ ≡ set (set w (2320 + u) z′) (3856 + u) e → (d ≡ 1 → ⊥) → Outside w w′ × Walking (sheetIn w) (placeIn w v) k (l + 1) v 0 0 w′
+      visit-stays = walks.visit-stays (sheetIn w) w (loaded-declared (h .loaded)) (h .few-tasks) (h .long) (placeIn w v) k l v p l-in to cheap eu ec ex ey ed ez ez′ ee
 
-      pub visit-goes : (w′ w″ : List ℕ) → w′ ≡ set (set w (2320 + u) z′) (3856 + u) e → w″ ≡ pushed w′ k u → d ≡ 1 → Outside w w″ × Walking (sheetIn w) (getD w (4368 + v) 0) (k + 1) (l + 1) v 0 0 w″
-      visit-goes = walks.visit-goes (sheetIn w) w (loaded-declared (h .loaded)) (h .few-tasks) (h .long) (getD w (4368 + v) 0) k l v p l-in to cheap eu ec ex ey ed ez ez′ ee
+      pub visit-goes : (w′ w″ : List ℕ) → w′ ≡ set (set w (2320 + u) z′) (3856 + u) e → w″ ≡ pushed w′ k u → d ≡ 1 → Outside w w″ × Walking (sheetIn w) (placeIn w v) (k + 1) (l + 1) v 0 0 w″
+      visit-goes = walks.visit-goes (sheetIn w) w (loaded-declared (h .loaded)) (h .few-tasks) (h .long) (placeIn w v) k l v p l-in to cheap eu ec ex ey ed ez ez′ ee
 
 -- the walk, seen from where it began
 pub record WalkTo (w₀ : List ℕ) (v k l : ℕ) (w : List ℕ) : Type 0 where
   pub outside : Outside w₀ w
   pub here : l ≤ linkCount (sheetIn w₀)
   pub own : l < linkCount (sheetIn w₀) → targetOf (sheetIn w₀) l ≡ v
-  pub walking : Walking (sheetIn w₀) (getD w₀ (4368 + v) 0) k l v 0 0 w
+  pub walking : Walking (sheetIn w₀) (placeIn w₀ v) k l v 0 0 w
 
-pub walk-starts : (w : List ℕ) (v k r : ℕ) → Held w → Chained Target (sheetIn w) w → Walking (sheetIn w) (getD w (4368 + v) 0) k 0 v 0 0 w → r ≡ headOf Target w v → WalkTo w v k r w
+pub walk-starts : (w : List ℕ) (v k r : ℕ) → Held w → Chained Target (sheetIn w) w → Walking (sheetIn w) (placeIn w v) k 0 v 0 0 w → r ≡ headOf Target w v → WalkTo w v k r w
 walk-starts w v k r h d p e =
-    let q = walks.walk-begins (sheetIn w) w (loaded-declared (h .loaded)) (h .few-tasks) (h .long) (getD w (4368 + v) 0) k v r d p e in
+    let q = walks.walk-begins (sheetIn w) w (loaded-declared (h .loaded)) (h .few-tasks) (h .long) (placeIn w v) k v r d p e in
     record { outside = outside-none w; here = q .0; own = q .1; walking = q .2 }
 
 -- what a turn asks
 pub walk-asks : {w₀ w : List ℕ} {v k l : ℕ} → Held w₀ → WalkTo w₀ v k l w → l < linkCount (sheetIn w₀)
-    → Held w × (((l < linkCount (sheetIn w)) × (targetOf (sheetIn w) l ≡ v)) × Walking (sheetIn w) (getD w (4368 + v) 0) k l v 0 0 w)
+    → Held w × (((l < linkCount (sheetIn w)) × (targetOf (sheetIn w) l ≡ v)) × Walking (sheetIn w) (placeIn w v) k l v 0 0 w)
 walk-asks {w₀} {w} {v} {k} {l} h p g =
     let e : sheetIn w ≡ sheetIn w₀ = outside-sheet h (p .outside) in
-    let here : getD w (4368 + v) 0 ≡ getD w₀ (4368 + v) 0 = p .walking .here in (
+    let here : placeIn w v ≡ placeIn w₀ v = p .walking .here in (
       outside-held h (p .outside),
       (
         subst (λ (s : Sheet). (l < linkCount s) × (targetOf s l ≡ v)) (sym e) (g, p .own g),
-        subst (λ (s : Sheet). Walking s (getD w (4368 + v) 0) k l v 0 0 w) (sym e) (subst (λ (j : ℕ). Walking (sheetIn w₀) j k l v 0 0 w) (sym here) (p .walking)),
+        subst (λ (s : Sheet). Walking s (placeIn w v) k l v 0 0 w) (sym e) (subst (λ (j : ℕ). Walking (sheetIn w₀) j k l v 0 0 w) (sym here) (p .walking)),
       ),
     )
 
@@ -72,13 +72,13 @@ chain-here {w₀} {w} h d b = outside-chained (sheetIn w₀) w₀ w (h .few-task
 
 -- a turn, and on to the next link
 pub walk-turns : {w₀ w w′ : List ℕ} {v k k′ l r : ℕ} → Held w₀ → Chained Target (sheetIn w₀) w₀ → WalkTo w₀ v k l w → l < linkCount (sheetIn w₀)
-    → Outside w w′ × Walking (sheetIn w) (getD w (4368 + v) 0) k′ (l + 1) v 0 0 w′ → r ≡ nextOf Target w′ l → WalkTo w₀ v k′ r w′
+    → Outside w w′ × Walking (sheetIn w) (placeIn w v) k′ (l + 1) v 0 0 w′ → r ≡ nextOf Target w′ l → WalkTo w₀ v k′ r w′
 walk-turns {w₀} {w} {w′} {v} {k} {k′} {l} {r} h d p g t e =
     let b : Outside w₀ w′ = outside-trans (p .outside) (t .0) in
     let h′ = outside-held h b in
-    let q : Walking (sheetIn w₀) (getD w₀ (4368 + v) 0) k′ (l + 1) v 0 0 w′ =
-    subst (λ (j : ℕ). Walking (sheetIn w₀) j k′ (l + 1) v 0 0 w′) (p .walking .here) (subst (λ (s : Sheet). Walking s (getD w (4368 + v) 0) k′ (l + 1) v 0 0 w′) (outside-sheet h (p .outside)) (t .1)) in
-    let m = walks.walk-more (sheetIn w₀) w′ (loaded-declared (h .loaded)) (h .few-tasks) (h′ .long) (getD w₀ (4368 + v) 0) k′ v l r (chain-here h d b) q g (p .own g) e in
+    let q : Walking (sheetIn w₀) (placeIn w₀ v) k′ (l + 1) v 0 0 w′ =
+    subst (λ (j : ℕ). Walking (sheetIn w₀) j k′ (l + 1) v 0 0 w′) (p .walking .here) (subst (λ (s : Sheet). Walking s (placeIn w v) k′ (l + 1) v 0 0 w′) (outside-sheet h (p .outside)) (t .1)) in
+    let m = walks.walk-more (sheetIn w₀) w′ (loaded-declared (h .loaded)) (h .few-tasks) (h′ .long) (placeIn w₀ v) k′ v l r (chain-here h d b) q g (p .own g) e in
     record { outside = b; here = m .0; own = m .1; walking = m .2 }
 
 -- the links left become fewer
@@ -87,9 +87,9 @@ walk-less {w₀} {w} {w′} {v} {k} {l} {r} h d p g t e =
     let b : Outside w₀ w′ = outside-trans (p .outside) t in
     walks.walk-far (sheetIn w₀) w′ (loaded-declared (h .loaded)) (h .few-tasks) (outside-held h b .long) l r (chain-here h d b) g e
 
-pub walk-ends : {w₀ w : List ℕ} {v k l : ℕ} → Held w₀ → WalkTo w₀ v k l w → linkCount (sheetIn w₀) ≤ l → Outside w₀ w × Peeled (sheetIn w₀) (getD w₀ (4368 + v) 0 + 1) k 0 0 w
+pub walk-ends : {w₀ w : List ℕ} {v k l : ℕ} → Held w₀ → WalkTo w₀ v k l w → linkCount (sheetIn w₀) ≤ l → Outside w₀ w × Peeled (sheetIn w₀) (placeIn w₀ v + 1) k 0 0 w
 walk-ends {w₀} {w} {v} {k} {l} h p g =
-    (p .outside, walks.walk-done (sheetIn w₀) w (loaded-declared (h .loaded)) (h .few-tasks) (outside-held h (p .outside) .long) (getD w₀ (4368 + v) 0) k v l (p .walking) g)
+    (p .outside, walks.walk-done (sheetIn w₀) w (loaded-declared (h .loaded)) (h .few-tasks) (outside-held h (p .outside) .long) (placeIn w₀ v) k v l (p .walking) g)
 
 -- the queue is no longer than there are tasks
 pub peeled-few : {s : Sheet} {i k e f : ℕ} {w : List ℕ} → Peeled s i k e f w → k ≤ taskCount s
@@ -103,18 +103,18 @@ module _ (w : List ℕ) (h : Held w) (i k : ℕ) (left : i < k) (p : Peeled (she
   take-fits = walks.take-fits (sheetIn w) w (loaded-declared (h .loaded)) (h .few-tasks) (h .long) i k p left v-is
 
   pub taken : {a b z : ℕ} (w′ : List ℕ) → a ≡ workOf (sheetIn w) v → b ≡ getD w (2320 + v) 0 → z ≡ a + b → a ≤ 65535 → w′ ≡ set w (2320 + v) z
-      → Outside w w′ × Walking (sheetIn w) (getD w′ (4368 + v) 0) k 0 v 0 0 w′ × (getD w′ (4368 + v) 0 ≡ i)
+      → Outside w w′ × Walking (sheetIn w) (placeIn w′ v) k 0 v 0 0 w′ × (placeIn w′ v ≡ i)
   taken = walks.taken (sheetIn w) w (loaded-declared (h .loaded)) (h .few-tasks) (h .long) i k p left v-is
 
-pub take-walks : {w w′ : List ℕ} {k v i : ℕ} → Held w → Chained Target (sheetIn w) w → Outside w w′ × Walking (sheetIn w) (getD w′ (4368 + v) 0) k 0 v 0 0 w′ × (getD w′ (4368 + v) 0 ≡ i)
-    → Held w′ × (Chained Target (sheetIn w′) w′ × Walking (sheetIn w′) (getD w′ (4368 + v) 0) k 0 v 0 0 w′)
+pub take-walks : {w w′ : List ℕ} {k v i : ℕ} → Held w → Chained Target (sheetIn w) w → Outside w w′ × Walking (sheetIn w) (placeIn w′ v) k 0 v 0 0 w′ × (placeIn w′ v ≡ i)
+    → Held w′ × (Chained Target (sheetIn w′) w′ × Walking (sheetIn w′) (placeIn w′ v) k 0 v 0 0 w′)
 take-walks {w} {w′} {k} {v} {i} h d t =
-    (outside-held h (t .0), outside-own (λ (s : Sheet). Chained Target s w′ × Walking s (getD w′ (4368 + v) 0) k 0 v 0 0 w′) h (t .0) (chain-here h d (t .0), t .1))
+    (outside-held h (t .0), outside-own (λ (s : Sheet). Chained Target s w′ × Walking s (placeIn w′ v) k 0 v 0 0 w′) h (t .0) (chain-here h d (t .0), t .1))
 
-pub take-done : {w w′ w″ : List ℕ} {k r v i : ℕ} → Held w → Outside w w′ × Walking (sheetIn w) (getD w′ (4368 + v) 0) k 0 v 0 0 w′ × (getD w′ (4368 + v) 0 ≡ i)
-    → Outside w′ w″ × Peeled (sheetIn w′) (getD w′ (4368 + v) 0 + 1) r 0 0 w″ → Outside w w″ × Peeled (sheetIn w) (i + 1) r 0 0 w″
+pub take-done : {w w′ w″ : List ℕ} {k r v i : ℕ} → Held w → Outside w w′ × Walking (sheetIn w) (placeIn w′ v) k 0 v 0 0 w′ × (placeIn w′ v ≡ i)
+    → Outside w′ w″ × Peeled (sheetIn w′) (placeIn w′ v + 1) r 0 0 w″ → Outside w w″ × Peeled (sheetIn w) (i + 1) r 0 0 w″
 take-done {w} {w′} {w″} {k} {r} {v} {i} h t u =
-    (outside-trans (t .0) (u .0), subst (λ (j : ℕ). Peeled (sheetIn w) (j + 1) r 0 0 w″) (t .2) (outside-from (λ (s : Sheet). Peeled s (getD w′ (4368 + v) 0 + 1) r 0 0 w″) h (t .0) (u .1)))
+    (outside-trans (t .0) (u .0), subst (λ (j : ℕ). Peeled (sheetIn w) (j + 1) r 0 0 w″) (t .2) (outside-from (λ (s : Sheet). Peeled s (placeIn w′ v + 1) r 0 0 w″) h (t .0) (u .1)))
 
 -- what taking off goes on with
 pub take-asks : {w₀ w : List ℕ} {i k : ℕ} → Held w₀ → Chained Target (sheetIn w₀) w₀ → Outside w₀ w → i < k → Peeled (sheetIn w₀) i k 0 0 w

@@ -8,7 +8,6 @@ use native.Mathlib.Omega.{arith}
 use native.Mathlib.Decide.{decLt, ℕ-discrete}
 use borrow.Author.Tests.{eq-eqb, ne-eqb, lt-ltb, le-ltb}
 use lib.ListN.{length, getD, set, length-set}
-use lib.Seq.{getD-set-same}
 use lib.Dec.{eqb, ltb}
 use Rattle.workspace.specs.Area.{fixed}
 use Rattle.folds.specs.Folds.{both, either}
@@ -16,23 +15,24 @@ use Rattle.folds.proofs.Tests.{both-false, either-true, either-false}
 use Rattle.sheet.specs.Sheet.{Sheet, taskCount, linkCount, workOf, sourceOf, targetOf, costOf}
 use Rattle.chains.specs.Chains.{headOf, nextOf, Chained}
 use Rattle.chains.specs.declared.End.the-variants.{Target}
-use Rattle.peeling.specs.Words.{Outside, pushed, doneBy, doneUpTo}
+use Rattle.peeling.specs.Words.{Outside, placeIn, degreeIn, pushed, doneBy, doneUpTo}
 use Rattle.peeling.specs.Peeling.{Peeled, Walking}
 use Rattle.graph.proofs.Reaches.{Declared}
 use Rattle.peeling.proofs.Frames.{outside-none, outside-trans, outside-level, outside-set}
+use Rattle.peeling.proofs.Places.{word-is}
 use Rattle.peeling.proofs.Pushes.{queued-few, queued-room, push-here, push-else, push-low, push-outside}
-use Rattle.peeling.proofs.Lights.{peel-same, light-some, light-free, light-high, light-level, peel-light, peel-push, pop-place, pop-own, pop-same, peel-pop}
+use Rattle.peeling.proofs.Lights.{peel-same, light-some, light-free, light-degree, light-place, light-level, peel-light, peel-push, pop-place, pop-own, pop-same, peel-pop}
 
 module _ (s : Sheet) (i v l : ℕ) where
   -- none of the links into v
   pub up-none : (w : List ℕ) → doneBy s i w l ≡ doneUpTo s i 0 v w l
   unfolding doneBy doneUpTo
-  up-none w = rw (le-ltb l 0 (omega arith), both-false (eqb (targetOf s l) v), either-false (ltb (getD w (4368 + targetOf s l) 0) i))
+  up-none w = rw (le-ltb l 0 (omega arith), both-false (eqb (targetOf s l) v), either-false (ltb (placeIn w (targetOf s l)) i))
 
   -- no link into v from j up to j′
   pub up-hop : (w : List ℕ) (j j′ : ℕ) → j ≤ j′ → (j ≤ l → l < j′ → targetOf s l ≢ v) → doneUpTo s i j v w l ≡ doneUpTo s i j′ v w l
   unfolding doneUpTo
-  up-hop w j j′ h none = ap (either (ltb (getD w (4368 + targetOf s l) 0) i)) (go (ℕ-discrete (targetOf s l) v) (decLt l j) (decLt l j′))
+  up-hop w j j′ h none = ap (either (ltb (placeIn w (targetOf s l)) i)) (go (ℕ-discrete (targetOf s l) v) (decLt l j) (decLt l j′))
     where
       go : Dec (targetOf s l ≡ v) → Dec (l < j) → Dec (l < j′) → both (eqb (targetOf s l) v) (ltb l j) ≡ both (eqb (targetOf s l) v) (ltb l j′)
       go (no e) a b = rw (ne-eqb (targetOf s l) v e)
@@ -41,36 +41,36 @@ module _ (s : Sheet) (i v l : ℕ) where
       go (yes e) (no a) (no b) = rw (le-ltb l j (omega arith), le-ltb l j′ (omega arith))
 
   -- all the links into v
-  pub up-end : (w : List ℕ) (m : ℕ) → l < m → getD w (4368 + v) 0 ≡ i → (getD w (4368 + targetOf s l) 0 ≡ i → targetOf s l ≡ v) → doneUpTo s i m v w l ≡ doneBy s (i + 1) w l
+  pub up-end : (w : List ℕ) (m : ℕ) → l < m → placeIn w v ≡ i → (placeIn w (targetOf s l) ≡ i → targetOf s l ≡ v) → doneUpTo s i m v w l ≡ doneBy s (i + 1) w l
   unfolding doneBy doneUpTo
-  up-end w m h here only = go (ℕ-discrete (targetOf s l) v) (decLt (getD w (4368 + targetOf s l) 0) i)
+  up-end w m h here only = go (ℕ-discrete (targetOf s l) v) (decLt (placeIn w (targetOf s l)) i)
     where
-      go : Dec (targetOf s l ≡ v) → Dec (getD w (4368 + targetOf s l) 0 < i) → either (ltb (getD w (4368 + targetOf s l) 0) i) (both (eqb (targetOf s l) v) (ltb l m)) ≡ ltb (getD w (4368 + targetOf s l) 0) (i + 1)
+      go : Dec (targetOf s l ≡ v) → Dec (placeIn w (targetOf s l) < i) → either (ltb (placeIn w (targetOf s l)) i) (both (eqb (targetOf s l) v) (ltb l m)) ≡ ltb (placeIn w (targetOf s l)) (i + 1)
       go (yes e) b =
-          let x : getD w (4368 + targetOf s l) 0 ≡ i = ap (λ (z : ℕ). getD w (4368 + z) 0) e ∙ here in
-          rw (eq-eqb (targetOf s l) v e, lt-ltb l m h, either-true (ltb (getD w (4368 + targetOf s l) 0) i)) (sym (lt-ltb (getD w (4368 + targetOf s l) 0) (i + 1) (omega arith)))
-      go (no e) (yes b) = rw (lt-ltb (getD w (4368 + targetOf s l) 0) i b) (sym (lt-ltb (getD w (4368 + targetOf s l) 0) (i + 1) (omega arith)))
+          let x : placeIn w (targetOf s l) ≡ i = ap (placeIn w) e ∙ here in
+          rw (eq-eqb (targetOf s l) v e, lt-ltb l m h, either-true (ltb (placeIn w (targetOf s l)) i)) (sym (lt-ltb (placeIn w (targetOf s l)) (i + 1) (omega arith)))
+      go (no e) (yes b) = rw (lt-ltb (placeIn w (targetOf s l)) i b) (sym (lt-ltb (placeIn w (targetOf s l)) (i + 1) (omega arith)))
       go (no e) (no b) =
-          let d : getD w (4368 + targetOf s l) 0 ≢ i = λ q. e (only q) in
-          rw (le-ltb (getD w (4368 + targetOf s l) 0) i (omega arith), ne-eqb (targetOf s l) v e) (sym (le-ltb (getD w (4368 + targetOf s l) 0) (i + 1) (omega arith)))
+          let d : placeIn w (targetOf s l) ≢ i = λ q. e (only q) in
+          rw (le-ltb (placeIn w (targetOf s l)) i (omega arith), ne-eqb (targetOf s l) v e) (sym (le-ltb (placeIn w (targetOf s l)) (i + 1) (omega arith)))
 
   -- the same where the places are
-  pub up-same : (w w′ : List ℕ) (j : ℕ) → getD w′ (4368 + targetOf s l) 0 ≡ getD w (4368 + targetOf s l) 0 → doneUpTo s i j v w l ≡ doneUpTo s i j v w′ l
+  pub up-same : (w w′ : List ℕ) (j : ℕ) → placeIn w′ (targetOf s l) ≡ placeIn w (targetOf s l) → doneUpTo s i j v w l ≡ doneUpTo s i j v w′ l
   unfolding doneUpTo
   up-same w w′ j e = ap (λ (x : ℕ). either (ltb x i) (both (eqb (targetOf s l) v) (ltb l j))) (sym e)
 
   -- .. or are late both
-  pub up-late : (w w′ : List ℕ) (j : ℕ) → i ≤ getD w (4368 + targetOf s l) 0 → i ≤ getD w′ (4368 + targetOf s l) 0 → doneUpTo s i j v w l ≡ doneUpTo s i j v w′ l
+  pub up-late : (w w′ : List ℕ) (j : ℕ) → i ≤ placeIn w (targetOf s l) → i ≤ placeIn w′ (targetOf s l) → doneUpTo s i j v w l ≡ doneUpTo s i j v w′ l
   unfolding doneUpTo
-  up-late w w′ j a b = rw (le-ltb (getD w (4368 + targetOf s l) 0) i a, le-ltb (getD w′ (4368 + targetOf s l) 0) i b)
+  up-late w w′ j a b = rw (le-ltb (placeIn w (targetOf s l)) i a, le-ltb (placeIn w′ (targetOf s l)) i b)
 
-  pub up-off : (w : List ℕ) → i ≤ getD w (4368 + targetOf s l) 0 → doneUpTo s i l v w l ≡ false
+  pub up-off : (w : List ℕ) → i ≤ placeIn w (targetOf s l) → doneUpTo s i l v w l ≡ false
   unfolding doneUpTo
-  up-off w a = rw (le-ltb (getD w (4368 + targetOf s l) 0) i a, le-ltb l l (omega arith), both-false (eqb (targetOf s l) v))
+  up-off w a = rw (le-ltb (placeIn w (targetOf s l)) i a, le-ltb l l (omega arith), both-false (eqb (targetOf s l) v))
 
   pub up-on : (w : List ℕ) → targetOf s l ≡ v → doneUpTo s i (l + 1) v w l ≡ true
   unfolding doneUpTo
-  up-on w e = rw (eq-eqb (targetOf s l) v e, lt-ltb l (l + 1) (omega arith), either-true (ltb (getD w (4368 + targetOf s l) 0) i))
+  up-on w e = rw (eq-eqb (targetOf s l) v e, lt-ltb l (l + 1) (omega arith), either-true (ltb (placeIn w (targetOf s l)) i))
 
 -- one link more is another at that link alone
 pub up-else : (s : Sheet) (i v l j : ℕ) (w : List ℕ) → j ≢ l → doneUpTo s i (l + 1) v w j ≡ doneUpTo s i l v w j
@@ -78,8 +78,8 @@ up-else s i v l j w d = sym (up-hop s i v j w l (l + 1) (omega arith) (λ a b. a
 
 module _ (s : Sheet) (w : List ℕ) (declared : Declared s) (few : taskCount s ≤ 256) (long : fixed ≤ length w) where
   module _ (i k l v : ℕ) (p : Walking s i k l v 0 0 w) (l-in : l < linkCount s) (to : targetOf s l ≡ v) (cheap : costOf s l ≤ 65535) where
-    place-to : getD w (4368 + targetOf s l) 0 ≡ i
-    place-to = ap (λ (z : ℕ). getD w (4368 + z) 0) to ∙ p .here
+    place-to : placeIn w (targetOf s l) ≡ i
+    place-to = ap (placeIn w) to ∙ p .here
 
     off : doneUpTo s i l v w l ≡ false
     off = up-off s i v l w (omega (arith, place-to))
@@ -93,20 +93,20 @@ module _ (s : Sheet) (w : List ℕ) (declared : Declared s) (few : taskCount s �
     few-i : i + 1 ≤ 256
     few-i = omega (arith, p .peel .early, queued-few (p .peel .queued))
 
-    module _ (y d : ℕ) (y-is : y ≡ max (getD w (2320 + sourceOf s l) 0) (costOf s l + getD w (2320 + targetOf s l) 0)) (d-is : d ≡ getD w (3856 + sourceOf s l) 0 - 1) where
+    module _ (y d : ℕ) (y-is : y ≡ max (getD w (2320 + sourceOf s l) 0) (costOf s l + getD w (2320 + targetOf s l) 0)) (d-is : d ≡ degreeIn w (sourceOf s l) - 1) where
       abbrev u : ℕ
       u = sourceOf s l
 
       abbrev lw : List ℕ
       lw = set (set w (2320 + sourceOf s l) y) (3856 + sourceOf s l) d
 
-      high : (j : ℕ) → 4112 ≤ j → getD lw j 0 ≡ getD w j 0
-      high = light-high s w declared few long (doneUpTo s i l v w) (doneUpTo s i (l + 1) v w) (i + 1) k l y d (p .peel) l-in off on (λ j h q. up-else s i v l j w q) (omega (arith, place-to)) small y-is d-is
+      same-place : (t : ℕ) → placeIn lw t ≡ placeIn w t
+      same-place = light-place s w declared few long (doneUpTo s i l v w) (doneUpTo s i (l + 1) v w) (i + 1) k l y d (p .peel) l-in off on (λ j h q. up-else s i v l j w q) (omega (arith, place-to)) small y-is d-is
 
-      some-degree : 1 ≤ getD w (3856 + sourceOf s l) 0
+      some-degree : 1 ≤ degreeIn w (sourceOf s l)
       some-degree = light-some s w declared few long (doneUpTo s i l v w) (doneUpTo s i (l + 1) v w) (i + 1) k l y d (p .peel) l-in off on (λ j h q. up-else s i v l j w q) (omega (arith, place-to)) small y-is d-is
 
-      free : 256 ≤ getD w (4368 + sourceOf s l) 0
+      free : 256 ≤ placeIn w (sourceOf s l)
       free = light-free s w declared few long (doneUpTo s i l v w) (doneUpTo s i (l + 1) v w) (i + 1) k l y d (p .peel) l-in off on (λ j h q. up-else s i v l j w q) (omega (arith, place-to)) small y-is d-is
 
       level-v : getD lw (2320 + v) 0 ≡ getD w (2320 + v) 0
@@ -117,18 +117,18 @@ module _ (s : Sheet) (w : List ℕ) (declared : Declared s) (few : taskCount s �
       lighted : Walking s i k (l + 1) v u (u + 1) lw
       lighted =
           record {
-            peel = peel-same (doneUpTo s i (l + 1) v w) (doneUpTo s i (l + 1) v lw) (λ j h. up-same s i v j w lw (l + 1) (high (4368 + targetOf s j) (omega arith)))
+            peel = peel-same (doneUpTo s i (l + 1) v w) (doneUpTo s i (l + 1) v lw) (λ j h. up-same s i v j w lw (l + 1) (same-place (targetOf s j)))
                 (peel-light s w declared few long (doneUpTo s i l v w) (doneUpTo s i (l + 1) v w) (i + 1) k l y d (p .peel) l-in off on (λ j h q. up-else s i v l j w q) (omega (arith, place-to)) small y-is d-is);
             task = p .task;
-            here = high (4368 + v) (omega arith) ∙ p .here;
+            here = same-place v ∙ p .here;
             own = rw level-v (p .own);
           }
 
       outside-lit : Outside w lw
       outside-lit = let h = declared .source l l-in in outside-set (3856 + u) d (omega arith) (omega arith) (outside-level u y (omega arith) (outside-none w))
 
-      degree-lit : getD lw (3856 + u) 0 ≡ d
-      degree-lit = let h = declared .source l l-in in getD-set-same (set w (2320 + u) y) (3856 + u) d 0 (simp length-set (omega arith))
+      degree-lit : degreeIn lw u ≡ d
+      degree-lit = light-degree s w declared few long (doneUpTo s i l v w) (doneUpTo s i (l + 1) v w) (i + 1) k l y d (p .peel) l-in off on (λ j h q. up-else s i v l j w q) (omega (arith, place-to)) small y-is d-is
 
       -- the source still waits
       stays : d ≢ 0 → Walking s i k (l + 1) v 0 0 lw
@@ -136,8 +136,8 @@ module _ (s : Sheet) (w : List ℕ) (declared : Declared s) (few : taskCount s �
           let q = lighted in
           record { peel = record { queued = q .peel .queued; early = q .peel .early; lit = q .peel .lit; degree = q .peel .degree; gathered = q .peel .gathered; ready = q .peel .ready; waits = λ t a b c. wait q t a c (ℕ-discrete t u); falls = q .peel .falls; solved = q .peel .solved; bounded = q .peel .bounded }; task = q .task; here = q .here; own = q .own }
         where
-          wait : Walking s i k (l + 1) v u (u + 1) lw → (t : ℕ) → t < taskCount s → getD lw (3856 + t) 0 ≡ 0 → Dec (t ≡ u) → getD lw (4368 + t) 0 < 256
-          wait q t a c (yes e) = absurd (h (sym degree-lit ∙ ap (λ (z : ℕ). getD lw (3856 + z) 0) (sym e) ∙ c))
+          wait : Walking s i k (l + 1) v u (u + 1) lw → (t : ℕ) → t < taskCount s → degreeIn lw t ≡ 0 → Dec (t ≡ u) → placeIn lw t < 256
+          wait q t a c (yes e) = absurd (h (sym degree-lit ∙ ap (degreeIn lw) (sym e) ∙ c))
           wait q t a c (no e) = q .peel .waits t a (λ x y. e (omega arith)) c
 
       -- the source is ready
@@ -146,36 +146,41 @@ module _ (s : Sheet) (w : List ℕ) (declared : Declared s) (few : taskCount s �
           let q = lighted in
           let lw-long : fixed ≤ length lw = simp length-set long in
           let u-in : u < taskCount s = declared .source l l-in in
-          let u-free : 256 ≤ getD lw (4368 + u) 0 = rw (high (4368 + u) (omega arith)) free in
+          let u-free : 256 ≤ placeIn lw u = rw (same-place u) free in
           let f = few-i in
-          let there : getD (pushed lw k u) (4368 + u) 0 ≡ k = push-here (taskCount s) k u lw few lw-long u-in u-free (q .peel .queued) in
-          let else : (t : ℕ) → t ≢ u → getD (pushed lw k u) (4368 + t) 0 ≡ getD lw (4368 + t) 0 = push-else (taskCount s) k u lw few lw-long u-in u-free (q .peel .queued) in (
+          let there : placeIn (pushed lw k u) u ≡ k = push-here (taskCount s) k u lw few lw-long u-in u-free (q .peel .queued) in
+          let else : (t : ℕ) → t < taskCount s → t ≢ u → placeIn (pushed lw k u) t ≡ placeIn lw t = push-else (taskCount s) k u lw few lw-long u-in u-free (q .peel .queued) in (
             push-outside (taskCount s) k u lw few lw-long u-in u-free (q .peel .queued),
             record {
-              peel = peel-same (doneUpTo s i (l + 1) v lw) (doneUpTo s i (l + 1) v (pushed lw k u)) (λ j a. same j (ℕ-discrete (targetOf s j) u) there else u-free (q .peel .early))
+              peel = peel-same (doneUpTo s i (l + 1) v lw) (doneUpTo s i (l + 1) v (pushed lw k u)) (λ j a. same j a (ℕ-discrete (targetOf s j) u) there else u-free (q .peel .early))
                   (peel-push s lw declared few lw-long (doneUpTo s i (l + 1) v lw) (i + 1) k u (u + 1) 0 0 u (q .peel) u-in u-free (degree-lit ∙ h) (λ t a b c d. a (omega arith)));
               task = q .task;
-              here = else v (λ e. let x : getD lw (4368 + v) 0 ≡ getD lw (4368 + u) 0 = ap (λ (z : ℕ). getD lw (4368 + z) 0) e in absurd (omega (arith, q .here))) ∙ q .here;
+              here = else v (q .task) (λ e. let x : placeIn lw v ≡ placeIn lw u = ap (placeIn lw) e in absurd (omega (arith, q .here))) ∙ q .here;
               own = rw (push-low (taskCount s) k u lw few lw-long u-in u-free (q .peel .queued) (2320 + v) (let g = q .task in omega arith)) (q .own);
             },
           )
         where
-          same : (j : ℕ) → Dec (targetOf s j ≡ u) → getD (pushed lw k u) (4368 + u) 0 ≡ k → ((t : ℕ) → t ≢ u → getD (pushed lw k u) (4368 + t) 0 ≡ getD lw (4368 + t) 0) → 256 ≤ getD lw (4368 + u) 0 → i + 1 ≤ k → doneUpTo s i (l + 1) v lw j ≡ doneUpTo s i (l + 1) v (pushed lw k u) j
-          same j (yes e) there else u-free early =
-              let a : getD lw (4368 + targetOf s j) 0 ≡ getD lw (4368 + u) 0 = ap (λ (z : ℕ). getD lw (4368 + z) 0) e in
-              let b : getD (pushed lw k u) (4368 + targetOf s j) 0 ≡ getD (pushed lw k u) (4368 + u) 0 = ap (λ (z : ℕ). getD (pushed lw k u) (4368 + z) 0) e in
+          same : (j : ℕ) → j < linkCount s → Dec (targetOf s j ≡ u) → placeIn (pushed lw k u) u ≡ k → ((t : ℕ) → t < taskCount s → t ≢ u → placeIn (pushed lw k u) t ≡ placeIn lw t) → 256 ≤ placeIn lw u → i + 1 ≤ k → doneUpTo s i (l + 1) v lw j ≡ doneUpTo s i (l + 1) v (pushed lw k u) j
+          same j g (yes e) there else u-free early =
+              let a : placeIn lw (targetOf s j) ≡ placeIn lw u = ap (placeIn lw) e in
+              let b : placeIn (pushed lw k u) (targetOf s j) ≡ placeIn (pushed lw k u) u = ap (placeIn (pushed lw k u)) e in
               up-late s i v j lw (pushed lw k u) (l + 1) (omega (arith, few-i)) (omega arith)
-          same j (no e) there else u-free early = up-same s i v j lw (pushed lw k u) (l + 1) (else (targetOf s j) e)
+          same j g (no e) there else u-free early = up-same s i v j lw (pushed lw k u) (l + 1) (else (targetOf s j) (declared .target j g) e)
 
     -- what a turn of the walk computes, from what its calls say
+    source-free : 256 ≤ placeIn w (sourceOf s l)
+    source-free = free (max (getD w (2320 + sourceOf s l) 0) (costOf s l + getD w (2320 + targetOf s l) 0)) (degreeIn w (sourceOf s l) - 1) refl refl
+
+    visit-word : {u d : ℕ} → u ≡ sourceOf s l → d ≡ getD w (3856 + u) 0 → d ≡ degreeIn w (sourceOf s l)
+    visit-word eu ed = ed ∙ ap (λ (z : ℕ). getD w (3856 + z) 0) eu ∙ word-is w (sourceOf s l) source-free
+
     pub visit-degree : {u d : ℕ} → u ≡ sourceOf s l → d ≡ getD w (3856 + u) 0 → 1 ≤ d
     visit-degree {u} {d} eu ed =
-        let e : getD w (3856 + u) 0 ≡ getD w (3856 + sourceOf s l) 0 = ap (λ (z : ℕ). getD w (3856 + z) 0) eu in
-        omega (arith, some-degree (max (getD w (2320 + sourceOf s l) 0) (costOf s l + getD w (2320 + targetOf s l) 0)) (getD w (3856 + sourceOf s l) 0 - 1) refl refl)
+        omega (arith, visit-word eu ed, some-degree (max (getD w (2320 + sourceOf s l) 0) (costOf s l + getD w (2320 + targetOf s l) 0)) (degreeIn w (sourceOf s l) - 1) refl refl)
 
     pub visit-room : k < 256
     visit-room =
-        omega (arith, queued-room (sourceOf s l) (p .peel .queued) (declared .source l l-in) (free (max (getD w (2320 + sourceOf s l) 0) (costOf s l + getD w (2320 + targetOf s l) 0)) (getD w (3856 + sourceOf s l) 0 - 1) refl refl))
+        omega (arith, queued-room (sourceOf s l) (p .peel .queued) (declared .source l l-in) source-free)
 
     most : {u c x y z : ℕ} → u ≡ sourceOf s l → c ≡ costOf s l → x ≡ getD w (2320 + v) 0 → y ≡ getD w (2320 + u) 0 → z ≡ max y (c + x) → z ≡ max (getD w (2320 + sourceOf s l) 0) (costOf s l + getD w (2320 + targetOf s l) 0)
     most eu ec ex ey ez = ez ∙ ap₂ max (ey ∙ ap (λ (i : ℕ). getD w (2320 + i) 0) eu) (ap₂ _+_ ec (ex ∙ ap (λ (i : ℕ). getD w (2320 + i) 0) (sym to)))
@@ -187,8 +192,8 @@ module _ (s : Sheet) (w : List ℕ) (declared : Declared s) (few : taskCount s �
       z-is : z′ ≡ max (getD w (2320 + sourceOf s l) 0) (costOf s l + getD w (2320 + targetOf s l) 0)
       z-is = ez′ ∙ most eu ec ex ey ez
 
-      e-is : e ≡ getD w (3856 + sourceOf s l) 0 - 1
-      e-is = ee ∙ ap (λ (i : ℕ). i - 1) (ed ∙ ap (λ (i : ℕ). getD w (3856 + i) 0) eu)
+      e-is : e ≡ degreeIn w (sourceOf s l) - 1
+      e-is = ee ∙ ap (λ (i : ℕ). i - 1) (visit-word eu ed)
 
       words : (w′ : List ℕ) → w′ ≡ set (set w (2320 + u) z′) (3856 + u) e → w′ ≡ set (set w (2320 + sourceOf s l) z′) (3856 + sourceOf s l) e
       words w′ h = h ∙ ap (λ (i : ℕ). set (set w (2320 + i) z′) (3856 + i) e) eu
@@ -229,7 +234,7 @@ module _ (s : Sheet) (w : List ℕ) (declared : Declared s) (few : taskCount s �
   walk-done i k v l p h =
       record { peel = peel-same (doneUpTo s i l v w) (doneBy s (i + 1) w) (λ j g. up-end s i v j w l (omega arith) (p .here) (λ q. only (targetOf s j) (declared .target j g) q)) (p .peel) }
     where
-      only : (t : ℕ) → t < taskCount s → getD w (4368 + t) 0 ≡ i → t ≡ v
+      only : (t : ℕ) → t < taskCount s → placeIn w t ≡ i → t ≡ v
       only t g q =
           let a = queued-few (p .peel .queued) in
           let b = p .peel .early in
@@ -244,12 +249,12 @@ module _ (s : Sheet) (w : List ℕ) (declared : Declared s) (few : taskCount s �
     pub take-fits : {b : ℕ} → b ≡ getD w (2320 + v) 0 → b ≤ 131070 * 256
     take-fits e = omega (arith, p .peel .bounded v take-in, queued-few (p .peel .queued))
 
-    pub taken : {a b z : ℕ} (w′ : List ℕ) → a ≡ workOf s v → b ≡ getD w (2320 + v) 0 → z ≡ a + b → a ≤ 65535 → w′ ≡ set w (2320 + v) z → Outside w w′ × Walking s (getD w′ (4368 + v) 0) k 0 v 0 0 w′ × (getD w′ (4368 + v) 0 ≡ i)
+    pub taken : {a b z : ℕ} (w′ : List ℕ) → a ≡ workOf s v → b ≡ getD w (2320 + v) 0 → z ≡ a + b → a ≤ 65535 → w′ ≡ set w (2320 + v) z → Outside w w′ × Walking s (placeIn w′ v) k 0 v 0 0 w′ × (placeIn w′ v ≡ i)
     taken {a} {b} {z} w′ ea eb ez short e =
         let z-is : z ≡ workOf s v + getD w (2320 + v) 0 = ez ∙ ap₂ _+_ ea eb in
         let short′ : workOf s v ≤ 65535 = omega arith in
         let new : List ℕ = set w (2320 + v) z in
-        let here : getD new (4368 + v) 0 ≡ i = pop-same s w declared few long (doneBy s i w) i k v z (p .peel) left v-is z-is short′ v ∙ pop-place s w declared few long (doneBy s i w) i k v z (p .peel) left v-is z-is short′ in
+        let here : placeIn new v ≡ i = pop-same s w declared few long (doneBy s i w) i k v z (p .peel) left v-is z-is short′ v ∙ pop-place s w declared few long (doneBy s i w) i k v z (p .peel) left v-is z-is short′ in
         let walking : Walking s i k 0 v 0 0 new =
         record {
           peel = peel-same (doneBy s i w) (doneUpTo s i 0 v new) (λ l h. up-none s i v l w ∙ up-same s i v l w new 0 (pop-same s w declared few long (doneBy s i w) i k v z (p .peel) left v-is z-is short′ (targetOf s l)))
@@ -258,5 +263,5 @@ module _ (s : Sheet) (w : List ℕ) (declared : Declared s) (few : taskCount s �
           here = here;
           own = pop-own s w declared few long (doneBy s i w) i k v z (p .peel) left v-is z-is short′;
         } in
-        subst (λ (x : List ℕ). Outside w x × Walking s (getD x (4368 + v) 0) k 0 v 0 0 x × (getD x (4368 + v) 0 ≡ i)) (sym e)
+        subst (λ (x : List ℕ). Outside w x × Walking s (placeIn x v) k 0 v 0 0 x × (placeIn x v ≡ i)) (sym e)
         (outside-level v z (let h = take-in in omega arith) (outside-none w), subst (λ (j : ℕ). Walking s j k 0 v 0 0 new) (sym here) walking, here)

@@ -8,7 +8,7 @@ use lib.Dec.{eqb}
 use Rattle.folds.specs.Folds.{pick, bit, both, sum, greatest}
 use Rattle.sheet.specs.Sheet.{Sheet, taskCount, linkCount, workOf, sourceOf, targetOf, costOf}
 use Rattle.graph.specs.Graph.{levelBy, reaches}
-use Rattle.peeling.specs.Words.{Queued, doneBy, doneUpTo}
+use Rattle.peeling.specs.Words.{placeIn, degreeIn, Queued, doneBy, doneUpTo}
 
 -- c says which links are counted off: a link out of t that is not
 unfoldable pub dueBy : Sheet → (ℕ → Bool) → ℕ → ℕ → ℕ
@@ -25,13 +25,13 @@ levelIn w t = getD w (2320 + t) 0
 pub record Peel (s : Sheet) (c : ℕ → Bool) (i k e f : ℕ) (w : List ℕ) : Type 0 where
   pub queued : Queued (taskCount s) k w
   pub early : i ≤ k
-  pub lit : (l : ℕ) → l < linkCount s → c l ≡ true → getD w (4368 + targetOf s l) 0 < i
-  pub degree : (t : ℕ) → t < taskCount s → getD w (3856 + t) 0 ≡ sum (linkCount s) (dueBy s c t)
-  pub gathered : (t : ℕ) → t < taskCount s → i ≤ getD w (4368 + t) 0 → getD w (2320 + t) 0 ≡ greatest (linkCount s) (gaveBy s c w t)
-  pub ready : (t : ℕ) → t < taskCount s → getD w (4368 + t) 0 < 256 → getD w (3856 + t) 0 ≡ 0
-  pub waits : (t : ℕ) → t < taskCount s → (e ≤ t → t < f → ⊥) → getD w (3856 + t) 0 ≡ 0 → getD w (4368 + t) 0 < 256
-  pub falls : (l : ℕ) → l < linkCount s → getD w (4368 + sourceOf s l) 0 < 256 → getD w (4368 + targetOf s l) 0 < getD w (4368 + sourceOf s l) 0
-  pub solved : (t : ℕ) → t < taskCount s → getD w (4368 + t) 0 < i → getD w (2320 + t) 0 ≡ workOf s t + greatest (linkCount s) (levelBy s (levelIn w) t)
+  pub lit : (l : ℕ) → l < linkCount s → c l ≡ true → placeIn w (targetOf s l) < i
+  pub degree : (t : ℕ) → t < taskCount s → degreeIn w t ≡ sum (linkCount s) (dueBy s c t)
+  pub gathered : (t : ℕ) → t < taskCount s → i ≤ placeIn w t → getD w (2320 + t) 0 ≡ greatest (linkCount s) (gaveBy s c w t)
+  pub ready : (t : ℕ) → t < taskCount s → placeIn w t < 256 → degreeIn w t ≡ 0
+  pub waits : (t : ℕ) → t < taskCount s → (e ≤ t → t < f → ⊥) → degreeIn w t ≡ 0 → placeIn w t < 256
+  pub falls : (l : ℕ) → l < linkCount s → placeIn w (sourceOf s l) < 256 → placeIn w (targetOf s l) < placeIn w (sourceOf s l)
+  pub solved : (t : ℕ) → t < taskCount s → placeIn w t < i → getD w (2320 + t) 0 ≡ workOf s t + greatest (linkCount s) (levelBy s (levelIn w) t)
   pub bounded : (t : ℕ) → t < taskCount s → getD w (2320 + t) 0 ≤ 131070 * i
 
 -- between two tasks
@@ -42,7 +42,7 @@ pub record Peeled (s : Sheet) (i k e f : ℕ) (w : List ℕ) : Type 0 where
 pub record Walking (s : Sheet) (i k j v e f : ℕ) (w : List ℕ) : Type 0 where
   pub peel : Peel s (doneUpTo s i j v w) (i + 1) k e f w
   pub task : v < taskCount s
-  pub here : getD w (4368 + v) 0 ≡ i
+  pub here : placeIn w v ≡ i
   pub own : getD w (2320 + v) 0 ≤ 131070 * i + 65535
 
 -- no link is counted off
@@ -52,21 +52,22 @@ never l = false
 -- before it: the tables of the tasks below n are blank, and the links below l are counted at their sources
 pub record Counted (s : Sheet) (n l : ℕ) (w : List ℕ) : Type 0 where
   pub level : (t : ℕ) → t < n → getD w (2320 + t) 0 ≡ 0
-  pub degree : (t : ℕ) → t < n → getD w (3856 + t) 0 ≡ sum l (dueBy s never t)
-  pub place : (t : ℕ) → t < n → getD w (4368 + t) 0 ≡ 256
+  pub degree : (t : ℕ) → t < n → degreeIn w t ≡ sum l (dueBy s never t)
+  pub place : (t : ℕ) → t < n → placeIn w t ≡ 256
 
 -- the tasks below t without links are in the queue
 pub record Filled (s : Sheet) (k t : ℕ) (w : List ℕ) : Type 0 where
   pub peeled : Peeled s 0 k t (taskCount s) w
-  pub rest : (u : ℕ) → t ≤ u → u < taskCount s → 256 ≤ getD w (4368 + u) 0
+  pub rest : (u : ℕ) → t ≤ u → u < taskCount s → 256 ≤ placeIn w u
 
 -- the search for paths to a goal: the queue holds the goal and tasks that reach it, none of which the goal has a link to;
 -- of the links that c names the sources are in it
 pub record Search (s : Sheet) (goal : ℕ) (c : ℕ → Bool) (k : ℕ) (w : List ℕ) : Type 0 where
   pub queued : Queued (taskCount s) k w
-  pub goal-in : getD w (4368 + goal) 0 < 256
-  pub sound : (t : ℕ) → t < taskCount s → getD w (4368 + t) 0 < 256 → (t ≡ goal → ⊥) → reaches (taskCount s) s t goal ≡ true
-  pub closed : (l : ℕ) → l < linkCount s → c l ≡ true → getD w (4368 + sourceOf s l) 0 < 256
+  pub goal-task : goal < taskCount s
+  pub goal-in : placeIn w goal < 256
+  pub sound : (t : ℕ) → t < taskCount s → placeIn w t < 256 → (t ≡ goal → ⊥) → reaches (taskCount s) s t goal ≡ true
+  pub closed : (l : ℕ) → l < linkCount s → c l ≡ true → placeIn w (sourceOf s l) < 256
   pub apart : (l : ℕ) → l < linkCount s → c l ≡ true → sourceOf s l ≡ goal → ⊥
 
 pub record Searched (s : Sheet) (goal i k : ℕ) (w : List ℕ) : Type 0 where
@@ -75,18 +76,18 @@ pub record Searched (s : Sheet) (goal i k : ℕ) (w : List ℕ) : Type 0 where
 pub record Spreading (s : Sheet) (goal i k j v : ℕ) (w : List ℕ) : Type 0 where
   pub search : Search s goal (doneUpTo s i j v w) k w
   pub task : v < taskCount s
-  pub here : getD w (4368 + v) 0 ≡ i
+  pub here : placeIn w v ≡ i
   pub early : i < k
 
 -- u in the queue of k tasks, which now has r
 pub record Noted (n k u r : ℕ) (w w′ : List ℕ) : Type 0 where
   pub queued : Queued n r w′
   pub more : k ≤ r
-  pub here : getD w′ (4368 + u) 0 < 256
-  pub else : (t : ℕ) → (t ≡ u → ⊥) → getD w′ (4368 + t) 0 ≡ getD w (4368 + t) 0
-  pub kept : (t : ℕ) → getD w (4368 + t) 0 < 256 → getD w′ (4368 + t) 0 ≡ getD w (4368 + t) 0
-  pub late : 256 ≤ getD w (4368 + u) 0 → getD w′ (4368 + u) 0 ≡ k
+  pub here : placeIn w′ u < 256
+  pub else : (t : ℕ) → t < n → (t ≡ u → ⊥) → placeIn w′ t ≡ placeIn w t
+  pub kept : (t : ℕ) → t < n → placeIn w t < 256 → placeIn w′ t ≡ placeIn w t
+  pub late : 256 ≤ placeIn w u → placeIn w′ u ≡ k
 
 -- none of the tasks below n is in the queue
 pub record Emptied (n : ℕ) (w : List ℕ) : Type 0 where
-  pub at : (t : ℕ) → t < n → getD w (4368 + t) 0 ≡ 256
+  pub at : (t : ℕ) → t < n → placeIn w t ≡ 256

@@ -2,12 +2,11 @@
 // A task has its level when it is taken off; who is left over leads to a circle.
 ghost use mathlib.Core.Path.{_≡_};
 ghost use Prim.Native.Nat.{_+_, _<_};
-ghost use lib.ListN.{getD};
 ghost use Rattle.sheet.specs.Sheet.{taskCount, linkCount, targetOf};
 ghost use Rattle.sheet.specs.Tables.{sheetIn};
 ghost use Rattle.chains.specs.Chains.{Chained};
 ghost use Rattle.chains.specs.declared.End.the-variants.{Target};
-ghost use Rattle.peeling.specs.Words.{Held, Outside};
+ghost use Rattle.peeling.specs.Words.{Held, Outside, placeIn};
 ghost use Rattle.peeling.specs.Peeling.{Peeled, Walking, Counted, Filled};
 use crate::queue;
 use chains::End;
@@ -18,8 +17,8 @@ use sheet::tables;
 fn visit(w: &mut [u32], k: usize, v: usize, l: usize) -> usize
     requires { ⌜ Held (now w) ⌝ }
     requires { ⌜ (l < linkCount (sheetIn (now w))) × (targetOf (sheetIn (now w)) l ≡ v) ⌝ }
-    requires { ⌜ Walking (sheetIn (now w)) (getD (now w) (4368 + v) 0) k l v 0 0 (now w) ⌝ }
-    ensures { λ r. ⌜ Outside (now (w .entry)) (now (w .exit)) × Walking (sheetIn (now (w .entry))) (getD (now (w .entry)) (4368 + v) 0) r (l + 1) v 0 0 (now (w .exit)) ⌝ }
+    requires { ⌜ Walking (sheetIn (now w)) (placeIn (now w) v) k l v 0 0 (now w) ⌝ }
+    ensures { λ r. ⌜ Outside (now (w .entry)) (now (w .exit)) × Walking (sheetIn (now (w .entry))) (placeIn (now (w .entry)) v) r (l + 1) v 0 0 (now (w .exit)) ⌝ }
 {
     let u = tables::source(w, l);
     let c = tables::cost(w, l);
@@ -40,8 +39,8 @@ fn visit(w: &mut [u32], k: usize, v: usize, l: usize) -> usize
 fn walk(w: &mut [u32], k: usize, v: usize) -> usize
     requires { ⌜ Held (now w) ⌝ }
     requires { ⌜ Chained Target (sheetIn (now w)) (now w) ⌝ }
-    requires { ⌜ Walking (sheetIn (now w)) (getD (now w) (4368 + v) 0) k 0 v 0 0 (now w) ⌝ }
-    ensures { λ r. ⌜ Outside (now (w .entry)) (now (w .exit)) × Peeled (sheetIn (now (w .entry))) (getD (now (w .entry)) (4368 + v) 0 + 1) r 0 0 (now (w .exit)) ⌝ }
+    requires { ⌜ Walking (sheetIn (now w)) (placeIn (now w) v) k 0 v 0 0 (now w) ⌝ }
+    ensures { λ r. ⌜ Outside (now (w .entry)) (now (w .exit)) × Peeled (sheetIn (now (w .entry))) (placeIn (now (w .entry)) v + 1) r 0 0 (now (w .exit)) ⌝ }
 {
     let m = tables::links(w);
     let mut q = k;
@@ -124,7 +123,6 @@ fn blank(w: &mut [u32])
     while t < n {
         w[2320 + t] = 0;
         w[3856 + t] = 0;
-        w[4368 + t] = 256;
         t += 1;
     }
 }

@@ -1,4 +1,4 @@
-// A queue of tasks, each at most once, with the place of each.
+// A queue of tasks, each at most once, with the place of each: it stands where the links of a task were counted.
 ghost use mathlib.Core.Path.{_≡_};
 ghost use Prim.Native.Nat.{_+_, _<_, _≤_};
 ghost use lib.ListN.{length};
@@ -10,5 +10,5 @@ pub fn push(w: &mut [u32], k: usize, u: usize)
     ensures { λ _. ⌜ now (w .exit) ≡ pushed (now (w .entry)) k u ⌝ }
 {
     w[4112 + k] = workspace::narrow(u);
-    w[4368 + u] = workspace::narrow(k);
+    w[3856 + u] = workspace::narrow(65536 * (256 - k));
 }

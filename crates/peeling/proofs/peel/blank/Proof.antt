@@ -27,9 +27,6 @@ slice-write-w c = omega (arith, c .before .loop .inv .1 .kept .long)
 slice-write-w-2 : tie.Need-slice-write-w-2 Inv-loop μ-loop
 slice-write-w-2 c = simp length-set (omega (arith, c .before .loop .inv .1 .kept .long))
 
-slice-write-w-3 : tie.Need-slice-write-w-3 Inv-loop μ-loop
-slice-write-w-3 c = simp length-set (omega (arith, c .before .loop .inv .1 .kept .long))
-
 loop-less : tie.Need-loop-less Inv-loop μ-loop
 loop-less c = omega (arith, c .loop-test .taken)
 
@@ -56,9 +53,6 @@ blank-spec =
     (λ c. search needs)
     (λ c. search needs)
     slice-write-w-2
-    (λ c. search needs)
-    (λ c. search needs)
-    slice-write-w-3
     (λ c. search needs)
     loop-less
     loop-again

@@ -14,13 +14,15 @@ slice-write-w-2 c = simp length-set (omega arith)
 
 returns : tie.Need-returns
 unfolding pushed
-returns c = let a = c .before .before .before in ap₂ (λ (x y : ℕ). set (set (now (a .args .w)) (4112 + a .args .k) x) (4368 + a .args .u) y) (c .before .narrow .ensures) (c .narrow2 .ensures)
+returns c = let a = c .before .before .before in ap₂ (λ (x y : ℕ). set (set (now (a .args .w)) (4112 + a .args .k) x) (3856 + a .args .u) y) (c .before .narrow .ensures) (c .narrow2 .ensures)
 
 pub push-spec : {M : Type 1} → statement M
 push-spec =
     tie.close
     (tie.spec
     (λ c κs. search needs)
+    (λ c. search needs)
+    (λ c. search needs)
     (λ c. search needs)
     (λ c. search needs)
     (λ c. search needs)
