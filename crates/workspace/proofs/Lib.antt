@@ -1,3 +1,2 @@
 -- The laws of `workspace`.
-pub mod Zeros
 pub mod Clearing
