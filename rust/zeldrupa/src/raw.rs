@@ -18,6 +18,8 @@
 #[macro_use]
 mod calls;
 
+use std::mem::MaybeUninit;
+
 /// The number and the place of an answer.
 pub type Answer = (u8, u64);
 
@@ -82,11 +84,15 @@ pub fn work_length() -> usize {
     usize::try_from(place).expect("a length")
 }
 
-/// Calls with a place to write to. It starts as no length or offset is, so that a call which
-/// leaves it alone shows.
+/// Calls with a place to write to. In a debug build it starts as no length or offset is, so that a
+/// call which left it alone would show.
 #[inline]
-fn answer(call: impl FnOnce(&mut u64) -> u8) -> Answer {
-    let mut place = u64::MAX;
-    let number = call(&mut place);
-    (number, place)
+fn answer(call: impl FnOnce(*mut u64) -> u8) -> Answer {
+    let mut place = MaybeUninit::uninit();
+    if cfg!(debug_assertions) {
+        place.write(u64::MAX);
+    }
+    let number = call(place.as_mut_ptr());
+    // SAFETY: every call writes the place, whatever it answers; that is part of each proved promise.
+    (number, unsafe { place.assume_init() })
 }
