@@ -12,9 +12,9 @@ use Rattle.checker.specs.Verdicts.{JudgementIs, CheckIs}
 use Rattle.checker.specs.declared.Verdict.{Verdict}
 
 pub checked-in : (w sheet bundle last after : List ℕ) (p n l limit : ℕ) (r : Verdict) → Loaded w → p ≡ sheetIn w .processors → n ≡ taskCount (sheetIn w) → l ≡ linkCount (sheetIn w)
-    → limit ≡ sheetIn w .limit → limit < 4294967296 → JudgementIs sheet bundle (midOf 16 (length w - 16) w) last p n l limit r → length after ≡ length w → CheckIs sheet bundle w after r
-checked-in w sheet bundle last after p n l limit r h ep en el ei small g e =
+    → limit ≡ sheetIn w .limit → JudgementIs sheet bundle (midOf 16 (length w - 16) w) last p n l limit r → length after ≡ length w → CheckIs sheet bundle w after r
+checked-in w sheet bundle last after p n l limit r h ep en el ei g e =
     record {
       long = e;
-      is = λ f. g .is (sheetIn w) (known-in w sheet p n l limit h ep en el ei small f) (omega (arith, part-long w 16, h .long));
+      is = λ f. g .is (sheetIn w) (known-in w sheet p n l limit h ep en el ei f) (omega (arith, part-long w 16, h .long));
     }

@@ -54,7 +54,7 @@ module _ (sheet bundle w : List ℕ) (n l limit m c claim : ℕ) where
     store-is s b t p =
         let k = t .known in
         h .is-28 s b (t .laid (short-of-read s bundle b (omega (arith, k .tasks, k .few-tasks)) (omega (arith, k .links, k .few-links)) (t .few) (t .bytes) (t .read) p))
-        (k .fields) (k .tasks) (t .programmes) (k .limited) (k .small)
+        (k .fields) (k .tasks) (t .programmes) (k .limited)
 
     pub store-over : (k : ℕ) → f ≡ At k → StoresIs sheet bundle w n l limit m c claim (Refused 28 k)
     unfolding fitting

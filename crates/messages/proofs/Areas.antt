@@ -1,5 +1,5 @@
 -- A part of the work area that is lent, and the sheet in the tables.
-use Prim.Native.Nat.{ℕ, _-_, _<_}
+use Prim.Native.Nat.{ℕ, _-_}
 use mathlib.Core.Path.{_≡_, sym, ap, _∙_}
 use mathlib.Core.List.{List}
 use native.Mathlib.Omega.{arith}
@@ -15,9 +15,9 @@ use Rattle.messages.specs.Admitted.{Known}
 pub part-long : (w : List ℕ) (a : ℕ) → length (midOf a (length w - a) w) ≡ length w - a
 part-long w a = ap length (take-all (length w - a) (drop a w) (omega (arith, length-drop a w))) ∙ length-drop a w
 
-pub known-in : (w sheet : List ℕ) (p n l limit : ℕ) → Loaded w → p ≡ sheetIn w .processors → n ≡ taskCount (sheetIn w) → l ≡ linkCount (sheetIn w) → limit ≡ sheetIn w .limit → limit < 4294967296
+pub known-in : (w sheet : List ℕ) (p n l limit : ℕ) → Loaded w → p ≡ sheetIn w .processors → n ≡ taskCount (sheetIn w) → l ≡ linkCount (sheetIn w) → limit ≡ sheetIn w .limit
     → Fields (sheetIn w) sheet → Known (sheetIn w) sheet p n l limit
-known-in w sheet p n l limit h ep en el ei small f =
+known-in w sheet p n l limit h ep en el ei f =
     let r = ranged w h in
     record {
       fields = f;
@@ -30,5 +30,4 @@ known-in w sheet p n l limit h ep en el ei small f =
       few-processors = omega (arith, r .few-processors);
       few-tasks = omega (arith, r .few-tasks);
       few-links = omega (arith, r .few-links);
-      small = small;
     }

@@ -1,5 +1,5 @@
 -- 28: what a programme needs, added up along its bytes.
-use Prim.Native.Nat.{ℕ, suc, _+_, _*_, _<_, _≤_, min}
+use Prim.Native.Nat.{ℕ, suc, _+_, _*_, _<_, _≤_}
 use mathlib.Core.Path.{_≡_, refl, sym, ap, _∙_, subst}
 use mathlib.Core.Bool.{false}
 use mathlib.Core.Logic.{⊎-elim}
@@ -51,14 +51,14 @@ module _ (sheet bundle : List ℕ) (n at c x : ℕ) (e : c ≡ getD bundle at 0)
 -- the needs of the first commands of programme k, up to an offset
 pub record Needing (sheet bundle w : List ℕ) (n k end at sum : ℕ) : Type 0 where
   pub each : (s : Sheet) (b : Bundle) → Laid (taskCount s) (linkCount s) bundle w (b .programmes) → Fields s sheet → taskCount s ≡ n → k < programmeCount b
-      → (i : ℕ) × Lies (taskCount s) (linkCount s) bundle at end (drop i (programmeOf b k)) × (sum ≡ min (weigh (need s) (take i (programmeOf b k))) 4294967296)
+      → (i : ℕ) × Lies (taskCount s) (linkCount s) bundle at end (drop i (programmeOf b k)) × (sum ≡ weigh (need s) (take i (programmeOf b k)))
 
 pub needing-starts : (sheet bundle w : List ℕ) (n k end at : ℕ) → at ≡ getD w k 0 + 2 → end ≡ getD w (k + 1) 0 → Needing sheet bundle w n k end at 0
 unfolding programmeCount programmeOf weigh
 needing-starts sheet bundle w n k end at e f = record { each = λ s b r fs t l. (0, rw (e, f, add-one) (r .lies k l), omega arith) }
 
 pub needing-more : {sheet bundle w : List ℕ} {n k end at sum : ℕ} → at < end → Needing sheet bundle w n k end at sum → (v z x : ℕ) → v ≡ needAt sheet bundle n at
-    → x ≡ min (sum + v) 4294967296 → z ≡ sizeAt bundle at → Needing sheet bundle w n k end (at + z) x
+    → x ≡ sum + v → z ≡ sizeAt bundle at → Needing sheet bundle w n k end (at + z) x
 needing-more {sheet} {bundle} {w} {n} {k} {end} {at} {sum} l g v z x ev ex ez =
     record {
       each =
@@ -79,7 +79,7 @@ needing-ends {sheet} {bundle} {w} {n} {k} {end} {at} {sum} l g =
           λ s b r fs t q.
           let h = g .each s b r fs t q in
           let z = drop-short (programmeOf b k) (h .0) (lies-none (taskCount s) (linkCount s) bundle (h .1) l) in
-          h .2 ∙ ap (λ (p : List Command). min (weigh (need s) p) 4294967296) (take-all (h .0) (programmeOf b k) z);
+          h .2 ∙ ap (λ (p : List Command). weigh (need s) p) (take-all (h .0) (programmeOf b k) z);
     }
 
 -- the processors below k need no more than the limit
@@ -99,23 +99,23 @@ fitting-more {sheet} {bundle} {w} {n} {limit} {k} x g h e =
     }
 
 module _ (sheet bundle w : List ℕ) (n m limit k : ℕ) (g : Fitting sheet bundle w n limit k) where
-  fine : (s : Sheet) (b : Bundle) → Laid (taskCount s) (linkCount s) bundle w (b .programmes) → Fields s sheet → taskCount s ≡ n → s .limit ≡ limit → limit < 4294967296
+  fine : (s : Sheet) (b : Bundle) → Laid (taskCount s) (linkCount s) bundle w (b .programmes) → Fields s sheet → taskCount s ≡ n → s .limit ≡ limit
       → (j : ℕ) → j < k → j < programmeCount b → overStore s b j ≡ false
   unfolding overStore
-  fine s b r fs t li small j i l = let x = g .fits j i in le-ltb (s .limit) (wholeOf b (need s) j) (omega (arith, x .1 .is-need s b r fs t l, x .2))
+  fine s b r fs t li j i l = let x = g .fits j i in le-ltb (s .limit) (wholeOf b (need s) j) (omega (arith, x .1 .is-need s b r fs t l, x .2))
 
   pub fitting-over : (x : ℕ) → NeedIs sheet bundle w n k x → limit < x → k < m → OverIs sheet bundle w n m limit (At k)
   unfolding at28 overStore
   fitting-over x h e l =
       record {
         is-28 =
-            λ s b r fs t c li small.
+            λ s b r fs t c li.
             sym
-            (first-found (programmeCount b) (overStore s b) k (λ j i. fine s b r fs t li small j i (omega arith))
+            (first-found (programmeCount b) (overStore s b) k (λ j i. fine s b r fs t li j i (omega arith))
             (lt-ltb (s .limit) (wholeOf b (need s) k) (omega (arith, h .is-need s b r fs t (omega arith)))) (omega arith));
       }
 
   pub fitting-all : m ≤ k → OverIs sheet bundle w n m limit Nothing
   unfolding at28
   fitting-all l =
-      record { is-28 = λ s b r fs t c li small. sym (none-first (programmeCount b) (overStore s b) (λ j i. fine s b r fs t li small j (omega arith) i)) }
+      record { is-28 = λ s b r fs t c li. sym (none-first (programmeCount b) (overStore s b) (λ j i. fine s b r fs t li j (omega arith) i)) }

@@ -49,7 +49,6 @@ pub record Known (s : Sheet) (sheet : List ℕ) (p n l limit : ℕ) : Type 0 whe
   pub few-processors : p ≤ 16
   pub few-tasks : n ≤ 256
   pub few-links : l ≤ 1024
-  pub small : limit < 4294967296
 
 -- a bundle of m programmes with c commands, read from these bytes, its programmes' offsets in the words w
 pub record Told (s : Sheet) (b : Bundle) (sheet bundle w : List ℕ) (n l limit m c claim : ℕ) : Type 0 where

@@ -1,5 +1,5 @@
 -- What the pass over a bundle's stores promises: the place of 28.
-use Prim.Native.Nat.{ℕ, _+_, _*_, _<_, min}
+use Prim.Native.Nat.{ℕ, _+_, _*_, _<_}
 use mathlib.Core.Path.{_≡_}
 use mathlib.Core.List.{List}
 use lib.ListN.{getD}
@@ -25,12 +25,12 @@ receiveNeed sheet bundle n at = numberAt 2 sheet (11 + 5 * n + 7 * numberAt 2 bu
 unfoldable pub needAt : List ℕ → List ℕ → ℕ → ℕ → ℕ
 needAt sheet bundle n at = pick (eqb (getD bundle at 0) 0x52) (runNeed sheet bundle at) (pick (eqb (getD bundle at 0) 0x56) (receiveNeed sheet bundle n at) 0)
 
--- what programme k needs, or 2^32 where that is more
+-- what programme k needs
 pub record NeedIs (sheet bundle w : List ℕ) (n k r : ℕ) : Type 0 where
   pub is-need : (s : Sheet) (b : Bundle) → Laid (taskCount s) (linkCount s) bundle w (b .programmes) → Fields s sheet → taskCount s ≡ n → k < programmeCount b
-      → r ≡ min (wholeOf b (need s) k) 4294967296
+      → r ≡ wholeOf b (need s) k
 
 -- m programmes
 pub record OverIs (sheet bundle w : List ℕ) (n m limit : ℕ) (r : Found) : Type 0 where
   pub is-28 : (s : Sheet) (b : Bundle) → Laid (taskCount s) (linkCount s) bundle w (b .programmes) → Fields s sheet → taskCount s ≡ n → programmeCount b ≡ m
-      → s .limit ≡ limit → limit < 4294967296 → foundOf r ≡ at28 s b
+      → s .limit ≡ limit → foundOf r ≡ at28 s b

@@ -31,7 +31,7 @@ fn message_need(sheet: &[u8], bundle: &[u8], n: usize, at: usize, c: usize) -> u
     received(c, words::pair(sheet, 11 + 5 * n + 7 * l))
 }
 
-// What programme k needs of the store, at most 4,294,967,296. Its offsets stand in words k and k + 1.
+// What programme k needs of the store. Its offsets stand in words k and k + 1.
 fn need_of(sheet: &[u8], bundle: &[u8], w: &[u32], n: usize, k: usize) -> usize
     requires { ⌜ (n < 65536) × (k < 65536) ⌝ }
     ensures { λ r. ⌜ NeedIs (now (sheet .entry)) (now (bundle .entry)) (now (w .entry)) n k r ⌝ }
@@ -42,10 +42,10 @@ fn need_of(sheet: &[u8], bundle: &[u8], w: &[u32], n: usize, k: usize) -> usize
     while at < end {
         let c = words::byte(bundle, at);
         if c == 0x52 {
-            sum = words::smaller(sum + run_need(sheet, bundle, at), 4294967296);
+            sum += run_need(sheet, bundle, at);
             at += 2;
         } else {
-            sum = words::smaller(sum + message_need(sheet, bundle, n, at, c), 4294967296);
+            sum += message_need(sheet, bundle, n, at, c);
             at += 3;
         }
     }

@@ -68,13 +68,13 @@ module _ (sheet bundle w u state : List ℕ) (p n l limit : ℕ) (f : Judged) (h
       first-of b d = cc
 
 pub opened-in : (w sheet bundle part after state last : List ℕ) (p n l limit : ℕ) (r : Judged) → Loaded w → p ≡ sheetIn w .processors → n ≡ taskCount (sheetIn w) → l ≡ linkCount (sheetIn w)
-    → limit ≡ sheetIn w .limit → limit < 4294967296 → AdmitIs sheet bundle (midOf 16 (length w - 16) w) part state last p n l limit r → length after ≡ length w → OpenIs sheet bundle w after state last r
-opened-in w sheet bundle part after state last p n l limit r h ep en el ei small g e =
+    → limit ≡ sheetIn w .limit → AdmitIs sheet bundle (midOf 16 (length w - 16) w) part state last p n l limit r → length after ≡ length w → OpenIs sheet bundle w after state last r
+opened-in w sheet bundle part after state last p n l limit r h ep en el ei g e =
     let long : 4352 ≤ length (midOf 16 (length w - 16) w) = omega (arith, part-long w 16, h .long) in
     record {
       long = e;
       state-long = g .state-long;
       untouched = g .untouched;
-      is = λ f. g .is (sheetIn w) (known-in w sheet p n l limit h ep en el ei small f) long;
-      keeps = λ f enough b z. g .keeps (sheetIn w) (known-in w sheet p n l limit h ep en el ei small f) (ranged w h) long enough b z;
+      is = λ f. g .is (sheetIn w) (known-in w sheet p n l limit h ep en el ei f) long;
+      keeps = λ f enough b z. g .keeps (sheetIn w) (known-in w sheet p n l limit h ep en el ei f) (ranged w h) long enough b z;
     }
