@@ -1,6 +1,6 @@
 -- A task placed in the words is the task put in the schedule.
 use Prim.Native.Nat.{ℕ, suc, _+_, _-_, _*_, _%_, _/_, _≤_, _<_, max}
-use mathlib.Core.Path.{_≡_, ap, ap₂, sym, _∙_}
+use mathlib.Core.Path.{_≡_, ap, ap₂, _∙_}
 use mathlib.Core.List.{List, [], _∷_, _++_}
 use mathlib.Core.Logic.{_≢_, _⊎_, inl, inr, ⊎-elim}
 use native.Mathlib.Omega.{arith}

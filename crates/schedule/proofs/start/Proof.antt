@@ -1,5 +1,5 @@
 -- `start` (src/lib.rt) keeps its contract.
-use Prim.Native.Nat.{ℕ, _-_}
+use Prim.Native.Nat.{_-_}
 use mathlib.Core.Path.{_∙_, ap₂, sym}
 use native.Mathlib.Omega.{arith}
 use denote.Ref.{now}
