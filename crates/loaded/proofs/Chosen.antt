@@ -20,7 +20,7 @@ use Rattle.messages.specs.Counting.{each}
 use Rattle.machine.specs.Machine.{State, processorOf, stampOf, next, moved, step, canStep, stampIn}
 use Rattle.machine.specs.Runs.{chosen, left}
 use Rattle.machine.proofs.Steps.{move-step, left-moved, stamp-sent, stamp-other}
-use Rattle.loaded.specs.Words.{nextIn, clockIn, storeIn, firstIn, wordOf, endCode, placedWords, steppedWords, ranWords, sentWords, gotWords}
+use Rattle.loaded.specs.Words.{nextIn, clockIn, storeIn, firstIn, taskWord, wordOf, endCode, placedWords, steppedWords, ranWords, sentWords, gotWords}
 use Rattle.machine.specs.Kept.{StepIs}
 use Rattle.machine.proofs.Kept.{goes, no-next, no-wait, none-of}
 use Rattle.loaded.specs.Keeps.{Keeps}
@@ -72,7 +72,7 @@ module _ (w : List ℕ) (k : ℕ) (near : k < 16) (n : ℕ) (here : n ≡ nextIn
     ran-on q (comes (receive l) e j o f) amount g = let few = h .programmed .ranged .few-links in absurd (omega arith)
     ran-on q (comes (run t) e j o f) amount g =
         let few = h .programmed .ranged .few-tasks in
-        let slot : i ≡ 1120 + t = omega arith in
+        let slot : i ≡ taskWord s t = omega (arith, h .programmed .ranged .few-links) in
         let is : amount ≡ workOf s t + 65536 * storeOf s t = g ∙ ap (λ (y : ℕ). getD w y 0) slot ∙ h .programmed .works t o in
         let r = h .room k near in
         let wf : workOf s t < 65536 = h .programmed .ranged .works t o in
@@ -93,7 +93,7 @@ module _ (w : List ℕ) (k : ℕ) (near : k < 16) (n : ℕ) (here : n ≡ nextIn
     sent-on : 134217728 ≤ x → x < 268435456 → Coming s b w σ k n → (true ≡ canStep s b σ k) × Keeps s b (sentWords w k (x / 2048 % 65536) i) (chosen σ (step s b σ k))
     unfolding sentWords steppedWords stampOf
     sent-on a z (over e f) = absurd (omega arith)
-    sent-on a z (comes (run t) e j o f) = let few = h .programmed .ranged .few-tasks in absurd (omega arith)
+    sent-on a z (comes (run t) e j o f) = let few = h .programmed .ranged .few-tasks in absurd (omega (arith, h .programmed .ranged .few-links))
     sent-on a z (comes (receive l) e j o f) = let few = h .programmed .ranged .few-links in absurd (omega arith)
     sent-on a z (comes (send l) e j o f) =
         let few = h .programmed .ranged .few-links in
@@ -157,7 +157,7 @@ module _ (w : List ℕ) (k : ℕ) (near : k < 16) (n : ℕ) (here : n ≡ nextIn
         let none-there : getD w i 0 ≡ 0 = ap (λ (j : ℕ). getD w j 0) slot ∙ h .programmed .nothing in
         let off : f ≡ false = u ∙ ap not (eq-eqb (getD w i 0) 0 none-there) in
         subst (λ (y : Bool). (y ≡ canStep s b σ k) × Keeps s b (pick y (gotWords w k (x / 2048 % 65536) i) w) (chosen σ (step s b σ k))) (sym off) (no-next Keeps s b w σ k h e)
-    got-on z (comes (run t) e j o g) f u = let few = h .programmed .ranged .few-tasks in absurd (omega arith)
+    got-on z (comes (run t) e j o g) f u = let few = h .programmed .ranged .few-tasks in absurd (omega (arith, h .programmed .ranged .few-links))
     got-on z (comes (send l) e j o g) f u = let few = h .programmed .ranged .few-links in absurd (omega (arith, h .programmed .ranged .costs l o))
     got-on z (comes (receive l) e j o g) f u = by f (getD w i 0) refl u (ap (λ (y : ℕ). stampIn (getD w y 0)) slot ∙ h .stamp l o)
       where

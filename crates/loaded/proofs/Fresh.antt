@@ -22,7 +22,7 @@ use Rattle.messages.proofs.Weights.{weigh-each}
 use Rattle.machine.specs.Machine.{Processor, freshProcessor, freshState, processorOf, stampOf, stampIn}
 use Rattle.machine.specs.Runs.{left}
 use Rattle.machine.proofs.Runs.{fresh-processor, fresh-left}
-use Rattle.loaded.specs.Words.{nextIn, clockIn, storeIn, firstIn, lastIn, WorksIn}
+use Rattle.loaded.specs.Words.{nextIn, clockIn, storeIn, firstIn, lastIn, taskWord, WorksIn}
 use Rattle.loaded.specs.Keeps.{Decoded, Keeps}
 use Rattle.loaded.specs.Loads.{ProgrammeIs, LoadIs}
 use Rattle.loaded.proofs.Loading.{decoded-same}
@@ -42,26 +42,26 @@ wiped w v last e l few q r el =
     }
 
 -- the numbers of the tasks, one by one
-pub works-none : (sheet w : List ℕ) → WorksIs sheet w w 0
-works-none sheet w = record { long = refl; works = λ f t h. absurd (omega arith); other = λ i h. refl }
+pub works-none : (sheet w : List ℕ) (l : ℕ) → WorksIs sheet w w 0 l
+works-none sheet w l = record { long = refl; works = λ f t h. absurd (omega arith); other = λ i h. refl }
 
-pub works-more : (sheet v w u : List ℕ) (t work store : ℕ) → t < 256 → WorksIs sheet v w t → work ≡ numberAt 2 sheet (7 + 5 * t) → work < 65536 → store ≡ numberAt 2 sheet (9 + 5 * t) → store < 65536
-    → u ≡ set w (1120 + t) ((work + 65536 * store) % 4294967296) → WorksIs sheet v u (t + 1)
-works-more sheet v w u t work store near g ew fw es fs el =
+pub works-more : (sheet v w u : List ℕ) (t l work store : ℕ) → t < 256 → l ≤ 1024 → WorksIs sheet v w t l → work ≡ numberAt 2 sheet (7 + 5 * t) → work < 65536 → store ≡ numberAt 2 sheet (9 + 5 * t) → store < 65536
+    → u ≡ set w (96 + l + t) ((work + 65536 * store) % 4294967296) → WorksIs sheet v u (t + 1) l
+works-more sheet v w u t l work store near few g ew fw es fs el =
     record {
-      long = ap length el ∙ length-set w (1120 + t) _ ∙ g .long;
+      long = ap length el ∙ length-set w (96 + l + t) _ ∙ g .long;
       works =
-          λ f j l.
-          ⊎-elim (λ (h : j < t). same (1120 + j) (λ z. omega arith) ∙ g .works f j h)
-          (λ (q : j ≡ t). rw q (ap (λ (x : List ℕ). getD x (1120 + t) 0) el ∙ getD-set-same w (1120 + t) _ 0 (omega (arith, g .long)) ∙ omega arith)) (below-suc (rw add-one at l));
+          λ f j below.
+          ⊎-elim (λ (h : j < t). same (96 + l + j) (λ z. omega arith) ∙ g .works f j h)
+          (λ (q : j ≡ t). rw q (ap (λ (x : List ℕ). getD x (96 + l + t) 0) el ∙ getD-set-same w (96 + l + t) _ 0 (omega (arith, g .long)) ∙ omega arith)) (below-suc (rw add-one at below));
       other = λ i h. same i (λ z. omega arith) ∙ g .other i h;
     }
   where
-    same : (i : ℕ) → (i ≡ 1120 + t → ⊥) → getD u i 0 ≡ getD w i 0
-    same i d = ap (λ (x : List ℕ). getD x i 0) el ∙ getD-set-other w (1120 + t) i _ 0 d
+    same : (i : ℕ) → (i ≡ 96 + l + t → ⊥) → getD u i 0 ≡ getD w i 0
+    same i d = ap (λ (x : List ℕ). getD x i 0) el ∙ getD-set-other w (96 + l + t) i _ 0 d
 
-pub works-all : (sheet w last : List ℕ) (n t : ℕ) → t ≡ n → WorksIs sheet w last t → WorksIs sheet w last n
-works-all sheet w last n t e g = subst (λ (x : ℕ). WorksIs sheet w last x) e g
+pub works-all : (sheet w last : List ℕ) (n t l : ℕ) → t ≡ n → WorksIs sheet w last t l → WorksIs sheet w last n l
+works-all sheet w last n t l e g = subst (λ (x : ℕ). WorksIs sheet w last x l) e g
 
 -- processor k put before the first command of a programme from the index x to the index y
 module _ (w last : List ℕ) (k x y : ℕ) (el : last ≡ set (set (set w (4 * k) x) (4 * k + 3) x) (64 + k) y) where
@@ -168,8 +168,7 @@ emptied w v last c k most all ev g =
       opened =
           λ s long ranged behind blank works.
           let f : fixed ≤ length v = omega (arith, lv) in
-          let few = ranged .few-links in
-          let same : (i : ℕ) → i < 1376 → getD v i 0 ≡ getD w i 0 = λ i h. ap (λ (l : List ℕ). getD l i 0) ev ∙ getD-set-other w c i 268435551 0 (λ z. omega arith) in
+          let same : (i : ℕ) → i < taskWord s (taskCount s) → getD v i 0 ≡ getD w i 0 = λ i h. ap (λ (l : List ℕ). getD l i 0) ev ∙ getD-set-other w c i 268435551 0 (λ z. omega arith) in
           let low : (i : ℕ) → i < 96 + linkCount s → (i ≡ 80 → ⊥) → getD v i 0 ≡ 0 = λ i h d. same i (omega arith) ∙ blank .zeros i h d in
           let end : getD last c 0 ≡ 268435551 = g .other c (omega arith) ∙ ap (λ (l : List ℕ). getD l c 0) ev ∙ getD-set-same w c 268435551 0 (omega arith) in
           record {
@@ -187,7 +186,7 @@ emptied w v last c k most all ev g =
             clock = λ j h. g .clock j h ∙ low (4 * j + 1) (omega arith) (λ z. omega arith);
             store = λ j h. g .store j h ∙ low (4 * j + 2) (omega arith) (λ z. omega arith);
             links = g .other 80 (omega arith) ∙ same 80 (omega arith) ∙ blank .links;
-            works = λ t h. g .other (1120 + t) (omega arith) ∙ same (1120 + t) (omega (arith, ranged .few-tasks)) ∙ works t h;
+            works = λ t h. g .other (taskWord s t) (omega arith) ∙ same (taskWord s t) (omega arith) ∙ works t h;
             zeros = λ i h l. g .other i (omega arith) ∙ low i l (λ z. omega arith);
           };
     }
@@ -196,13 +195,13 @@ emptied w v last c k most all ev g =
     lv = ap length ev ∙ length-set w c 268435551
 
 -- one programme more, from command c on
-module _ (sheet bundle from w u last : List ℕ) (n k c x e r : ℕ) (near : k < 16) (ex : x ≡ getD from k 0) (ee : e ≡ getD from (k + 1) 0) (fe : e < 4294967296) (most : n ≤ 256)
-    (pr : (r ≤ c + e + 2) × ProgrammeIs sheet bundle w u n (x + 2) e c r)
+module _ (sheet bundle from w u last : List ℕ) (n l k c x e r : ℕ) (near : k < 16) (ex : x ≡ getD from k 0) (ee : e ≡ getD from (k + 1) 0) (fe : e < 4294967296)
+    (pr : (r ≤ c + e + 2) × ProgrammeIs sheet bundle w u n l (x + 2) e c r)
     (el : last ≡ set (set (set u (4 * k) (c % 4294967296)) (4 * k + 3) (c % 4294967296)) (64 + k) (r % 4294967296)) where
-  module _ (s : Sheet) (en : taskCount s ≡ n) (few : linkCount s ≤ 1024) (ps qs : List (List Command)) (same : (j : ℕ) → (j ≡ k → ⊥) → getD qs j [] ≡ getD ps j []) (room : c + length (getD qs k []) < 4095) (g : Opened s w c ps)
+  module _ (s : Sheet) (ps qs : List (List Command)) (same : (j : ℕ) → (j ≡ k → ⊥) → getD qs j [] ≡ getD ps j []) (room : c + length (getD qs k []) < 4095) (g : Opened s w c ps)
       (er : r ≡ c + length (getD qs k [])) (decoded : Decoded s u c (getD qs k []))
       (other : (i : ℕ) → (i < c) ⊎ (c + length (getD qs k []) < i) → getD u i 0 ≡ getD w i 0) where
-    behind : 1377 ≤ c
+    behind : taskWord s (taskCount s) < c
     behind = omega (arith, g .opens k near .low, g .opens k near .high)
 
     fits : fixed ≤ length u
@@ -257,21 +256,21 @@ module _ (sheet bundle from w u last : List ℕ) (n k c x e r : ℕ) (near : k <
           clock = λ j h. placed-clock u last k _ _ el near j h ∙ low (4 * j + 1) (omega arith) ∙ g .clock j h;
           store = λ j h. placed-store u last k _ _ el near j h ∙ low (4 * j + 2) (omega arith) ∙ g .store j h;
           links = placed-high u last k _ _ el near 80 (omega arith) ∙ low 80 (omega arith) ∙ g .links;
-          works = λ t h. placed-high u last k _ _ el near (1120 + t) (omega arith) ∙ low (1120 + t) (omega arith) ∙ g .works t h;
+          works = λ t h. placed-high u last k _ _ el near (taskWord s t) (omega arith) ∙ low (taskWord s t) (omega arith) ∙ g .works t h;
           zeros = λ i h l. placed-high u last k _ _ el near i (omega arith) ∙ low i (omega arith) ∙ g .zeros i h l;
         }
 
-  pub one : OneIs sheet bundle from w last n k c (r + 1)
+  pub one : OneIs sheet bundle from w last n l k c (r + 1)
   one =
       record {
         long = placed-long u last k _ _ el ∙ pr .1 .long;
         few = omega (arith, pr .0);
         is =
-            λ s ps qs fields en few lies same room g.
+            λ s ps qs fields en links lies same room g.
             let ek : e ≡ getD from (suc k) 0 = ee ∙ ap (λ (i : ℕ). getD from i 0) (add-one k) in
-            let l : Lies (taskCount s) (linkCount s) bundle (x + 2) e (getD qs k []) = rw (ex, ek) lies in
-            let y = pr .1 .is s (getD qs k []) fields en few l (omega (arith, g .long)) in
-            (omega (arith, y .0), more s en few ps qs same room g (y .0) (y .1) (y .2));
+            let there : Lies (taskCount s) (linkCount s) bundle (x + 2) e (getD qs k []) = rw (ex, ek) lies in
+            let y = pr .1 .is s (getD qs k []) fields en links there (omega (arith, g .long)) in
+            (omega (arith, y .0), more s ps qs same room g (y .0) (y .1) (y .2));
       }
 
 -- one programme more of a list
@@ -284,13 +283,13 @@ take-other (p ∷ ps) (suc k) zero d = refl
 take-other (p ∷ ps) (suc k) (suc j) d = take-other ps k j (λ q. d (ap suc q))
 
 -- the first k programmes are loaded, from the command first up to command c, in the words w that were v
-pub record Going (sheet bundle from v w : List ℕ) (m n first c k : ℕ) : Type 0 where
+pub record Going (sheet bundle from v w : List ℕ) (m n l first c k : ℕ) : Type 0 where
   pub long : length w ≡ length v
   pub few : c ≤ first + k * 4294967300
-  pub is : (s : Sheet) (b : Bundle) → Given sheet bundle from m n s b → Opened s v first [] → (c ≡ first + sum k (wholeOf b each) + k) × Opened s w c (take k (b .programmes))
+  pub is : (s : Sheet) (b : Bundle) → Given sheet bundle from m n l s b → Opened s v first [] → (c ≡ first + sum k (wholeOf b each) + k) × Opened s w c (take k (b .programmes))
 
-module _ (sheet bundle from v : List ℕ) (m n first : ℕ) (near : first ≤ 1377) where
-  pub going-starts : Going sheet bundle from v v m n first first 0
+module _ (sheet bundle from v : List ℕ) (m n l first : ℕ) (near : first ≤ 1377) where
+  pub going-starts : Going sheet bundle from v v m n l first first 0
   unfolding sum
   going-starts = record { long = refl; few = omega arith; is = λ s b given g. (omega arith, g) }
 
@@ -307,7 +306,7 @@ module _ (sheet bundle from v : List ℕ) (m n first : ℕ) (near : first ≤ 13
   unfolding sum wholeOf
   sum-more b k = rw add-one (omega (arith, weigh-each (programmeOf b k)))
 
-  pub going-more : (w u : List ℕ) (c k r : ℕ) → k < m → m < 17 → Going sheet bundle from v w m n first c k → OneIs sheet bundle from w u n k c r → Going sheet bundle from v u m n first r (k + 1)
+  pub going-more : (w u : List ℕ) (c k r : ℕ) → k < m → m < 17 → Going sheet bundle from v w m n l first c k → OneIs sheet bundle from w u n l k c r → Going sheet bundle from v u m n l first r (k + 1)
   unfolding programmeCount programmeOf
   going-more w u c k r below few g h =
       record {
@@ -319,13 +318,13 @@ module _ (sheet bundle from v : List ℕ) (m n first : ℕ) (near : first ≤ 13
             let inside : k < length (b .programmes) = omega (arith, given .programmes) in
             let e : getD (take (suc k) (b .programmes)) k [] ≡ getD (b .programmes) k [] = getD-take (suc k) (b .programmes) k [] (omega arith) in
             let le : length (getD (take (suc k) (b .programmes)) k []) ≡ length (getD (b .programmes) k []) = ap length e in
-            let y = h .is s (take k (b .programmes)) (take (suc k) (b .programmes)) (given .fields) (given .tasks) (given .ranged .few-links) (rw e (given .laid .lies k inside))
+            let y = h .is s (take k (b .programmes)) (take (suc k) (b .programmes)) (given .fields) (given .tasks) (given .links) (rw e (given .laid .lies k inside))
             (take-other (b .programmes) k) (omega (arith, room-for b k inside (given .short), p .0)) (p .1)
             in
             (omega (arith, y .0, p .0, sum-more b k), rw add-one (y .1));
       }
 
-  pub going-ends : (w : List ℕ) (c k : ℕ) → k ≡ m → m < 17 → Going sheet bundle from v w m n first c k → AllIs sheet bundle from v w m n first
+  pub going-ends : (w : List ℕ) (c k : ℕ) → k ≡ m → m < 17 → Going sheet bundle from v w m n l first c k → AllIs sheet bundle from v w m n l first
   unfolding programmeCount
   going-ends w c k e few g =
       record {
@@ -352,7 +351,7 @@ module _ (sheet bundle from v : List ℕ) (m n first : ℕ) (near : first ≤ 13
       }
 
 -- all processors opened, everything else 0: the fresh state
-module _ (sheet bundle from w : List ℕ) (m n : ℕ) (s : Sheet) (b : Bundle) (given : Given sheet bundle from m n s b) (g : Opened s w 4096 (b .programmes)) where
+module _ (sheet bundle from w : List ℕ) (m n l : ℕ) (s : Sheet) (b : Bundle) (given : Given sheet bundle from m n l s b) (g : Opened s w 4096 (b .programmes)) where
   pub fresh-kept : Keeps s b w (freshState s b)
   unfolding programmeCount programmeOf stampOf
   fresh-kept =
@@ -388,21 +387,21 @@ module _ (sheet bundle from w : List ℕ) (m n : ℕ) (s : Sheet) (b : Bundle) (
         roomy = λ l x e. absurd (Option·none-ne-some x (sym (stampless l) ∙ e));
       }
 
-pub loaded-all : (sheet bundle from w a u v last : List ℕ) (m n l : ℕ) → l ≤ 1024 → WipeIs w a l → WorksIs sheet a u n → EmptyIs u v 1376 → AllIs sheet bundle from v last m n 1377
+pub loaded-all : (sheet bundle from w a u v last : List ℕ) (m n l : ℕ) → WipeIs w a l → WorksIs sheet a u n l → EmptyIs u v (96 + l + n) → AllIs sheet bundle from v last m n l (96 + l + n + 1)
     → LoadIs sheet bundle from w last m n l
-loaded-all sheet bundle from w a u v last m n l most p o q r =
+loaded-all sheet bundle from w a u v last m n l p o q r =
     record {
       long = r .long ∙ q .long ∙ o .long ∙ p .long;
       keeps =
           λ s b fields long em few en links ranged short laid.
-          let given : Given sheet bundle from m n s b = record { fields = fields; programmes = em; few = few; tasks = en; ranged = ranged; short = short; laid = laid } in
+          let given : Given sheet bundle from m n l s b = record { fields = fields; programmes = em; few = few; tasks = en; links = links; ranged = ranged; short = short; laid = laid } in
           let z = p .blank long in
           let blank : Blank u (linkCount s) =
           rw links (record { links = o .other 80 (omega arith) ∙ z .links; zeros = λ i h d. o .other i (omega arith) ∙ z .zeros i h d })
           in
           let works : WorksIn s u =
           λ t h.
-          o .works (omega (arith, p .long)) t (omega arith) ∙ omega (arith, fields .work t h, fields .store t h)
+          ap (λ (i : ℕ). getD u (96 + i + t) 0) links ∙ o .works (omega (arith, p .long)) t (omega arith) ∙ omega (arith, fields .work t h, fields .store t h)
           in
-          fresh-kept sheet bundle from last m n s b given (r .is s b given (q .opened s (omega (arith, p .long, o .long)) ranged (omega arith) blank works));
+          fresh-kept sheet bundle from last m n l s b given (r .is s b given (q .opened s (omega (arith, p .long, o .long)) ranged (omega arith) blank works));
     }

@@ -20,27 +20,27 @@ use Rattle.loaded.specs.Words.{wordOf}
 use Rattle.loaded.specs.Keeps.{Decoded}
 use Rattle.loaded.specs.Loads.{CommandIs, ProgrammeIs}
 
-module _ (sheet bundle w last : List ℕ) (n o at : ℕ) where
+module _ (sheet bundle w last : List ℕ) (n l o at : ℕ) where
   -- a run
-  pub ran : (t : ℕ) → getD bundle o 0 ≡ 0x52 → t ≡ getD bundle (o + 1) 0 → t < 256 → last ≡ set w at ((1120 + t) % 4294967296) → CommandIs sheet bundle w last n o at 2
-  ran t q et ft el =
+  pub ran : (t : ℕ) → l ≤ 1024 → getD bundle o 0 ≡ 0x52 → t ≡ getD bundle (o + 1) 0 → t < 256 → last ≡ set w at ((96 + l + t) % 4294967296) → CommandIs sheet bundle w last n l o at 2
+  ran t most q et ft el =
       record {
         long = ap length el ∙ length-set w at _;
         some = omega arith;
         few = omega arith;
         is =
-            λ s c fields en few stands.
+            λ s c fields en links stands.
             let z = stands-run (taskCount s) (linkCount s) bundle o c stands q in
-            let x : (1120 + t) % 4294967296 ≡ 1120 + t = omega arith in
+            let x : (96 + l + t) % 4294967296 ≡ wordOf s (run t) = omega arith in
             let k : c ≡ run t = z .0 ∙ ap run (sym et) in
             subst (λ (d : Command). (last ≡ set w at (wordOf s d)) × (2 ≡ sizeOf d)) (sym k) (el ∙ ap (set w at) x, refl);
       }
 
   -- a send or a receive
-  pub told : (l r amount : ℕ) → (getD bundle o 0 ≡ 0x52 → ⊥) → r ≡ getD bundle o 0 / 0x56 → l ≡ numberAt 2 bundle (o + 1) → l < 65536
-      → amount ≡ numberAt 2 sheet (9 + 5 * n + 7 * l + 2 * r) → amount < 65536
-      → last ≡ set w at ((134217824 + l + 134217728 * r + 2048 * amount) % 4294967296) → CommandIs sheet bundle w last n o at 3
-  told l r amount q er et fl ea fa el =
+  pub told : (i r amount : ℕ) → (getD bundle o 0 ≡ 0x52 → ⊥) → r ≡ getD bundle o 0 / 0x56 → i ≡ numberAt 2 bundle (o + 1) → i < 65536
+      → amount ≡ numberAt 2 sheet (9 + 5 * n + 7 * i + 2 * r) → amount < 65536
+      → last ≡ set w at ((134217824 + i + 134217728 * r + 2048 * amount) % 4294967296) → CommandIs sheet bundle w last n l o at 3
+  told i r amount q er et fi ea fa el =
       record {
         long = ap length el ∙ length-set w at _;
         some = omega arith;
@@ -48,23 +48,23 @@ module _ (sheet bundle w last : List ℕ) (n o at : ℕ) where
         is = by;
       }
     where
-      these : (x : ℕ) → 134217824 + l + 134217728 * r + 2048 * amount ≡ x → x < 4294967296 → last ≡ set w at x
-      these x e f = let d : (134217824 + l + 134217728 * r + 2048 * amount) % 4294967296 ≡ x = omega arith in el ∙ ap (set w at) d
+      these : (x : ℕ) → 134217824 + i + 134217728 * r + 2048 * amount ≡ x → x < 4294967296 → last ≡ set w at x
+      these x e f = let d : (134217824 + i + 134217728 * r + 2048 * amount) % 4294967296 ≡ x = omega arith in el ∙ ap (set w at) d
 
-      by : (s : Sheet) (c : Command) → Fields s sheet → taskCount s ≡ n → linkCount s ≤ 1024 → Stands (taskCount s) (linkCount s) bundle o c
+      by : (s : Sheet) (c : Command) → Fields s sheet → taskCount s ≡ n → linkCount s ≡ l → Stands (taskCount s) (linkCount s) bundle o c
           → (last ≡ set w at (wordOf s c)) × (3 ≡ sizeOf c)
-      by s (run x) fields en few h = absurd (q (h .0))
-      by s (send x) fields en few h =
+      by s (run x) fields en links h = absurd (q (h .0))
+      by s (send x) fields en links h =
           let z : r ≡ 0 = omega (arith, h .0) in
-          let i : 9 + 5 * n + 7 * l + 2 * r ≡ 9 + 5 * taskCount s + 7 * x = omega (arith, h .1) in
-          let e : amount ≡ costOf s x = ea ∙ ap (numberAt 2 sheet) i ∙ fields .cost x (h .2) in
-          let d : 134217824 + l + 134217728 * r + 2048 * amount ≡ wordOf s (send x) = omega (arith, h .1) in
+          let j : 9 + 5 * n + 7 * i + 2 * r ≡ 9 + 5 * taskCount s + 7 * x = omega (arith, h .1) in
+          let e : amount ≡ costOf s x = ea ∙ ap (numberAt 2 sheet) j ∙ fields .cost x (h .2) in
+          let d : 134217824 + i + 134217728 * r + 2048 * amount ≡ wordOf s (send x) = omega (arith, h .1) in
           (these (wordOf s (send x)) d (omega (arith, h .2)), refl)
-      by s (receive x) fields en few h =
+      by s (receive x) fields en links h =
           let z : r ≡ 1 = omega (arith, h .0) in
-          let i : 9 + 5 * n + 7 * l + 2 * r ≡ 11 + 5 * taskCount s + 7 * x = omega (arith, h .1) in
-          let e : amount ≡ bytesOf s x = ea ∙ ap (numberAt 2 sheet) i ∙ fields .bytes x (h .2) in
-          let d : 134217824 + l + 134217728 * r + 2048 * amount ≡ wordOf s (receive x) = omega (arith, h .1) in
+          let j : 9 + 5 * n + 7 * i + 2 * r ≡ 11 + 5 * taskCount s + 7 * x = omega (arith, h .1) in
+          let e : amount ≡ bytesOf s x = ea ∙ ap (numberAt 2 sheet) j ∙ fields .bytes x (h .2) in
+          let d : 134217824 + i + 134217728 * r + 2048 * amount ≡ wordOf s (receive x) = omega (arith, h .1) in
           (these (wordOf s (receive x)) d (omega (arith, h .2)), refl)
 
 -- commands stand in other words that agree from the first of them up to the index z
@@ -93,22 +93,22 @@ pub record Part (s : Sheet) (bundle v w : List ℕ) (e at from to : ℕ) (cs : L
   pub word : (i : ℕ) → i < count → getD w (at + i) 0 ≡ wordOf s (getD cs i (run 0))
   pub other : (i : ℕ) → (i < at) ⊎ (to ≤ i) → getD w i 0 ≡ getD v i 0
 
-pub record Loading (sheet bundle v w : List ℕ) (n o e at from to : ℕ) : Type 0 where
+pub record Loading (sheet bundle v w : List ℕ) (n l o e at from to : ℕ) : Type 0 where
   pub long : length w ≡ length v
   pub low : to + o ≤ at + from
   pub near : from ≤ max o (e + 2)
-  pub is : (s : Sheet) (cs : List Command) → Fields s sheet → taskCount s ≡ n → linkCount s ≤ 1024 → Lies (taskCount s) (linkCount s) bundle o e cs → at + length cs < length v
+  pub is : (s : Sheet) (cs : List Command) → Fields s sheet → taskCount s ≡ n → linkCount s ≡ l → Lies (taskCount s) (linkCount s) bundle o e cs → at + length cs < length v
       → Part s bundle v w e at from to cs
 
-module _ (sheet bundle v : List ℕ) (n o e at : ℕ) where
-  pub loading-starts : Loading sheet bundle v v n o e at o at
+module _ (sheet bundle v : List ℕ) (n l o e at : ℕ) where
+  pub loading-starts : Loading sheet bundle v v n l o e at o at
   loading-starts =
       record {
         long = refl;
         low = omega arith;
         near = omega arith;
         is =
-            λ s cs fields en few lies room.
+            λ s cs fields en links lies room.
             record {
               count = 0;
               lies = lies;
@@ -120,14 +120,14 @@ module _ (sheet bundle v : List ℕ) (n o e at : ℕ) where
             };
       }
 
-  module _ (w u : List ℕ) (from to r : ℕ) (g : Loading sheet bundle v w n o e at from to) (below : from < e) (h : CommandIs sheet bundle w u n from to r) where
-    part-more : (s : Sheet) (cs : List Command) → Fields s sheet → taskCount s ≡ n → linkCount s ≤ 1024 → at + length cs < length v
+  module _ (w u : List ℕ) (from to r : ℕ) (g : Loading sheet bundle v w n l o e at from to) (below : from < e) (h : CommandIs sheet bundle w u n l from to r) where
+    part-more : (s : Sheet) (cs : List Command) → Fields s sheet → taskCount s ≡ n → linkCount s ≡ l → at + length cs < length v
         → Part s bundle v w e at from to cs → Part s bundle v u e at (from + r) (to + 1) cs
-    part-more s cs fields en few room p =
+    part-more s cs fields en links room p =
         let x = lies-next (taskCount s) (linkCount s) bundle (p .lies) below in
         let c = x .command in
         let d = drop-head cs (p .count) c (x .rest) (x .here) in
-        let y = h .is s c fields en few (x .stands) in
+        let y = h .is s c fields en links (x .stands) in
         let inside : p .count < length cs = d .0 in
         let lw : to < length w = omega (arith, g .long, p .behind) in
         let same : (i : ℕ) → (i ≡ to → ⊥) → getD u i 0 ≡ getD w i 0 = λ i a. ap (λ (l : List ℕ). getD l i 0) (y .0) ∙ getD-set-other w to i (wordOf s c) 0 a in
@@ -148,16 +148,16 @@ module _ (sheet bundle v : List ℕ) (n o e at : ℕ) where
               ⊎-elim (λ (a : i < at). same i (λ z. omega arith) ∙ p .other i (inl a)) (λ (a : to + 1 ≤ i). same i (λ z. omega arith) ∙ p .other i (inr (omega arith))) l;
         }
 
-    pub loading-more : Loading sheet bundle v u n o e at (from + r) (to + 1)
+    pub loading-more : Loading sheet bundle v u n l o e at (from + r) (to + 1)
     loading-more =
         record {
           long = h .long ∙ g .long;
           low = omega (arith, g .low, h .some);
           near = omega (arith, h .few);
-          is = λ s cs fields en few lies room. part-more s cs fields en few room (g .is s cs fields en few lies room);
+          is = λ s cs fields en links lies room. part-more s cs fields en links room (g .is s cs fields en links lies room);
         }
 
-  module _ (w last : List ℕ) (from to : ℕ) (g : Loading sheet bundle v w n o e at from to) (over : e ≤ from) (el : last ≡ set w to (268435551 % 4294967296)) where
+  module _ (w last : List ℕ) (from to : ℕ) (g : Loading sheet bundle v w n l o e at from to) (over : e ≤ from) (el : last ≡ set w to (268435551 % 4294967296)) where
     ended : (s : Sheet) (cs : List Command) → at + length cs < length v → Part s bundle v w e at from to cs
         → (to ≡ at + length cs) × Decoded s last at cs × ((i : ℕ) → (i < at) ⊎ (at + length cs < i) → getD last i 0 ≡ getD v i 0)
     ended s cs room p =
@@ -175,11 +175,11 @@ module _ (sheet bundle v : List ℕ) (n o e at : ℕ) where
               ⊎-elim (λ (a : i < at). same i (λ z. omega arith) ∙ p .other i (inl a)) (λ (a : at + length cs < i). same i (λ z. omega arith) ∙ p .other i (inr (omega arith))) l,
         )
 
-    pub loading-ends : (to ≤ at + e + 2) × ProgrammeIs sheet bundle v last n o e at to
+    pub loading-ends : (to ≤ at + e + 2) × ProgrammeIs sheet bundle v last n l o e at to
     loading-ends = (
       omega (arith, g .low, g .near),
       record {
         long = ap length el ∙ length-set w to 268435551 ∙ g .long;
-        is = λ s cs fields en few lies room. ended s cs room (g .is s cs fields en few lies room);
+        is = λ s cs fields en links lies room. ended s cs room (g .is s cs fields en links lies room);
       },
     )

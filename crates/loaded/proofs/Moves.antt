@@ -13,7 +13,7 @@ use Rattle.messages.specs.Counting.{each, need}
 use Rattle.machine.specs.Machine.{State, processorOf, stampOf, next, takes, moved, stampIn}
 use Rattle.machine.specs.Runs.{left}
 use Rattle.machine.proofs.Steps.{each-of, left-moved, length-posted}
-use Rattle.loaded.specs.Words.{nextIn, clockIn, storeIn, firstIn, placedWords, steppedWords}
+use Rattle.loaded.specs.Words.{nextIn, clockIn, storeIn, firstIn, taskWord, placedWords, steppedWords}
 use Rattle.loaded.specs.Keeps.{Decoded, Programmed, Keeps}
 use Rattle.loaded.proofs.Loading.{decoded-same}
 
@@ -59,14 +59,13 @@ module _ {links : ℕ} {w v : List ℕ} {k n c x : ℕ} (near : k < 16) (m : Mov
         ranged = h .ranged;
         links = above 80 (omega arith) (inl (omega arith)) ∙ h .links;
         nothing = above 95 (omega arith) (inl (omega arith)) ∙ h .nothing;
-        works = λ t l. above (1120 + t) (omega arith) (inr (omega (arith, h .ranged .few-links))) ∙ h .works t l;
+        works = λ t l. above (taskWord s t) (omega arith) (inr (omega arith)) ∙ h .works t l;
         low = λ j l. omega (arith, first-same j l, h .low j l);
         high = λ j l. omega (arith, first-same j l, h .high j l);
         last = λ j l. above (64 + j) (omega arith) (inl (omega arith)) ∙ h .last j l ∙ ap (λ (x : ℕ). x + length (programmeOf b j)) (sym (first-same j l));
         decoded =
             λ j l.
             let f = h .low j l in
-            let few = h .ranged .few-links in
             subst (λ (x : ℕ). Decoded s v x (programmeOf b j)) (sym (first-same j l))
             (decoded-same s w v (firstIn w j) (firstIn w j + length (programmeOf b j) + 1) (programmeOf b j) (λ i n o. above i (omega arith) (inr (omega arith))) (omega arith) (h .decoded j l));
       }

@@ -5,14 +5,14 @@ use mathlib.Core.Option.{some}
 use mathlib.Core.List.{List}
 use lib.ListN.{length, getD}
 use Rattle.workspace.specs.Area.{fixed}
-use Rattle.sheet.specs.Sheet.{Sheet, linkCount}
+use Rattle.sheet.specs.Sheet.{Sheet, taskCount, linkCount}
 use Rattle.sheet.specs.Tables.{Ranged}
 use Rattle.bundle.specs.Bundle.{Command, run, Bundle, programmeCount, programmeOf}
 use Rattle.bundle.specs.Fits.{Known}
 use Rattle.messages.specs.Counting.{each}
 use Rattle.machine.specs.Machine.{State, processorOf, stampOf, stampIn}
 use Rattle.machine.specs.Runs.{left}
-use Rattle.loaded.specs.Words.{nextIn, clockIn, storeIn, firstIn, lastIn, WorksIn, wordOf, endCode}
+use Rattle.loaded.specs.Words.{nextIn, clockIn, storeIn, firstIn, lastIn, taskWord, WorksIn, wordOf, endCode}
 
 -- the commands cs stand in the words w from the index at on
 pub record Decoded (s : Sheet) (w : List ℕ) (at : ℕ) (cs : List Command) : Type 0 where
@@ -28,7 +28,7 @@ pub record Programmed (s : Sheet) (b : Bundle) (w : List ℕ) : Type 0 where
   pub links : getD w 80 0 ≡ linkCount s
   pub nothing : getD w 95 0 ≡ 0
   pub works : WorksIn s w
-  pub low : (k : ℕ) → k < 16 → 1376 ≤ firstIn w k
+  pub low : (k : ℕ) → k < 16 → taskWord s (taskCount s) ≤ firstIn w k
   pub high : (k : ℕ) → k < 16 → firstIn w k + length (programmeOf b k) < 4096
   pub last : (k : ℕ) → k < 16 → lastIn w k ≡ firstIn w k + length (programmeOf b k)
   pub decoded : (k : ℕ) → k < 16 → Decoded s w (firstIn w k) (programmeOf b k)

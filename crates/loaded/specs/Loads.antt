@@ -16,17 +16,17 @@ use Rattle.loaded.specs.Words.{wordOf}
 use Rattle.loaded.specs.Keeps.{Decoded, Keeps}
 
 -- the command at the offset o, of r bytes, in the word at the index at
-pub record CommandIs (sheet bundle w last : List ℕ) (n o at r : ℕ) : Type 0 where
+pub record CommandIs (sheet bundle w last : List ℕ) (n l o at r : ℕ) : Type 0 where
   pub long : length last ≡ length w
   pub some : 2 ≤ r
   pub few : r ≤ 3
-  pub is : (s : Sheet) (c : Command) → Fields s sheet → taskCount s ≡ n → linkCount s ≤ 1024 → Stands (taskCount s) (linkCount s) bundle o c
+  pub is : (s : Sheet) (c : Command) → Fields s sheet → taskCount s ≡ n → linkCount s ≡ l → Stands (taskCount s) (linkCount s) bundle o c
       → (last ≡ set w at (wordOf s c)) × (r ≡ sizeOf c)
 
 -- the programme from the offset o to the offset e in the words from the index at on, and behind it the index r; the others stay
-pub record ProgrammeIs (sheet bundle w last : List ℕ) (n o e at r : ℕ) : Type 0 where
+pub record ProgrammeIs (sheet bundle w last : List ℕ) (n l o e at r : ℕ) : Type 0 where
   pub long : length last ≡ length w
-  pub is : (s : Sheet) (cs : List Command) → Fields s sheet → taskCount s ≡ n → linkCount s ≤ 1024 → Lies (taskCount s) (linkCount s) bundle o e cs → at + length cs < length w
+  pub is : (s : Sheet) (cs : List Command) → Fields s sheet → taskCount s ≡ n → linkCount s ≡ l → Lies (taskCount s) (linkCount s) bundle o e cs → at + length cs < length w
       → (r ≡ at + length cs) × Decoded s last at cs × ((i : ℕ) → (i < at) ⊎ (at + length cs < i) → getD last i 0 ≡ getD w i 0)
 
 -- m programmes whose offsets stand in the words `from`, for a sheet of n tasks and l links: the fresh state

@@ -5,13 +5,13 @@
 --   80 the count of links, at most 1,024
 --   95 is 0: no message
 --   96 + l for link l 0 while its message is not sent, then one more than the stamp
---   1120 + t work + 65536 * store of task t (256)
---   c command c, from 1376 on: lowest the word that it works with, a task's or a message's, then how much a message costs or holds, then what to do. Behind each programme stands one that receives word 95, and so is never done
+--   behind the last stamp, for each task its work + 65536 * its store
+--   c command c, behind the last task: lowest the word that it works with, a task's or a message's, then how much a message costs or holds, then what to do. Behind each programme stands one that receives word 95, and so is never done
 use Prim.Native.Nat.{ℕ, _+_, _*_, _-_, _%_, _/_, _<_, max}
 use mathlib.Core.Path.{_≡_}
 use mathlib.Core.List.{List}
 use lib.ListN.{getD, set}
-use Rattle.sheet.specs.Sheet.{Sheet, taskCount, workOf, storeOf, costOf, bytesOf}
+use Rattle.sheet.specs.Sheet.{Sheet, taskCount, linkCount, workOf, storeOf, costOf, bytesOf}
 use Rattle.bundle.specs.Bundle.{Command, run, send, receive}
 
 -- processor k in the words w
@@ -31,12 +31,15 @@ abbrev pub lastIn : List ℕ → ℕ → ℕ
 lastIn w k = getD w (64 + k) 0
 
 -- the work and the store of each task stand in its word
+abbrev pub taskWord : Sheet → ℕ → ℕ
+taskWord s t = 96 + linkCount s + t
+
 abbrev pub WorksIn : Sheet → List ℕ → Type 0
-WorksIn s w = (t : ℕ) → t < taskCount s → getD w (1120 + t) 0 ≡ workOf s t + 65536 * storeOf s t
+WorksIn s w = (t : ℕ) → t < taskCount s → getD w (taskWord s t) 0 ≡ workOf s t + 65536 * storeOf s t
 
 -- a command's word
 abbrev pub wordOf : Sheet → Command → ℕ
-wordOf s (run t) = 1120 + t
+wordOf s (run t) = taskWord s t
 wordOf s (send l) = 134217728 + 2048 * costOf s l + (96 + l)
 wordOf s (receive l) = 268435456 + 2048 * bytesOf s l + (96 + l)
 

@@ -5,22 +5,30 @@ ghost use lib.ListN.{set};
 ghost use Rattle.loaded.specs.Loads.{CommandIs, ProgrammeIs, LoadIs};
 ghost use Rattle.loaded.specs.Opened.{WipeIs, WorksIs, EmptyIs, OneIs, AllIs};
 
-// The command at the offset o, for a sheet of n tasks, into the word at the index `at`; how many bytes it has. A send is told from a receive by value:
-// which of them comes cannot be foretold.
-fn load_command(sheet: &[u8], bundle: &[u8], w: &mut [u32], n: usize, o: usize, at: usize) -> usize
-    requires { ⌜ (n ≤ 256) × (o < 4294967296) ⌝ }
-    ensures { λ r. ⌜ CommandIs (now (sheet .entry)) (now (bundle .entry)) (now (w .entry)) (now (w .exit)) n o at r ⌝ }
+// The command at the offset o, for a sheet of n tasks and l links, into the word at the index `at`; how many bytes it has. A send is told from a
+// receive by value: which of them comes cannot be foretold.
+fn load_command(
+    sheet: &[u8],
+    bundle: &[u8],
+    w: &mut [u32],
+    n: usize,
+    l: usize,
+    o: usize,
+    at: usize,
+) -> usize
+    requires { ⌜ (n ≤ 256) × (l ≤ 1024) × (o < 4294967296) ⌝ }
+    ensures { λ r. ⌜ CommandIs (now (sheet .entry)) (now (bundle .entry)) (now (w .entry)) (now (w .exit)) n l o at r ⌝ }
 {
     let c = words::byte(bundle, o);
     if c == 0x52 {
         let t = words::byte(bundle, o + 1);
-        words::put(w, at, 1120 + t);
+        words::put(w, at, 96 + l + t);
         return 2;
     }
-    let l = words::pair(bundle, o + 1);
+    let i = words::pair(bundle, o + 1);
     let receives = c / 0x56;
-    let amount = words::pair(sheet, 9 + 5 * n + 7 * l + 2 * receives);
-    words::put(w, at, 134217824 + l + 134217728 * receives + 2048 * amount);
+    let amount = words::pair(sheet, 9 + 5 * n + 7 * i + 2 * receives);
+    words::put(w, at, 134217824 + i + 134217728 * receives + 2048 * amount);
     3
 }
 
@@ -30,17 +38,18 @@ fn load_programme(
     bundle: &[u8],
     w: &mut [u32],
     n: usize,
+    l: usize,
     o: usize,
     e: usize,
     at: usize,
 ) -> usize
-    requires { ⌜ (n ≤ 256) × (e < 4294967296) × (at < 1099511627776) ⌝ }
-    ensures { λ r. ⌜ (r ≤ at + e + 2) × ProgrammeIs (now (sheet .entry)) (now (bundle .entry)) (now (w .entry)) (now (w .exit)) n o e at r ⌝ }
+    requires { ⌜ (n ≤ 256) × (l ≤ 1024) × (e < 4294967296) × (at < 1099511627776) ⌝ }
+    ensures { λ r. ⌜ (r ≤ at + e + 2) × ProgrammeIs (now (sheet .entry)) (now (bundle .entry)) (now (w .entry)) (now (w .exit)) n l o e at r ⌝ }
 {
     let mut from = o;
     let mut to = at;
     while from < e {
-        from += load_command(sheet, bundle, w, n, from, to);
+        from += load_command(sheet, bundle, w, n, l, from, to);
         to += 1;
     }
     words::put(w, to, 268435551);
@@ -67,16 +76,16 @@ fn wipe(w: &mut [u32], l: usize)
     words::put(w, 80, l);
 }
 
-// The work and the store of each of n tasks into the task's word.
-fn load_works(sheet: &[u8], w: &mut [u32], n: usize)
-    requires { ⌜ n ≤ 256 ⌝ }
-    ensures { λ _. ⌜ WorksIs (now (sheet .entry)) (now (w .entry)) (now (w .exit)) n ⌝ }
+// The work and the store of each of n tasks into the task's word, behind l stamps.
+fn load_works(sheet: &[u8], w: &mut [u32], n: usize, l: usize)
+    requires { ⌜ (n ≤ 256) × (l ≤ 1024) ⌝ }
+    ensures { λ _. ⌜ WorksIs (now (sheet .entry)) (now (w .entry)) (now (w .exit)) n l ⌝ }
 {
     let mut t = 0;
     while t < n {
         let work = words::pair(sheet, 7 + 5 * t);
         let store = words::pair(sheet, 9 + 5 * t);
-        words::put(w, 1120 + t, work + 65536 * store);
+        words::put(w, 96 + l + t, work + 65536 * store);
         t += 1;
     }
 }
@@ -101,15 +110,16 @@ fn load_one(
     from: &[u32],
     w: &mut [u32],
     n: usize,
+    l: usize,
     k: usize,
     c: usize,
 ) -> usize
-    requires { ⌜ (n ≤ 256) × (k < 16) × (c < 274877906944) ⌝ }
-    ensures { λ r. ⌜ OneIs (now (sheet .entry)) (now (bundle .entry)) (now (from .entry)) (now (w .entry)) (now (w .exit)) n k c r ⌝ }
+    requires { ⌜ (n ≤ 256) × (l ≤ 1024) × (k < 16) × (c < 274877906944) ⌝ }
+    ensures { λ r. ⌜ OneIs (now (sheet .entry)) (now (bundle .entry)) (now (from .entry)) (now (w .entry)) (now (w .exit)) n l k c r ⌝ }
 {
     let o = words::word(from, k) + 2;
     let e = words::word(from, k + 1);
-    let last = load_programme(sheet, bundle, w, n, o, e, c);
+    let last = load_programme(sheet, bundle, w, n, l, o, e, c);
     open_programme(w, k, c, last);
     last + 1
 }
@@ -122,15 +132,16 @@ fn load_all(
     w: &mut [u32],
     m: usize,
     n: usize,
+    l: usize,
     first: usize,
 )
-    requires { ⌜ (m < 17) × (n ≤ 256) × (first ≤ 1377) ⌝ }
-    ensures { λ _. ⌜ AllIs (now (sheet .entry)) (now (bundle .entry)) (now (from .entry)) (now (w .entry)) (now (w .exit)) m n first ⌝ }
+    requires { ⌜ (m < 17) × (n ≤ 256) × (l ≤ 1024) × (first ≤ 1377) ⌝ }
+    ensures { λ _. ⌜ AllIs (now (sheet .entry)) (now (bundle .entry)) (now (from .entry)) (now (w .entry)) (now (w .exit)) m n l first ⌝ }
 {
     let mut c = first;
     let mut k = 0;
     while k < m {
-        c = load_one(sheet, bundle, from, w, n, k, c);
+        c = load_one(sheet, bundle, from, w, n, l, k, c);
         k += 1;
     }
 }
@@ -141,7 +152,8 @@ pub fn load(sheet: &[u8], bundle: &[u8], from: &[u32], w: &mut [u32], m: usize, 
     ensures { λ _. ⌜ LoadIs (now (sheet .entry)) (now (bundle .entry)) (now (from .entry)) (now (w .entry)) (now (w .exit)) m n l ⌝ }
 {
     wipe(w, l);
-    load_works(sheet, w, n);
-    empty_all(w, 1376);
-    load_all(sheet, bundle, from, w, m, n, 1377);
+    load_works(sheet, w, n, l);
+    let c = 96 + l + n;
+    empty_all(w, c);
+    load_all(sheet, bundle, from, w, m, n, l, c + 1);
 }

@@ -6,7 +6,7 @@ use Rattle.loaded.proofs.load.load_one.Statement.{statement}
 use Rattle.loaded.proofs.load.load_one.Tie as tie
 
 returns : tie.Need-returns
-returns c = one _ _ _ _ _ _ _ _ _ _ _ _ (omega arith) (c .before .before .before .before .before .before .before .before .before .word .ensures .0) (c .before .before .before .before .before .before .before .before .word2 .ensures .0) (c .before .before .before .before .before .before .before .before .word2 .ensures .1) (omega arith) (c .before .before .before .before .before .before .load-programme .ensures) (c .before .before .open-programme .ensures)
+returns c = one _ _ _ _ _ _ _ _ _ _ _ _ _ (omega arith) (c .before .before .before .before .before .before .before .before .before .word .ensures .0) (c .before .before .before .before .before .before .before .before .word2 .ensures .0) (c .before .before .before .before .before .before .before .before .word2 .ensures .1) (c .before .before .before .before .before .before .load-programme .ensures) (c .before .before .open-programme .ensures)
 
 pub load-one-spec : {M : Type 1} → statement M
 load-one-spec =

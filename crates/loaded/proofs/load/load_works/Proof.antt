@@ -8,25 +8,25 @@ use Rattle.loaded.proofs.load.load_works.Statement.{statement}
 use Rattle.loaded.proofs.load.load_works.Tie as tie
 
 abbrev Inv-loop : tie.InvT-loop
-Inv-loop sheet w₀ n t₀ w t = (t ≤ n) × WorksIs sheet w₀ w t
+Inv-loop sheet w₀ n l t₀ w t = (t ≤ n) × WorksIs sheet w₀ w t l
 
 abbrev μ-loop : tie.MeasureT-loop
-μ-loop sheet w₀ n t₀ w t = n - t
+μ-loop sheet w₀ n l t₀ w t = n - t
 
 loop-holds : tie.Need-loop-holds Inv-loop μ-loop
-loop-holds c = (omega arith, works-none _ _)
+loop-holds c = (omega arith, works-none _ _ _)
 
 loop-less : tie.Need-loop-less Inv-loop μ-loop
 loop-less c = omega arith
 
 loop-again : tie.Need-loop-again Inv-loop μ-loop
-loop-again c = (omega arith, works-more _ _ _ _ _ _ _ (omega arith) (c .before .before .before .before .before .before .before .loop .inv .1) (c .before .before .before .before .before .pair .ensures .0) (c .before .before .before .before .before .pair .ensures .1) (c .before .before .before .before .pair2 .ensures .0) (c .before .before .before .before .pair2 .ensures .1) (c .before .before .put .ensures))
+loop-again c = (omega arith, works-more _ _ _ _ _ _ _ _ (omega arith) (omega arith) (c .before .before .before .before .before .before .before .loop .inv .1) (c .before .before .before .before .before .pair .ensures .0) (c .before .before .before .before .before .pair .ensures .1) (c .before .before .before .before .pair2 .ensures .0) (c .before .before .before .before .pair2 .ensures .1) (c .before .before .put .ensures))
 
 same-length : tie.Need-same-length Inv-loop μ-loop
 same-length c = c .before .loop .inv .1 .long
 
 returns : tie.Need-returns Inv-loop μ-loop
-returns c = works-all _ _ _ _ _ (omega arith) (c .before .loop .inv .1)
+returns c = works-all _ _ _ _ _ _ (omega arith) (c .before .loop .inv .1)
 
 pub load-works-spec : {M : Type 1} → statement M
 load-works-spec =
@@ -41,6 +41,7 @@ load-works-spec =
     (λ c. search needs)
     (λ c. search needs)
     (λ c κs. search needs)
+    (λ c. search needs)
     (λ c. search needs)
     (λ c. search needs)
     (λ c. search needs)
