@@ -30,11 +30,14 @@ most-of-half {q} k a h =
     blocks 16 (λ i. getD q (256 * a + i) 0) (λ b. getD q (512 + 16 * a + b) 0)
     (λ b l. ap (λ (x : ℕ). getD q x 0) (omega arith) ∙ k .most (16 * a + b) (omega arith) ∙ greatest-cong 16 _ _ (λ i m. ap (λ (x : ℕ). getD q x 0) (omega arith)))
 
--- sixteen keys in two halves
-pub two-halves : (q : List ℕ) (at : ℕ) → max (greatest 8 (keyBy q at)) (greatest 8 (keyBy q (at + 8))) ≡ greatest 16 (keyBy q at)
+-- keys in two halves, and sixteen in four quarters
+two-halves : (q : List ℕ) (n at next : ℕ) → next ≡ at + n → max (greatest n (keyBy q at)) (greatest n (keyBy q next)) ≡ greatest (n + n) (keyBy q at)
 unfolding keyBy
-two-halves q at =
-    sym (greatest-split 8 8 (keyBy q at) ∙ ap (max (greatest 8 (keyBy q at))) (greatest-cong 8 (λ i. keyBy q at (8 + i)) (keyBy q (at + 8)) (λ i h. ap (λ (x : ℕ). getD q x 0) (omega arith))))
+two-halves q n at next e =
+    sym (greatest-split n n (keyBy q at) ∙ ap (max (greatest n (keyBy q at))) (greatest-cong n (λ i. keyBy q at (n + i)) (keyBy q next) (λ i h. ap (λ (x : ℕ). getD q x 0) (omega arith))))
+
+pub four-quarters : (q : List ℕ) (at : ℕ) → max (max (greatest 4 (keyBy q at)) (greatest 4 (keyBy q (at + 4)))) (max (greatest 4 (keyBy q (at + 8))) (greatest 4 (keyBy q (at + 12)))) ≡ greatest 16 (keyBy q at)
+four-quarters q at = ap₂ max (two-halves q 4 at (at + 4) refl) (two-halves q 4 (at + 8) (at + 12) (omega arith)) ∙ two-halves q 8 at (at + 8) refl
 
 -- key i becomes x
 module _ {q : List ℕ} (k : Blocked q) (i x : ℕ) (h : i < 512) where

@@ -12,20 +12,24 @@ fn greater(a: u64, b: u64) -> u64
     if a < b { b } else { a }
 }
 
-// The greatest of the sixteen from `at` on, as the greater of two halves, so that neither waits for the other.
+// The greatest of the sixteen from `at` on, as the greatest of four quarters, so that none waits for another.
 pub fn greatest_of(q: &[u64], at: usize) -> u64
     requires { ⌜ at + 16 ≤ length (now q) ⌝ }
     ensures { λ r. ⌜ r ≡ greatest 16 (keyBy (now (q .entry)) at) ⌝ }
 {
-    let mut low: u64 = 0;
-    let mut high: u64 = 0;
+    let mut a: u64 = 0;
+    let mut b: u64 = 0;
+    let mut c: u64 = 0;
+    let mut d: u64 = 0;
     let mut i: usize = 0;
-    while i < 8 {
-        low = greater(low, q[at + i]);
-        high = greater(high, q[at + 8 + i]);
+    while i < 4 {
+        a = greater(a, q[at + i]);
+        b = greater(b, q[at + 4 + i]);
+        c = greater(c, q[at + 8 + i]);
+        d = greater(d, q[at + 12 + i]);
         i += 1;
     }
-    greater(low, high)
+    greater(greater(a, b), greater(c, d))
 }
 
 // Key i becomes x. Its block is searched anew only where its greatest may have left it.
