@@ -43,7 +43,7 @@ data Coming (s : Sheet) (b : Bundle) (w : List ℕ) (σ : State) (k n : ℕ) : T
   comes : (c : Command) → next b σ k ≡ some c → processorOf σ k .position < length (programmeOf b k) → Known s c → getD w n 0 ≡ wordOf s c → Coming s b w σ k n
   over : next b σ k ≡ none → getD w n 0 ≡ endCode → Coming s b w σ k n
 
-module _ (w : List ℕ) (k : ℕ) (near : k < 16) (n : ℕ) (here : n ≡ nextIn w k) (x : ℕ) (there : x ≡ getD w n 0) (i : ℕ) (at : i ≡ x % 2048) where
+module _ (w : List ℕ) (k : ℕ) (near : k < 16) (n : ℕ) (here : n ≡ nextIn w k) (x : ℕ) (there : x ≡ getD w n 0) (i : ℕ) (at : i ≡ x / 65536 % 2048) where
   module _ (s : Sheet) (b : Bundle) (σ : State) (h : Keeps s b w σ) where
     abbrev p : ℕ
     p = processorOf σ k .position
@@ -65,45 +65,46 @@ module _ (w : List ℕ) (k : ℕ) (near : k < 16) (n : ℕ) (here : n ≡ nextIn
         ]
 
     -- a run
-    ran-on : x < 134217728 → Coming s b w σ k n → (amount : ℕ) → amount ≡ getD w i 0 → (true ≡ canStep s b σ k) × Keeps s b (ranWords w k amount) (chosen σ (step s b σ k))
+    ran-on : x < 2147483648 → Coming s b w σ k n → (gets : ℕ) → gets ≡ getD w i 0 → (true ≡ canStep s b σ k) × Keeps s b (ranWords w k (x % 65536) gets) (chosen σ (step s b σ k))
     unfolding ranWords steppedWords stampOf
-    ran-on q (over e f) amount g = absurd (omega arith)
-    ran-on q (comes (send l) e j o f) amount g = let few = h .programmed .ranged .few-links in absurd (omega arith)
-    ran-on q (comes (receive l) e j o f) amount g = let few = h .programmed .ranged .few-links in absurd (omega arith)
-    ran-on q (comes (run t) e j o f) amount g =
+    ran-on q (over e f) gets g = absurd (omega arith)
+    ran-on q (comes (send l) e j o f) gets g = absurd (omega arith)
+    ran-on q (comes (receive l) e j o f) gets g = absurd (omega arith)
+    ran-on q (comes (run t) e j o f) gets g =
         let few = h .programmed .ranged .few-tasks in
-        let slot : i ≡ taskWord s t = omega (arith, h .programmed .ranged .few-links) in
-        let is : amount ≡ workOf s t + 65536 * storeOf s t = g ∙ ap (λ (y : ℕ). getD w y 0) slot ∙ h .programmed .works t o in
         let r = h .room k near in
         let wf : workOf s t < 65536 = h .programmed .ranged .works t o in
         let sf : storeOf s t < 65536 = h .programmed .ranged .stores t o in
-        let v = placedWords w k (nextIn w k + 1) (max (clockIn w k) 0 + amount % 65536) (storeIn w k + amount / 65536) in
+        let slot : i ≡ taskWord s t = omega (arith, h .programmed .ranged .few-links) in
+        let takes : x % 65536 ≡ workOf s t = omega arith in
+        let is : gets ≡ storeOf s t = g ∙ ap (λ (y : ℕ). getD w y 0) slot ∙ h .programmed .needs t o in
+        let v = placedWords w k (nextIn w k + 1) (max (clockIn w k) 0 + x % 65536) (storeIn w k + gets) in
         let bounds = h .programmed .high k near in
         let m : Moved (linkCount s) w v k (nextIn w k + 1) (max (processorOf σ k .clock) 0 + workOf s t) (processorOf σ k .store + storeOf s t) =
-        moved-at (placed-moved w k (nextIn w k + 1) (max (clockIn w k) 0 + amount % 65536) (storeIn w k + amount / 65536) long near (linkCount s)) (omega (arith, h .next k near, h .inside k near))
+        moved-at (placed-moved w k (nextIn w k + 1) (max (clockIn w k) 0 + x % 65536) (storeIn w k + gets) long near (linkCount s)) (omega (arith, h .next k near, h .inside k near))
         (omega (arith, h .clock k near, r .0)) (omega (arith, h .store k near, r .1))
         in
         let less : left b (moved s σ k (run t) 0) each + 1 ≡ left b σ each = left-moved s b σ k (run t) 0 (h .processors) e each in
         goes Keeps s b v σ k (moved s σ k (run t) 0) (move-step s b σ k (run t) 0 e refl)
         (keeps-moved s b w σ h k near (run t) e 0 j wf sf (omega (arith, r .0)) v m
-        (λ l j. ap stampIn (placed-stamp w k (nextIn w k + 1) (max (clockIn w k) 0 + amount % 65536) (storeIn w k + amount / 65536) long near (96 + l) (omega arith)) ∙ h .stamp l j)
+        (λ l j. ap stampIn (placed-stamp w k (nextIn w k + 1) (max (clockIn w k) 0 + x % 65536) (storeIn w k + gets) long near (96 + l) (omega arith)) ∙ h .stamp l j)
         (λ l x j. omega (arith, h .roomy l x j)))
 
     -- a send
-    sent-on : 134217728 ≤ x → x < 268435456 → Coming s b w σ k n → (true ≡ canStep s b σ k) × Keeps s b (sentWords w k (x / 2048 % 65536) i) (chosen σ (step s b σ k))
+    sent-on : 2147483648 ≤ x → x < 3221225472 → Coming s b w σ k n → (true ≡ canStep s b σ k) × Keeps s b (sentWords w k (x % 65536) i) (chosen σ (step s b σ k))
     unfolding sentWords steppedWords stampOf
     sent-on a z (over e f) = absurd (omega arith)
-    sent-on a z (comes (run t) e j o f) = let few = h .programmed .ranged .few-tasks in absurd (omega (arith, h .programmed .ranged .few-links))
+    sent-on a z (comes (run t) e j o f) = let few = h .programmed .ranged .few-tasks in absurd (omega (arith, h .programmed .ranged .few-links, h .programmed .ranged .works t o))
     sent-on a z (comes (receive l) e j o f) = let few = h .programmed .ranged .few-links in absurd (omega arith)
     sent-on a z (comes (send l) e j o f) =
         let few = h .programmed .ranged .few-links in
-        let slot : i ≡ 96 + l = omega arith in
-        subst (λ (y : ℕ). (true ≡ canStep s b σ k) × Keeps s b (sentWords w k (x / 2048 % 65536) y) (chosen σ (step s b σ k))) (sym slot) on
+        let slot : i ≡ 96 + l = omega (arith, h .programmed .ranged .costs l o) in
+        subst (λ (y : ℕ). (true ≡ canStep s b σ k) × Keeps s b (sentWords w k (x % 65536) y) (chosen σ (step s b σ k))) (sym slot) on
       where
-        on : (true ≡ canStep s b σ k) × Keeps s b (sentWords w k (x / 2048 % 65536) (96 + l)) (chosen σ (step s b σ k))
+        on : (true ≡ canStep s b σ k) × Keeps s b (sentWords w k (x % 65536) (96 + l)) (chosen σ (step s b σ k))
         on =
             let few = h .programmed .ranged .few-links in
-            let amount = x / 2048 % 65536 in
+            let amount = x % 65536 in
             let cf : costOf s l < 65536 = h .programmed .ranged .costs l o in
             let is : amount ≡ costOf s l = omega arith in
             let r = h .room k near in
@@ -149,32 +150,32 @@ module _ (w : List ℕ) (k : ℕ) (near : k < 16) (n : ℕ) (here : n ≡ nextIn
             ]))
 
     -- a receive
-    got-on : 268435456 ≤ x → Coming s b w σ k n → (f : Bool) → f ≡ not (eqb (getD w i 0) 0)
-        → (f ≡ canStep s b σ k) × Keeps s b (pick f (gotWords w k (x / 2048 % 65536) i) w) (chosen σ (step s b σ k))
+    got-on : 3221225472 ≤ x → Coming s b w σ k n → (f : Bool) → f ≡ not (eqb (getD w i 0) 0)
+        → (f ≡ canStep s b σ k) × Keeps s b (pick f (gotWords w k (x % 65536) i) w) (chosen σ (step s b σ k))
     unfolding gotWords steppedWords stampOf
     got-on z (over e g) f u =
         let slot : i ≡ 95 = omega arith in
         let none-there : getD w i 0 ≡ 0 = ap (λ (j : ℕ). getD w j 0) slot ∙ h .programmed .nothing in
         let off : f ≡ false = u ∙ ap not (eq-eqb (getD w i 0) 0 none-there) in
-        subst (λ (y : Bool). (y ≡ canStep s b σ k) × Keeps s b (pick y (gotWords w k (x / 2048 % 65536) i) w) (chosen σ (step s b σ k))) (sym off) (no-next Keeps s b w σ k h e)
-    got-on z (comes (run t) e j o g) f u = let few = h .programmed .ranged .few-tasks in absurd (omega (arith, h .programmed .ranged .few-links))
+        subst (λ (y : Bool). (y ≡ canStep s b σ k) × Keeps s b (pick y (gotWords w k (x % 65536) i) w) (chosen σ (step s b σ k))) (sym off) (no-next Keeps s b w σ k h e)
+    got-on z (comes (run t) e j o g) f u = let few = h .programmed .ranged .few-tasks in absurd (omega (arith, h .programmed .ranged .few-links, h .programmed .ranged .works t o))
     got-on z (comes (send l) e j o g) f u = let few = h .programmed .ranged .few-links in absurd (omega (arith, h .programmed .ranged .costs l o))
     got-on z (comes (receive l) e j o g) f u = by f (getD w i 0) refl u (ap (λ (y : ℕ). stampIn (getD w y 0)) slot ∙ h .stamp l o)
       where
         slot : i ≡ 96 + l
-        slot = let few = h .programmed .ranged .few-links in omega arith
+        slot = let few = h .programmed .ranged .few-links in omega (arith, h .programmed .ranged .sizes l o)
 
-        is : x / 2048 % 65536 ≡ bytesOf s l
+        is : x % 65536 ≡ bytesOf s l
         is = let few = h .programmed .ranged .few-links in omega (arith, h .programmed .ranged .sizes l o)
 
         by : (f : Bool) (y : ℕ) → getD w i 0 ≡ y → f ≡ not (eqb (getD w i 0) 0) → stampIn (getD w i 0) ≡ stampOf σ l
-            → (f ≡ canStep s b σ k) × Keeps s b (pick f (gotWords w k (x / 2048 % 65536) i) w) (chosen σ (step s b σ k))
+            → (f ≡ canStep s b σ k) × Keeps s b (pick f (gotWords w k (x % 65536) i) w) (chosen σ (step s b σ k))
         by false y q u v =
             let zero-there : getD w i 0 ≡ 0 = eqb-true (getD w i 0) 0 (not-false (eqb (getD w i 0) 0) (sym u)) in
             no-wait Keeps s b w σ k h (receive l) e (sym v ∙ ap stampIn zero-there)
         by true zero q u v = absurd (true≢false (u ∙ ap not (eq-eqb (getD w i 0) 0 q)))
         by true (suc y) q u t =
-            let amount = x / 2048 % 65536 in
+            let amount = x % 65536 in
             let size : amount ≡ bytesOf s l = is in
             let r = h .room k near in
             let got : stampOf σ l ≡ some y = sym t ∙ ap stampIn q in
@@ -192,29 +193,29 @@ module _ (w : List ℕ) (k : ℕ) (near : k < 16) (n : ℕ) (here : n ≡ nextIn
             (λ c o. ap stampIn (placed-stamp w k (nextIn w k + 1) (max (clockIn w k) (getD w i 0 - 1) + 0) (storeIn w k + amount) long near (96 + c) (omega arith)) ∙ h .stamp c o)
             (λ c a o. omega (arith, h .roomy c a o)))
 
-  ran-long : (amount : ℕ) → length (ranWords w k amount) ≡ length w
+  ran-long : (gets : ℕ) → length (ranWords w k (x % 65536) gets) ≡ length w
   unfolding ranWords
-  ran-long amount = length-stepped w k _ _ _
+  ran-long gets = length-stepped w k _ _ _
 
-  sent-long : length (sentWords w k (x / 2048 % 65536) i) ≡ length w
+  sent-long : length (sentWords w k (x % 65536) i) ≡ length w
   unfolding sentWords
-  sent-long = length-stepped (set w i ((clockIn w k + x / 2048 % 65536 + 1) % 4294967296)) k 0 0 0 ∙ length-set w i _
+  sent-long = length-stepped (set w i ((clockIn w k + x % 65536 + 1) % 4294967296)) k 0 0 0 ∙ length-set w i _
 
-  got-long : (f : Bool) → length (pick f (gotWords w k (x / 2048 % 65536) i) w) ≡ length w
+  got-long : (f : Bool) → length (pick f (gotWords w k (x % 65536) i) w) ≡ length w
   unfolding gotWords
   got-long true = length-stepped w k _ _ _
   got-long false = refl
 
   module _ (v : List ℕ) where
-    pub ran : x < 134217728 → (amount : ℕ) → amount ≡ getD w i 0 → v ≡ ranWords w k amount → StepIs Keeps w v k true
-    ran q amount e g =
+    pub ran : x < 2147483648 → (gets : ℕ) → gets ≡ getD w i 0 → v ≡ ranWords w k (x % 65536) gets → StepIs Keeps w v k true
+    ran q gets e g =
         record {
-          long = ap length g ∙ ran-long amount;
+          long = ap length g ∙ ran-long gets;
           same = λ f. absurd (true≢false f);
-          agrees = λ s b σ h. subst (λ (u : List ℕ). (true ≡ canStep s b σ k) × Keeps s b u (chosen σ (step s b σ k))) (sym g) (ran-on s b σ h q (coming s b σ h) amount e);
+          agrees = λ s b σ h. subst (λ (u : List ℕ). (true ≡ canStep s b σ k) × Keeps s b u (chosen σ (step s b σ k))) (sym g) (ran-on s b σ h q (coming s b σ h) gets e);
         }
 
-    pub sent : 134217728 ≤ x → x < 268435456 → v ≡ sentWords w k (x / 2048 % 65536) i → StepIs Keeps w v k true
+    pub sent : 2147483648 ≤ x → x < 3221225472 → v ≡ sentWords w k (x % 65536) i → StepIs Keeps w v k true
     sent a z g =
         record {
           long = ap length g ∙ sent-long;
@@ -222,10 +223,10 @@ module _ (w : List ℕ) (k : ℕ) (near : k < 16) (n : ℕ) (here : n ≡ nextIn
           agrees = λ s b σ h. subst (λ (u : List ℕ). (true ≡ canStep s b σ k) × Keeps s b u (chosen σ (step s b σ k))) (sym g) (sent-on s b σ h a z (coming s b σ h));
         }
 
-    pub got : 268435456 ≤ x → (f : Bool) → f ≡ not (eqb (getD w i 0) 0) → v ≡ pick f (gotWords w k (x / 2048 % 65536) i) w → StepIs Keeps w v k f
+    pub got : 3221225472 ≤ x → (f : Bool) → f ≡ not (eqb (getD w i 0) 0) → v ≡ pick f (gotWords w k (x % 65536) i) w → StepIs Keeps w v k f
     got z f u g =
         record {
           long = ap length g ∙ got-long f;
-          same = λ e. g ∙ ap (λ (y : Bool). pick y (gotWords w k (x / 2048 % 65536) i) w) e;
+          same = λ e. g ∙ ap (λ (y : Bool). pick y (gotWords w k (x % 65536) i) w) e;
           agrees = λ s b σ h. subst (λ (y : List ℕ). (f ≡ canStep s b σ k) × Keeps s b y (chosen σ (step s b σ k))) (sym g) (got-on s b σ h z (coming s b σ h) f u);
         }

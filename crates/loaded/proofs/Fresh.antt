@@ -22,11 +22,11 @@ use Rattle.messages.proofs.Weights.{weigh-each}
 use Rattle.machine.specs.Machine.{Processor, freshProcessor, freshState, processorOf, stampOf, stampIn}
 use Rattle.machine.specs.Runs.{left}
 use Rattle.machine.proofs.Runs.{fresh-processor, fresh-left}
-use Rattle.loaded.specs.Words.{nextIn, clockIn, storeIn, firstIn, lastIn, taskWord, WorksIn}
+use Rattle.loaded.specs.Words.{nextIn, clockIn, storeIn, firstIn, lastIn, taskWord, NeedsIn}
 use Rattle.loaded.specs.Keeps.{Decoded, Keeps}
 use Rattle.loaded.specs.Loads.{ProgrammeIs, LoadIs}
 use Rattle.loaded.proofs.Loading.{decoded-same}
-use Rattle.loaded.specs.Opened.{Opens, Opened, Blank, WipeIs, WorksIs, EmptyIs, OneIs, Given, AllIs}
+use Rattle.loaded.specs.Opened.{Opens, Opened, Blank, WipeIs, NeedsIs, EmptyIs, OneIs, Given, AllIs}
 
 -- the words that are there are cleared up to the last stamp, and the count of links is put
 pub wiped : (w v last : List ℕ) (e l : ℕ) → l ≤ 1024 → e ≡ min (length w) (96 + l) → ClearIs w v 0 e → last ≡ set v 80 (l % 4294967296) → WipeIs w last l
@@ -41,18 +41,18 @@ wiped w v last e l few q r el =
           };
     }
 
--- the numbers of the tasks, one by one
-pub works-none : (sheet w : List ℕ) (l : ℕ) → WorksIs sheet w w 0 l
-works-none sheet w l = record { long = refl; works = λ f t h. absurd (omega arith); other = λ i h. refl }
+-- the needs of the tasks, one by one
+pub needs-none : (sheet w : List ℕ) (l : ℕ) → NeedsIs sheet w w 0 l
+needs-none sheet w l = record { long = refl; needs = λ f t h. absurd (omega arith); other = λ i h. refl }
 
-pub works-more : (sheet v w u : List ℕ) (t l work store : ℕ) → t < 256 → l ≤ 1024 → WorksIs sheet v w t l → work ≡ numberAt 2 sheet (7 + 5 * t) → work < 65536 → store ≡ numberAt 2 sheet (9 + 5 * t) → store < 65536
-    → u ≡ set w (96 + l + t) ((work + 65536 * store) % 4294967296) → WorksIs sheet v u (t + 1) l
-works-more sheet v w u t l work store near few g ew fw es fs el =
+pub needs-more : (sheet v w u : List ℕ) (t l store : ℕ) → t < 256 → l ≤ 1024 → NeedsIs sheet v w t l → store ≡ numberAt 2 sheet (9 + 5 * t) → store < 65536
+    → u ≡ set w (96 + l + t) (store % 4294967296) → NeedsIs sheet v u (t + 1) l
+needs-more sheet v w u t l store near few g es fs el =
     record {
       long = ap length el ∙ length-set w (96 + l + t) _ ∙ g .long;
-      works =
+      needs =
           λ f j below.
-          ⊎-elim (λ (h : j < t). same (96 + l + j) (λ z. omega arith) ∙ g .works f j h)
+          ⊎-elim (λ (h : j < t). same (96 + l + j) (λ z. omega arith) ∙ g .needs f j h)
           (λ (q : j ≡ t). rw q (ap (λ (x : List ℕ). getD x (96 + l + t) 0) el ∙ getD-set-same w (96 + l + t) _ 0 (omega (arith, g .long)) ∙ omega arith)) (below-suc (rw add-one at below));
       other = λ i h. same i (λ z. omega arith) ∙ g .other i h;
     }
@@ -60,8 +60,8 @@ works-more sheet v w u t l work store near few g ew fw es fs el =
     same : (i : ℕ) → (i ≡ 96 + l + t → ⊥) → getD u i 0 ≡ getD w i 0
     same i d = ap (λ (x : List ℕ). getD x i 0) el ∙ getD-set-other w (96 + l + t) i _ 0 d
 
-pub works-all : (sheet w last : List ℕ) (n t l : ℕ) → t ≡ n → WorksIs sheet w last t l → WorksIs sheet w last n l
-works-all sheet w last n t l e g = subst (λ (x : ℕ). WorksIs sheet w last x l) e g
+pub needs-all : (sheet w last : List ℕ) (n t l : ℕ) → t ≡ n → NeedsIs sheet w last t l → NeedsIs sheet w last n l
+needs-all sheet w last n t l e g = subst (λ (x : ℕ). NeedsIs sheet w last x l) e g
 
 -- processor k put before the first command of a programme from the index x to the index y
 module _ (w last : List ℕ) (k x y : ℕ) (el : last ≡ set (set (set w (4 * k) x) (4 * k + 3) x) (64 + k) y) where
@@ -161,16 +161,16 @@ emptying-more v w u c k most near g en =
       other = λ i h. placed-high w u k c c el near i h ∙ g .other i h;
     }
 
-pub emptied : (w v last : List ℕ) (c k : ℕ) → c < 4096 → 16 ≤ k → v ≡ set w c (268435551 % 4294967296) → Emptying v last c k → EmptyIs w last c
+pub emptied : (w v last : List ℕ) (c k : ℕ) → c < 4096 → 16 ≤ k → v ≡ set w c (3227451392 % 4294967296) → Emptying v last c k → EmptyIs w last c
 emptied w v last c k most all ev g =
     record {
       long = g .long ∙ lv;
       opened =
-          λ s long ranged behind blank works.
+          λ s long ranged behind blank stores.
           let f : fixed ≤ length v = omega (arith, lv) in
-          let same : (i : ℕ) → i < taskWord s (taskCount s) → getD v i 0 ≡ getD w i 0 = λ i h. ap (λ (l : List ℕ). getD l i 0) ev ∙ getD-set-other w c i 268435551 0 (λ z. omega arith) in
+          let same : (i : ℕ) → i < taskWord s (taskCount s) → getD v i 0 ≡ getD w i 0 = λ i h. ap (λ (l : List ℕ). getD l i 0) ev ∙ getD-set-other w c i 3227451392 0 (λ z. omega arith) in
           let low : (i : ℕ) → i < 96 + linkCount s → (i ≡ 80 → ⊥) → getD v i 0 ≡ 0 = λ i h d. same i (omega arith) ∙ blank .zeros i h d in
-          let end : getD last c 0 ≡ 268435551 = g .other c (omega arith) ∙ ap (λ (l : List ℕ). getD l c 0) ev ∙ getD-set-same w c 268435551 0 (omega arith) in
+          let end : getD last c 0 ≡ 3227451392 = g .other c (omega arith) ∙ ap (λ (l : List ℕ). getD l c 0) ev ∙ getD-set-same w c 3227451392 0 (omega arith) in
           record {
             long = omega (arith, g .long);
             opens =
@@ -186,13 +186,13 @@ emptied w v last c k most all ev g =
             clock = λ j h. g .clock j h ∙ low (4 * j + 1) (omega arith) (λ z. omega arith);
             store = λ j h. g .store j h ∙ low (4 * j + 2) (omega arith) (λ z. omega arith);
             links = g .other 80 (omega arith) ∙ same 80 (omega arith) ∙ blank .links;
-            works = λ t h. g .other (taskWord s t) (omega arith) ∙ same (taskWord s t) (omega arith) ∙ works t h;
+            needs = λ t h. g .other (taskWord s t) (omega arith) ∙ same (taskWord s t) (omega arith) ∙ stores t h;
             zeros = λ i h l. g .other i (omega arith) ∙ low i l (λ z. omega arith);
           };
     }
   where
     lv : length v ≡ length w
-    lv = ap length ev ∙ length-set w c 268435551
+    lv = ap length ev ∙ length-set w c 3227451392
 
 -- one programme more, from command c on
 module _ (sheet bundle from w u last : List ℕ) (n l k c x e r : ℕ) (near : k < 16) (ex : x ≡ getD from k 0) (ee : e ≡ getD from (k + 1) 0) (fe : e < 4294967296)
@@ -256,7 +256,7 @@ module _ (sheet bundle from w u last : List ℕ) (n l k c x e r : ℕ) (near : k
           clock = λ j h. placed-clock u last k _ _ el near j h ∙ low (4 * j + 1) (omega arith) ∙ g .clock j h;
           store = λ j h. placed-store u last k _ _ el near j h ∙ low (4 * j + 2) (omega arith) ∙ g .store j h;
           links = placed-high u last k _ _ el near 80 (omega arith) ∙ low 80 (omega arith) ∙ g .links;
-          works = λ t h. placed-high u last k _ _ el near (taskWord s t) (omega arith) ∙ low (taskWord s t) (omega arith) ∙ g .works t h;
+          needs = λ t h. placed-high u last k _ _ el near (taskWord s t) (omega arith) ∙ low (taskWord s t) (omega arith) ∙ g .needs t h;
           zeros = λ i h l. placed-high u last k _ _ el near i (omega arith) ∙ low i (omega arith) ∙ g .zeros i h l;
         }
 
@@ -345,7 +345,7 @@ module _ (sheet bundle from v : List ℕ) (m n l first : ℕ) (near : first ≤ 
               clock = q .clock;
               store = q .store;
               links = q .links;
-              works = q .works;
+              needs = q .needs;
               zeros = q .zeros;
             };
       }
@@ -370,7 +370,7 @@ module _ (sheet bundle from w : List ℕ) (m n l : ℕ) (s : Sheet) (b : Bundle)
               ranged = given .ranged;
               links = g .links;
               nothing = g .zeros 95 (omega arith) (omega arith);
-              works = g .works;
+              needs = g .needs;
               low = λ k h. g .opens k h .low;
               high = λ k h. omega (arith, g .opens k h .high);
               last = λ k h. g .opens k h .last;
@@ -387,7 +387,7 @@ module _ (sheet bundle from w : List ℕ) (m n l : ℕ) (s : Sheet) (b : Bundle)
         roomy = λ l x e. absurd (Option·none-ne-some x (sym (stampless l) ∙ e));
       }
 
-pub loaded-all : (sheet bundle from w a u v last : List ℕ) (m n l : ℕ) → WipeIs w a l → WorksIs sheet a u n l → EmptyIs u v (96 + l + n) → AllIs sheet bundle from v last m n l (96 + l + n + 1)
+pub loaded-all : (sheet bundle from w a u v last : List ℕ) (m n l : ℕ) → WipeIs w a l → NeedsIs sheet a u n l → EmptyIs u v (96 + l + n) → AllIs sheet bundle from v last m n l (96 + l + n + 1)
     → LoadIs sheet bundle from w last m n l
 loaded-all sheet bundle from w a u v last m n l p o q r =
     record {
@@ -399,9 +399,9 @@ loaded-all sheet bundle from w a u v last m n l p o q r =
           let blank : Blank u (linkCount s) =
           rw links (record { links = o .other 80 (omega arith) ∙ z .links; zeros = λ i h d. o .other i (omega arith) ∙ z .zeros i h d })
           in
-          let works : WorksIn s u =
+          let stores : NeedsIn s u =
           λ t h.
-          ap (λ (i : ℕ). getD u (96 + i + t) 0) links ∙ o .works (omega (arith, p .long)) t (omega arith) ∙ omega (arith, fields .work t h, fields .store t h)
+          ap (λ (i : ℕ). getD u (96 + i + t) 0) links ∙ o .needs (omega (arith, p .long)) t (omega arith) ∙ fields .store t h
           in
-          fresh-kept sheet bundle from last m n l s b given (r .is s b given (q .opened s (omega (arith, p .long, o .long)) ranged (omega arith) blank works));
+          fresh-kept sheet bundle from last m n l s b given (r .is s b given (q .opened s (omega (arith, p .long, o .long)) ranged (omega arith) blank stores));
     }

@@ -59,7 +59,7 @@ module _ {links : ℕ} {w v : List ℕ} {k n c x : ℕ} (near : k < 16) (m : Mov
         ranged = h .ranged;
         links = above 80 (omega arith) (inl (omega arith)) ∙ h .links;
         nothing = above 95 (omega arith) (inl (omega arith)) ∙ h .nothing;
-        works = λ t l. above (taskWord s t) (omega arith) (inr (omega arith)) ∙ h .works t l;
+        needs = λ t l. above (taskWord s t) (omega arith) (inr (omega arith)) ∙ h .needs t l;
         low = λ j l. omega (arith, first-same j l, h .low j l);
         high = λ j l. omega (arith, first-same j l, h .high j l);
         last = λ j l. above (64 + j) (omega arith) (inl (omega arith)) ∙ h .last j l ∙ ap (λ (x : ℕ). x + length (programmeOf b j)) (sym (first-same j l));

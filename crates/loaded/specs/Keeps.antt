@@ -12,7 +12,7 @@ use Rattle.bundle.specs.Fits.{Known}
 use Rattle.messages.specs.Counting.{each}
 use Rattle.machine.specs.Machine.{State, processorOf, stampOf, stampIn}
 use Rattle.machine.specs.Runs.{left}
-use Rattle.loaded.specs.Words.{nextIn, clockIn, storeIn, firstIn, lastIn, taskWord, WorksIn, wordOf, endCode}
+use Rattle.loaded.specs.Words.{nextIn, clockIn, storeIn, firstIn, lastIn, taskWord, NeedsIn, wordOf, endCode}
 
 -- the commands cs stand in the words w from the index at on
 pub record Decoded (s : Sheet) (w : List ℕ) (at : ℕ) (cs : List Command) : Type 0 where
@@ -27,7 +27,7 @@ pub record Programmed (s : Sheet) (b : Bundle) (w : List ℕ) : Type 0 where
   pub ranged : Ranged s
   pub links : getD w 80 0 ≡ linkCount s
   pub nothing : getD w 95 0 ≡ 0
-  pub works : WorksIn s w
+  pub needs : NeedsIn s w
   pub low : (k : ℕ) → k < 16 → taskWord s (taskCount s) ≤ firstIn w k
   pub high : (k : ℕ) → k < 16 → firstIn w k + length (programmeOf b k) < 4096
   pub last : (k : ℕ) → k < 16 → lastIn w k ≡ firstIn w k + length (programmeOf b k)

@@ -11,7 +11,7 @@ use Rattle.bundle.specs.Bundle.{Command, Bundle, programmeCount}
 use Rattle.bundle.specs.Lies.{Lies, Laid}
 use Rattle.messages.specs.Counting.{whole, each}
 use Rattle.messages.specs.Fields.{Fields}
-use Rattle.loaded.specs.Words.{nextIn, clockIn, storeIn, firstIn, lastIn, taskWord, WorksIn}
+use Rattle.loaded.specs.Words.{nextIn, clockIn, storeIn, firstIn, lastIn, taskWord, NeedsIn}
 use Rattle.loaded.specs.Keeps.{Decoded}
 
 -- processor k stands before the first of the commands cs, whose numbers and the end's are below c
@@ -22,14 +22,14 @@ pub record Opens (s : Sheet) (w : List ℕ) (c k : ℕ) (cs : List Command) : Ty
   pub last : lastIn w k ≡ firstIn w k + length cs
   pub decoded : Decoded s w (firstIn w k) cs
 
--- all processors stand so, those behind the programmes ps with no command; the count of links and the tasks' numbers are there, and the other words up to the last stamp are 0
+-- all processors stand so, those behind the programmes ps with no command; the count of links and the tasks' needs are there, and the other words up to the last stamp are 0
 pub record Opened (s : Sheet) (w : List ℕ) (c : ℕ) (ps : List (List Command)) : Type 0 where
   pub long : fixed ≤ length w
   pub opens : (k : ℕ) → k < 16 → Opens s w c k (getD ps k [])
   pub clock : (k : ℕ) → k < 16 → clockIn w k ≡ 0
   pub store : (k : ℕ) → k < 16 → storeIn w k ≡ 0
   pub links : getD w 80 0 ≡ linkCount s
-  pub works : WorksIn s w
+  pub needs : NeedsIn s w
   pub zeros : (i : ℕ) → 81 ≤ i → i < 96 + linkCount s → getD w i 0 ≡ 0
 
 -- the words up to the last of l stamps are 0, but for the count of links
@@ -41,16 +41,16 @@ pub record WipeIs (w last : List ℕ) (l : ℕ) : Type 0 where
   pub long : length last ≡ length w
   pub blank : fixed ≤ length w → Blank last l
 
--- the work and the store of each of n tasks behind l stamps, as the sheet's bytes have them; the words before stay
-pub record WorksIs (sheet w last : List ℕ) (n l : ℕ) : Type 0 where
+-- what each of n tasks needs of the store behind l stamps, as the sheet's bytes have it; the words before stay
+pub record NeedsIs (sheet w last : List ℕ) (n l : ℕ) : Type 0 where
   pub long : length last ≡ length w
-  pub works : fixed ≤ length w → (t : ℕ) → t < n → getD last (96 + l + t) 0 ≡ numberAt 2 sheet (7 + 5 * t) + 65536 * numberAt 2 sheet (9 + 5 * t)
+  pub needs : fixed ≤ length w → (t : ℕ) → t < n → getD last (96 + l + t) 0 ≡ numberAt 2 sheet (9 + 5 * t)
   pub other : (i : ℕ) → i < 96 + l → getD last i 0 ≡ getD w i 0
 
--- and every processor has the empty programme, at command c behind the tasks' numbers
+-- and every processor has the empty programme, at command c behind the tasks' needs
 pub record EmptyIs (w last : List ℕ) (c : ℕ) : Type 0 where
   pub long : length last ≡ length w
-  pub opened : (s : Sheet) → fixed ≤ length w → Ranged s → taskWord s (taskCount s) ≤ c → Blank w (linkCount s) → WorksIn s w → Opened s last (c + 1) []
+  pub opened : (s : Sheet) → fixed ≤ length w → Ranged s → taskWord s (taskCount s) ≤ c → Blank w (linkCount s) → NeedsIn s w → Opened s last (c + 1) []
 
 -- programme k, which lies as its words in `from` say, beside the others
 pub record OneIs (sheet bundle from w last : List ℕ) (n l k c r : ℕ) : Type 0 where

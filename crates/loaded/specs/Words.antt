@@ -1,13 +1,13 @@
--- The words in which the machine is kept: its processors, the stamps, the tasks' numbers, and the commands of all programmes, decoded; below 4,096 in all.
+-- The words in which the machine is kept: its processors, the stamps, the tasks' needs, and the commands of all programmes, decoded; below 4,096 in all.
 --
 --   4 * k the number of the next command of processor k, 4 * k + 1 its clock, 4 * k + 2 its store in use, 4 * k + 3 the number of its first command (16 processors)
 --   64 + k the number behind its last command
 --   80 the count of links, at most 1,024
 --   95 is 0: no message
 --   96 + l for link l 0 while its message is not sent, then one more than the stamp
---   behind the last stamp, for each task its work + 65536 * its store
---   c command c, behind the last task: lowest the word that it works with, a task's or a message's, then how much a message costs or holds, then what to do. Behind each programme stands one that receives word 95, and so is never done
-use Prim.Native.Nat.{ℕ, _+_, _*_, _-_, _%_, _/_, _<_, max}
+--   behind the last stamp, for each task what it needs of the store
+--   c command c, behind the last task: lowest how much time a task takes or a message costs, or the bytes that it holds, then the word that it works with, a task's or a message's, then what to do. Behind each programme stands one that receives word 95, and so is never done
+use Prim.Native.Nat.{ℕ, _+_, _*_, _-_, _%_, _<_, max}
 use mathlib.Core.Path.{_≡_}
 use mathlib.Core.List.{List}
 use lib.ListN.{getD, set}
@@ -30,22 +30,22 @@ firstIn w k = getD w (4 * k + 3) 0
 abbrev pub lastIn : List ℕ → ℕ → ℕ
 lastIn w k = getD w (64 + k) 0
 
--- the work and the store of each task stand in its word
+-- what each task needs of the store stands in its word
 abbrev pub taskWord : Sheet → ℕ → ℕ
 taskWord s t = 96 + linkCount s + t
 
-abbrev pub WorksIn : Sheet → List ℕ → Type 0
-WorksIn s w = (t : ℕ) → t < taskCount s → getD w (taskWord s t) 0 ≡ workOf s t + 65536 * storeOf s t
+abbrev pub NeedsIn : Sheet → List ℕ → Type 0
+NeedsIn s w = (t : ℕ) → t < taskCount s → getD w (taskWord s t) 0 ≡ storeOf s t
 
 -- a command's word
 abbrev pub wordOf : Sheet → Command → ℕ
-wordOf s (run t) = taskWord s t
-wordOf s (send l) = 134217728 + 2048 * costOf s l + (96 + l)
-wordOf s (receive l) = 268435456 + 2048 * bytesOf s l + (96 + l)
+wordOf s (run t) = 65536 * taskWord s t + workOf s t
+wordOf s (send l) = 2147483648 + 65536 * (96 + l) + costOf s l
+wordOf s (receive l) = 3221225472 + 65536 * (96 + l) + bytesOf s l
 
 -- the word behind a programme
 abbrev pub endCode : ℕ
-endCode = 268435456 + 95
+endCode = 3221225472 + 65536 * 95
 
 -- processor k at a command, a clock and a store
 unfoldable pub placedWords : List ℕ → ℕ → ℕ → ℕ → ℕ → List ℕ
@@ -55,10 +55,10 @@ placedWords w k c clock store = set (set (set w (4 * k + 1) (clock % 4294967296)
 unfoldable pub steppedWords : List ℕ → ℕ → ℕ → ℕ → ℕ → List ℕ
 steppedWords w k wait work need = placedWords w k (nextIn w k + 1) (max (clockIn w k) wait + work) (storeIn w k + need)
 
--- the same of a run, a send and a receive, by the amount and the word i of its message
+-- the same of a run by its need, and of a send and a receive by the word i of the message; the amount is a work, a cost or bytes
 module _ (w : List ℕ) (k amount : ℕ) where
-  unfoldable pub ranWords : List ℕ
-  ranWords = steppedWords w k 0 (amount % 65536) (amount / 65536)
+  unfoldable pub ranWords : ℕ → List ℕ
+  ranWords need = steppedWords w k 0 amount need
 
   unfoldable pub sentWords : ℕ → List ℕ
   sentWords i = steppedWords (set w i ((clockIn w k + amount + 1) % 4294967296)) k 0 0 0

@@ -3,7 +3,7 @@ ghost use mathlib.Core.Path.{_≡_};
 ghost use Prim.Native.Nat.{_+_, _*_, _%_, _≤_, _<_};
 ghost use lib.ListN.{set};
 ghost use Rattle.loaded.specs.Loads.{CommandIs, ProgrammeIs, LoadIs};
-ghost use Rattle.loaded.specs.Opened.{WipeIs, WorksIs, EmptyIs, OneIs, AllIs};
+ghost use Rattle.loaded.specs.Opened.{WipeIs, NeedsIs, EmptyIs, OneIs, AllIs};
 
 // The command at the offset o, for a sheet of n tasks and l links, into the word at the index `at`; how many bytes it has. A send is told from a
 // receive by value: which of them comes cannot be foretold.
@@ -22,13 +22,18 @@ fn load_command(
     let c = words::byte(bundle, o);
     if c == 0x52 {
         let t = words::byte(bundle, o + 1);
-        words::put(w, at, 96 + l + t);
+        let work = words::pair(sheet, 7 + 5 * t);
+        words::put(w, at, work + 65536 * (96 + l + t));
         return 2;
     }
     let i = words::pair(bundle, o + 1);
     let receives = c / 0x56;
     let amount = words::pair(sheet, 9 + 5 * n + 7 * i + 2 * receives);
-    words::put(w, at, 134217824 + i + 134217728 * receives + 2048 * amount);
+    words::put(
+        w,
+        at,
+        2147483648 + 1073741824 * receives + 65536 * (96 + i) + amount,
+    );
     3
 }
 
@@ -52,7 +57,7 @@ fn load_programme(
         from += load_command(sheet, bundle, w, n, l, from, to);
         to += 1;
     }
-    words::put(w, to, 268435551);
+    words::put(w, to, 3227451392);
     to
 }
 
@@ -76,16 +81,14 @@ fn wipe(w: &mut [u32], l: usize)
     words::put(w, 80, l);
 }
 
-// The work and the store of each of n tasks into the task's word, behind l stamps.
-fn load_works(sheet: &[u8], w: &mut [u32], n: usize, l: usize)
+// What each of n tasks needs of the store into the task's word, behind l stamps.
+fn load_needs(sheet: &[u8], w: &mut [u32], n: usize, l: usize)
     requires { ⌜ (n ≤ 256) × (l ≤ 1024) ⌝ }
-    ensures { λ _. ⌜ WorksIs (now (sheet .entry)) (now (w .entry)) (now (w .exit)) n l ⌝ }
+    ensures { λ _. ⌜ NeedsIs (now (sheet .entry)) (now (w .entry)) (now (w .exit)) n l ⌝ }
 {
     let mut t = 0;
     while t < n {
-        let work = words::pair(sheet, 7 + 5 * t);
-        let store = words::pair(sheet, 9 + 5 * t);
-        words::put(w, 96 + l + t, work + 65536 * store);
+        words::put(w, 96 + l + t, words::pair(sheet, 9 + 5 * t));
         t += 1;
     }
 }
@@ -95,7 +98,7 @@ fn empty_all(w: &mut [u32], c: usize)
     requires { ⌜ c < 4096 ⌝ }
     ensures { λ _. ⌜ EmptyIs (now (w .entry)) (now (w .exit)) c ⌝ }
 {
-    words::put(w, c, 268435551);
+    words::put(w, c, 3227451392);
     let mut k = 0;
     while k < 16 {
         open_programme(w, k, c, c);
@@ -152,7 +155,7 @@ pub fn load(sheet: &[u8], bundle: &[u8], from: &[u32], w: &mut [u32], m: usize, 
     ensures { λ _. ⌜ LoadIs (now (sheet .entry)) (now (bundle .entry)) (now (from .entry)) (now (w .entry)) (now (w .exit)) m n l ⌝ }
 {
     wipe(w, l);
-    load_works(sheet, w, n, l);
+    load_needs(sheet, w, n, l);
     let c = 96 + l + n;
     empty_all(w, c);
     load_all(sheet, bundle, from, w, m, n, l, c + 1);

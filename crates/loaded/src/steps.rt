@@ -72,14 +72,14 @@ fn command(w: &mut [u32], k: usize) -> bool
     ensures { λ r. ⌜ StepIs Keeps (now (w .entry)) (now (w .exit)) k r ⌝ }
 {
     let x = words::word(w, words::word(w, 4 * k));
-    let i = x % 2048;
-    if x < 134217728 {
-        let amount = words::word(w, i);
-        go_on(w, k, 0, amount % 65536, amount / 65536);
+    let i = x / 65536 % 2048;
+    let amount = x % 65536;
+    if x < 2147483648 {
+        let need = words::word(w, i);
+        go_on(w, k, 0, amount, need);
         return true;
     }
-    let amount = x / 2048 % 65536;
-    if x < 268435456 {
+    if x < 3221225472 {
         send(w, k, amount, i);
         return true;
     }
