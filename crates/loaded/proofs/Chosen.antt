@@ -109,31 +109,27 @@ module _ (w : List ℕ) (k : ℕ) (near : k < 16) (n : ℕ) (here : n ≡ nextIn
             let is : amount ≡ costOf s l = omega arith in
             let r = h .room k near in
             let stamp = (clockIn w k + amount + 1) % 4294967296 in
-            let u = set w (96 + l) stamp in
-            let v = placedWords u k (nextIn u k + 1) (max (clockIn u k) 0 + 0) (storeIn u k + 0) in
+            let u = placedWords w k (nextIn w k + 1) (max (clockIn w k) 0 + 0) (storeIn w k + 0) in
+            let v = set u (96 + l) stamp in
             let bounds = h .programmed .high k near in
             let lw = long in
-            let lu : 1120 ≤ length u = simp length-set long in
-            let away : (i : ℕ) → (i ≡ 96 + l → ⊥) → getD u i 0 ≡ getD w i 0 = λ i d. getD-set-other w (96 + l) i stamp 0 d in
-            let clock : clockIn u k ≡ clockIn w k = away (4 * k + 1) (λ i. omega arith) in
-            let store : storeIn u k ≡ storeIn w k = away (4 * k + 2) (λ i. omega arith) in
-            let ahead : nextIn u k ≡ nextIn w k = away (4 * k) (λ i. omega arith) in
-            let y = placed-moved u k (nextIn u k + 1) (max (clockIn u k) 0 + 0) (storeIn u k + 0) lu near (linkCount s) in
+            let y = placed-moved w k (nextIn w k + 1) (max (clockIn w k) 0 + 0) (storeIn w k + 0) long near (linkCount s) in
+            let away : (i : ℕ) → (i ≡ 96 + l → ⊥) → getD v i 0 ≡ getD u i 0 = λ i d. getD-set-other u (96 + l) i stamp 0 d in
             let m : Moved (linkCount s) w v k (nextIn w k + 1) (max (processorOf σ k .clock) 0 + 0) (processorOf σ k .store + 0) =
             record {
-              long = y .long ∙ length-set w (96 + l) stamp;
-              next = y .next ∙ omega (arith, h .next k near, h .inside k near);
-              clock = y .clock ∙ omega (arith, h .clock k near, r .0);
-              store = y .store ∙ omega (arith, h .store k near, r .1);
-              others = λ i z. y .others i z ∙ away i (λ q′. ⊎-elim (λ g′. omega arith) (λ g′. omega arith) (z .beside));
+              long = length-set u (96 + l) stamp ∙ y .long;
+              next = away (4 * k) (λ i. omega arith) ∙ y .next ∙ omega (arith, h .next k near, h .inside k near);
+              clock = away (4 * k + 1) (λ i. omega arith) ∙ y .clock ∙ omega (arith, h .clock k near, r .0);
+              store = away (4 * k + 2) (λ i. omega arith) ∙ y .store ∙ omega (arith, h .store k near, r .1);
+              others = λ i z. away i (λ q′. ⊎-elim (λ g′. omega arith) (λ g′. omega arith) (z .beside)) ∙ y .others i z;
             }
             in
-            let high : (i : ℕ) → getD v (96 + i) 0 ≡ getD u (96 + i) 0 = λ i. placed-stamp u k (nextIn u k + 1) (max (clockIn u k) 0 + 0) (storeIn u k + 0) lu near (96 + i) (omega arith) in
-            let kept : (i : ℕ) → (i ≡ l → ⊥) → getD v (96 + i) 0 ≡ getD w (96 + i) 0 = λ i d. high i ∙ away (96 + i) (λ y. d (omega arith)) in
+            let high : (i : ℕ) → getD u (96 + i) 0 ≡ getD w (96 + i) 0 = λ i. placed-stamp w k (nextIn w k + 1) (max (clockIn w k) 0 + 0) (storeIn w k + 0) long near (96 + i) (omega arith) in
+            let kept : (i : ℕ) → (i ≡ l → ⊥) → getD v (96 + i) 0 ≡ getD w (96 + i) 0 = λ i d. away (96 + i) (λ y. d (omega arith)) ∙ high i in
             let less : left b (moved s σ k (send l) 0) each + 1 ≡ left b σ each = left-moved s b σ k (send l) 0 (h .processors) e each in
             let now : clockIn w k + amount + 1 ≡ suc (processorOf σ k .clock + costOf s l) = omega (arith, h .clock k near) in
             let stamp-is : stamp ≡ suc (processorOf σ k .clock + costOf s l) = omega (arith, r .0) in
-            let put : getD v (96 + l) 0 ≡ stamp = high l ∙ getD-set-same w (96 + l) stamp 0 (omega arith) in
+            let put : getD v (96 + l) 0 ≡ stamp = getD-set-same u (96 + l) stamp 0 (omega (arith, y .long)) in
             let mine = stamp-sent s σ k l 0 (omega (arith, h .stamps)) in
             let theirs = stamp-other s σ k l 0 in
             goes Keeps s b v σ k (moved s σ k (send l) 0) (move-step s b σ k (send l) 0 e refl)
@@ -199,7 +195,7 @@ module _ (w : List ℕ) (k : ℕ) (near : k < 16) (n : ℕ) (here : n ≡ nextIn
 
   sent-long : length (sentWords w k (x % 65536) i) ≡ length w
   unfolding sentWords
-  sent-long = length-stepped (set w i ((clockIn w k + x % 65536 + 1) % 4294967296)) k 0 0 0 ∙ length-set w i _
+  sent-long = length-set (steppedWords w k 0 0 0) i _ ∙ length-stepped w k 0 0 0
 
   got-long : (f : Bool) → length (pick f (gotWords w k (x % 65536) i) w) ≡ length w
   unfolding gotWords

@@ -61,7 +61,7 @@ module _ (w : List ℕ) (k amount : ℕ) where
   ranWords need = steppedWords w k 0 amount need
 
   unfoldable pub sentWords : ℕ → List ℕ
-  sentWords i = steppedWords (set w i ((clockIn w k + amount + 1) % 4294967296)) k 0 0 0
+  sentWords i = set (steppedWords w k 0 0 0) i ((clockIn w k + amount + 1) % 4294967296)
 
   unfoldable pub gotWords : ℕ → List ℕ
   gotWords i = steppedWords w k (getD w i 0 - 1) 0 amount

@@ -49,8 +49,8 @@ fn send(w: &mut [u32], k: usize, amount: usize, i: usize)
     ensures { λ _. ⌜ now (w .exit) ≡ sentWords (now (w .entry)) k amount i ⌝ }
 {
     let stamp = words::word(w, 4 * k + 1) + amount + 1;
-    words::put(w, i, stamp);
     go_on(w, k, 0, 0, 0);
+    words::put(w, i, stamp);
 }
 
 // Processor k receives the message of word i, if it was sent: the amount is its bytes.

@@ -6,7 +6,7 @@ use Rattle.loaded.proofs.steps.send.Tie as tie
 
 returns : tie.Need-returns
 unfolding sentWords
-returns c = simp (c .before .before .go-on .ensures, c .before .before .before .before .before .before .put .ensures, c .before .before .before .before .before .before .before .before .word .ensures .0)
+returns c = simp (c .before .before .put .ensures, c .before .before .before .before .before .before .go-on .ensures, c .before .before .before .before .before .before .before .before .word .ensures .0)
 
 pub send-spec : {M : Type 1} → statement M
 send-spec =
