@@ -43,7 +43,7 @@ data Coming (s : Sheet) (b : Bundle) (w : List ℕ) (σ : State) (k n : ℕ) : T
   comes : (c : Command) → next b σ k ≡ some c → processorOf σ k .position < length (programmeOf b k) → Known s c → getD w n 0 ≡ wordOf s c → Coming s b w σ k n
   over : next b σ k ≡ none → getD w n 0 ≡ endCode → Coming s b w σ k n
 
-module _ (w : List ℕ) (k : ℕ) (near : k < 16) (n : ℕ) (here : n ≡ nextIn w k) (x : ℕ) (there : x ≡ getD w n 0) (i : ℕ) (at : i ≡ x / 65536 % 2048) where
+module _ (w : List ℕ) (k : ℕ) (near : k < 16) (n : ℕ) (here : n ≡ nextIn w k) (x : ℕ) (there : x ≡ getD w n 0) (i : ℕ) (at : i ≡ x / 2097152) where
   module _ (s : Sheet) (b : Bundle) (σ : State) (h : Keeps s b w σ) where
     abbrev p : ℕ
     p = processorOf σ k .position
@@ -65,11 +65,11 @@ module _ (w : List ℕ) (k : ℕ) (near : k < 16) (n : ℕ) (here : n ≡ nextIn
         ]
 
     -- a run
-    ran-on : x < 2147483648 → Coming s b w σ k n → (gets : ℕ) → gets ≡ getD w i 0 → (true ≡ canStep s b σ k) × Keeps s b (ranWords w k (x % 65536) gets) (chosen σ (step s b σ k))
+    ran-on : x / 65536 % 2 ≡ 0 → Coming s b w σ k n → (gets : ℕ) → gets ≡ getD w i 0 → (true ≡ canStep s b σ k) × Keeps s b (ranWords w k (x % 65536) gets) (chosen σ (step s b σ k))
     unfolding ranWords steppedWords stampOf
     ran-on q (over e f) gets g = absurd (omega arith)
-    ran-on q (comes (send l) e j o f) gets g = absurd (omega arith)
-    ran-on q (comes (receive l) e j o f) gets g = absurd (omega arith)
+    ran-on q (comes (send l) e j o f) gets g = absurd (omega (arith, h .programmed .ranged .costs l o))
+    ran-on q (comes (receive l) e j o f) gets g = absurd (omega (arith, h .programmed .ranged .sizes l o))
     ran-on q (comes (run t) e j o f) gets g =
         let few = h .programmed .ranged .few-tasks in
         let r = h .room k near in
@@ -91,11 +91,11 @@ module _ (w : List ℕ) (k : ℕ) (near : k < 16) (n : ℕ) (here : n ≡ nextIn
         (λ l x j. omega (arith, h .roomy l x j)))
 
     -- a send
-    sent-on : 2147483648 ≤ x → x < 3221225472 → Coming s b w σ k n → (true ≡ canStep s b σ k) × Keeps s b (sentWords w k (x % 65536) i) (chosen σ (step s b σ k))
+    sent-on : (x / 65536 % 2 ≡ 0 → ⊥) → x / 131072 % 2 ≡ 0 → Coming s b w σ k n → (true ≡ canStep s b σ k) × Keeps s b (sentWords w k (x % 65536) i) (chosen σ (step s b σ k))
     unfolding sentWords steppedWords stampOf
     sent-on a z (over e f) = absurd (omega arith)
-    sent-on a z (comes (run t) e j o f) = let few = h .programmed .ranged .few-tasks in absurd (omega (arith, h .programmed .ranged .few-links, h .programmed .ranged .works t o))
-    sent-on a z (comes (receive l) e j o f) = let few = h .programmed .ranged .few-links in absurd (omega arith)
+    sent-on a z (comes (run t) e j o f) = absurd (a (omega (arith, h .programmed .ranged .works t o)))
+    sent-on a z (comes (receive l) e j o f) = absurd (omega (arith, h .programmed .ranged .sizes l o))
     sent-on a z (comes (send l) e j o f) =
         let few = h .programmed .ranged .few-links in
         let slot : i ≡ 96 + l = omega (arith, h .programmed .ranged .costs l o) in
@@ -118,9 +118,9 @@ module _ (w : List ℕ) (k : ℕ) (near : k < 16) (n : ℕ) (here : n ≡ nextIn
             let m : Moved (linkCount s) w v k (nextIn w k + 1) (max (processorOf σ k .clock) 0 + 0) (processorOf σ k .store + 0) =
             record {
               long = length-set u (96 + l) stamp ∙ y .long;
-              next = away (4 * k) (λ i. omega arith) ∙ y .next ∙ omega (arith, h .next k near, h .inside k near);
-              clock = away (4 * k + 1) (λ i. omega arith) ∙ y .clock ∙ omega (arith, h .clock k near, r .0);
-              store = away (4 * k + 2) (λ i. omega arith) ∙ y .store ∙ omega (arith, h .store k near, r .1);
+              next = away k (λ i. omega arith) ∙ y .next ∙ omega (arith, h .next k near, h .inside k near);
+              clock = away (16 + k) (λ i. omega arith) ∙ y .clock ∙ omega (arith, h .clock k near, r .0);
+              store = away (32 + k) (λ i. omega arith) ∙ y .store ∙ omega (arith, h .store k near, r .1);
               others = λ i z. away i (λ q′. ⊎-elim (λ g′. omega arith) (λ g′. omega arith) (z .beside)) ∙ y .others i z;
             }
             in
@@ -146,17 +146,17 @@ module _ (w : List ℕ) (k : ℕ) (near : k < 16) (n : ℕ) (here : n ≡ nextIn
             ]))
 
     -- a receive
-    got-on : 3221225472 ≤ x → Coming s b w σ k n → (f : Bool) → f ≡ not (eqb (getD w i 0) 0)
+    got-on : (x / 65536 % 2 ≡ 0 → ⊥) → (x / 131072 % 2 ≡ 0 → ⊥) → Coming s b w σ k n → (f : Bool) → f ≡ not (eqb (getD w i 0) 0)
         → (f ≡ canStep s b σ k) × Keeps s b (pick f (gotWords w k (x % 65536) i) w) (chosen σ (step s b σ k))
     unfolding gotWords steppedWords stampOf
-    got-on z (over e g) f u =
+    got-on a z (over e g) f u =
         let slot : i ≡ 95 = omega arith in
         let none-there : getD w i 0 ≡ 0 = ap (λ (j : ℕ). getD w j 0) slot ∙ h .programmed .nothing in
         let off : f ≡ false = u ∙ ap not (eq-eqb (getD w i 0) 0 none-there) in
         subst (λ (y : Bool). (y ≡ canStep s b σ k) × Keeps s b (pick y (gotWords w k (x % 65536) i) w) (chosen σ (step s b σ k))) (sym off) (no-next Keeps s b w σ k h e)
-    got-on z (comes (run t) e j o g) f u = let few = h .programmed .ranged .few-tasks in absurd (omega (arith, h .programmed .ranged .few-links, h .programmed .ranged .works t o))
-    got-on z (comes (send l) e j o g) f u = let few = h .programmed .ranged .few-links in absurd (omega (arith, h .programmed .ranged .costs l o))
-    got-on z (comes (receive l) e j o g) f u = by f (getD w i 0) refl u (ap (λ (y : ℕ). stampIn (getD w y 0)) slot ∙ h .stamp l o)
+    got-on a z (comes (run t) e j o g) f u = absurd (a (omega (arith, h .programmed .ranged .works t o)))
+    got-on a z (comes (send l) e j o g) f u = absurd (z (omega (arith, h .programmed .ranged .costs l o)))
+    got-on a z (comes (receive l) e j o g) f u = by f (getD w i 0) refl u (ap (λ (y : ℕ). stampIn (getD w y 0)) slot ∙ h .stamp l o)
       where
         slot : i ≡ 96 + l
         slot = let few = h .programmed .ranged .few-links in omega (arith, h .programmed .ranged .sizes l o)
@@ -203,7 +203,7 @@ module _ (w : List ℕ) (k : ℕ) (near : k < 16) (n : ℕ) (here : n ≡ nextIn
   got-long false = refl
 
   module _ (v : List ℕ) where
-    pub ran : x < 2147483648 → (gets : ℕ) → gets ≡ getD w i 0 → v ≡ ranWords w k (x % 65536) gets → StepIs Keeps w v k true
+    pub ran : x / 65536 % 2 ≡ 0 → (gets : ℕ) → gets ≡ getD w i 0 → v ≡ ranWords w k (x % 65536) gets → StepIs Keeps w v k true
     ran q gets e g =
         record {
           long = ap length g ∙ ran-long gets;
@@ -211,7 +211,7 @@ module _ (w : List ℕ) (k : ℕ) (near : k < 16) (n : ℕ) (here : n ≡ nextIn
           agrees = λ s b σ h. subst (λ (u : List ℕ). (true ≡ canStep s b σ k) × Keeps s b u (chosen σ (step s b σ k))) (sym g) (ran-on s b σ h q (coming s b σ h) gets e);
         }
 
-    pub sent : 2147483648 ≤ x → x < 3221225472 → v ≡ sentWords w k (x % 65536) i → StepIs Keeps w v k true
+    pub sent : (x / 65536 % 2 ≡ 0 → ⊥) → x / 131072 % 2 ≡ 0 → v ≡ sentWords w k (x % 65536) i → StepIs Keeps w v k true
     sent a z g =
         record {
           long = ap length g ∙ sent-long;
@@ -219,10 +219,10 @@ module _ (w : List ℕ) (k : ℕ) (near : k < 16) (n : ℕ) (here : n ≡ nextIn
           agrees = λ s b σ h. subst (λ (u : List ℕ). (true ≡ canStep s b σ k) × Keeps s b u (chosen σ (step s b σ k))) (sym g) (sent-on s b σ h a z (coming s b σ h));
         }
 
-    pub got : 3221225472 ≤ x → (f : Bool) → f ≡ not (eqb (getD w i 0) 0) → v ≡ pick f (gotWords w k (x % 65536) i) w → StepIs Keeps w v k f
-    got z f u g =
+    pub got : (x / 65536 % 2 ≡ 0 → ⊥) → (x / 131072 % 2 ≡ 0 → ⊥) → (f : Bool) → f ≡ not (eqb (getD w i 0) 0) → v ≡ pick f (gotWords w k (x % 65536) i) w → StepIs Keeps w v k f
+    got a z f u g =
         record {
           long = ap length g ∙ got-long f;
           same = λ e. g ∙ ap (λ (y : Bool). pick y (gotWords w k (x % 65536) i) w) e;
-          agrees = λ s b σ h. subst (λ (y : List ℕ). (f ≡ canStep s b σ k) × Keeps s b y (chosen σ (step s b σ k))) (sym g) (got-on s b σ h z (coming s b σ h) f u);
+          agrees = λ s b σ h. subst (λ (y : List ℕ). (f ≡ canStep s b σ k) × Keeps s b y (chosen σ (step s b σ k))) (sym g) (got-on s b σ h a z (coming s b σ h) f u);
         }

@@ -64,33 +64,33 @@ pub needs-all : (sheet w last : List ℕ) (n t l : ℕ) → t ≡ n → NeedsIs 
 needs-all sheet w last n t l e g = subst (λ (x : ℕ). NeedsIs sheet w last x l) e g
 
 -- processor k put before the first command of a programme from the index x to the index y
-module _ (w last : List ℕ) (k x y : ℕ) (el : last ≡ set (set (set w (4 * k) x) (4 * k + 3) x) (64 + k) y) where
+module _ (w last : List ℕ) (k x y : ℕ) (el : last ≡ set (set (set w k x) (48 + k) x) (64 + k) y) where
   placed-long : length last ≡ length w
-  placed-long = ap length el ∙ length-set (set (set w (4 * k) x) (4 * k + 3) x) (64 + k) y ∙ length-set (set w (4 * k) x) (4 * k + 3) x ∙ length-set w (4 * k) x
+  placed-long = ap length el ∙ length-set (set (set w k x) (48 + k) x) (64 + k) y ∙ length-set (set w k x) (48 + k) x ∙ length-set w k x
 
-  placed-other : (i : ℕ) → (i ≡ 4 * k → ⊥) → (i ≡ 4 * k + 3 → ⊥) → (i ≡ 64 + k → ⊥) → getD last i 0 ≡ getD w i 0
+  placed-other : (i : ℕ) → (i ≡ k → ⊥) → (i ≡ 48 + k → ⊥) → (i ≡ 64 + k → ⊥) → getD last i 0 ≡ getD w i 0
   placed-other i a b c =
       ap (λ (l : List ℕ). getD l i 0) el
-      ∙ getD-set-other (set (set w (4 * k) x) (4 * k + 3) x) (64 + k) i y 0 c
-      ∙ getD-set-other (set w (4 * k) x) (4 * k + 3) i x 0 b
-      ∙ getD-set-other w (4 * k) i x 0 a
+      ∙ getD-set-other (set (set w k x) (48 + k) x) (64 + k) i y 0 c
+      ∙ getD-set-other (set w k x) (48 + k) i x 0 b
+      ∙ getD-set-other w k i x 0 a
 
   module _ (near : k < 16) where
     placed-high : (i : ℕ) → 80 ≤ i → getD last i 0 ≡ getD w i 0
     placed-high i h = placed-other i (λ z. omega arith) (λ z. omega arith) (λ z. omega arith)
 
     placed-clock : (j : ℕ) → j < 16 → clockIn last j ≡ clockIn w j
-    placed-clock j h = placed-other (4 * j + 1) (λ z. omega arith) (λ z. omega arith) (λ z. omega arith)
+    placed-clock j h = placed-other (16 + j) (λ z. omega arith) (λ z. omega arith) (λ z. omega arith)
 
     placed-store : (j : ℕ) → j < 16 → storeIn last j ≡ storeIn w j
-    placed-store j h = placed-other (4 * j + 2) (λ z. omega arith) (λ z. omega arith) (λ z. omega arith)
+    placed-store j h = placed-other (32 + j) (λ z. omega arith) (λ z. omega arith) (λ z. omega arith)
 
     module _ (j : ℕ) (h : j < 16) (d : j ≡ k → ⊥) where
       placed-next-else : nextIn last j ≡ nextIn w j
-      placed-next-else = placed-other (4 * j) (λ z. d (omega arith)) (λ z. omega arith) (λ z. omega arith)
+      placed-next-else = placed-other j (λ z. d (omega arith)) (λ z. omega arith) (λ z. omega arith)
 
       placed-first-else : firstIn last j ≡ firstIn w j
-      placed-first-else = placed-other (4 * j + 3) (λ z. omega arith) (λ z. d (omega arith)) (λ z. omega arith)
+      placed-first-else = placed-other (48 + j) (λ z. omega arith) (λ z. d (omega arith)) (λ z. omega arith)
 
       placed-last-else : lastIn last j ≡ lastIn w j
       placed-last-else = placed-other (64 + j) (λ z. omega arith) (λ z. omega arith) (λ z. d (omega arith))
@@ -99,20 +99,20 @@ module _ (w last : List ℕ) (k x y : ℕ) (el : last ≡ set (set (set w (4 * k
       placed-last : lastIn last k ≡ y
       placed-last =
           ap (λ (l : List ℕ). getD l (64 + k) 0) el
-          ∙ getD-set-same (set (set w (4 * k) x) (4 * k + 3) x) (64 + k) y 0 (simp length-set (omega arith))
+          ∙ getD-set-same (set (set w k x) (48 + k) x) (64 + k) y 0 (simp length-set (omega arith))
 
       placed-first : firstIn last k ≡ x
       placed-first =
-          ap (λ (l : List ℕ). getD l (4 * k + 3) 0) el
-          ∙ getD-set-other (set (set w (4 * k) x) (4 * k + 3) x) (64 + k) (4 * k + 3) y 0 (λ z. omega arith)
-          ∙ getD-set-same (set w (4 * k) x) (4 * k + 3) x 0 (simp length-set (omega arith))
+          ap (λ (l : List ℕ). getD l (48 + k) 0) el
+          ∙ getD-set-other (set (set w k x) (48 + k) x) (64 + k) (48 + k) y 0 (λ z. omega arith)
+          ∙ getD-set-same (set w k x) (48 + k) x 0 (simp length-set (omega arith))
 
       placed-next : nextIn last k ≡ x
       placed-next =
-          ap (λ (l : List ℕ). getD l (4 * k) 0) el
-          ∙ getD-set-other (set (set w (4 * k) x) (4 * k + 3) x) (64 + k) (4 * k) y 0 (λ z. omega arith)
-          ∙ getD-set-other (set w (4 * k) x) (4 * k + 3) (4 * k) x 0 (λ z. omega arith)
-          ∙ getD-set-same w (4 * k) x 0 (omega arith)
+          ap (λ (l : List ℕ). getD l k 0) el
+          ∙ getD-set-other (set (set w k x) (48 + k) x) (64 + k) k y 0 (λ z. omega arith)
+          ∙ getD-set-other (set w k x) (48 + k) k x 0 (λ z. omega arith)
+          ∙ getD-set-same w k x 0 (omega arith)
 
 -- the first k processors have the empty programme at command c, in the words w that were v
 pub record Emptying (v w : List ℕ) (c k : ℕ) : Type 0 where
@@ -137,11 +137,11 @@ emptying-starts v c =
     }
 
 pub emptying-more : (v w u : List ℕ) (c k : ℕ) → c < 4096 → k < 16 → Emptying v w c k
-    → u ≡ set (set (set w (4 * k) (c % 4294967296)) (4 * k + 3) (c % 4294967296)) (64 + k) (c % 4294967296) → Emptying v u c (k + 1)
+    → u ≡ set (set (set w k (c % 4294967296)) (48 + k) (c % 4294967296)) (64 + k) (c % 4294967296) → Emptying v u c (k + 1)
 emptying-more v w u c k most near g en =
     let fits : fixed ≤ length v → fixed ≤ length w = λ f. omega (arith, g .long) in
     let whole : c % 4294967296 ≡ c = omega arith in
-    let el : u ≡ set (set (set w (4 * k) c) (4 * k + 3) c) (64 + k) c = en ∙ ap (λ (x : ℕ). set (set (set w (4 * k) x) (4 * k + 3) x) (64 + k) x) whole in
+    let el : u ≡ set (set (set w k c) (48 + k) c) (64 + k) c = en ∙ ap (λ (x : ℕ). set (set (set w k x) (48 + k) x) (64 + k) x) whole in
     record {
       long = placed-long w u k c c el ∙ g .long;
       next =
@@ -161,16 +161,16 @@ emptying-more v w u c k most near g en =
       other = λ i h. placed-high w u k c c el near i h ∙ g .other i h;
     }
 
-pub emptied : (w v last : List ℕ) (c k : ℕ) → c < 4096 → 16 ≤ k → v ≡ set w c (3227451392 % 4294967296) → Emptying v last c k → EmptyIs w last c
+pub emptied : (w v last : List ℕ) (c k : ℕ) → c < 4096 → 16 ≤ k → v ≡ set w c (199426048 % 4294967296) → Emptying v last c k → EmptyIs w last c
 emptied w v last c k most all ev g =
     record {
       long = g .long ∙ lv;
       opened =
           λ s long ranged behind blank stores.
           let f : fixed ≤ length v = omega (arith, lv) in
-          let same : (i : ℕ) → i < taskWord s (taskCount s) → getD v i 0 ≡ getD w i 0 = λ i h. ap (λ (l : List ℕ). getD l i 0) ev ∙ getD-set-other w c i 3227451392 0 (λ z. omega arith) in
+          let same : (i : ℕ) → i < taskWord s (taskCount s) → getD v i 0 ≡ getD w i 0 = λ i h. ap (λ (l : List ℕ). getD l i 0) ev ∙ getD-set-other w c i 199426048 0 (λ z. omega arith) in
           let low : (i : ℕ) → i < 96 + linkCount s → (i ≡ 80 → ⊥) → getD v i 0 ≡ 0 = λ i h d. same i (omega arith) ∙ blank .zeros i h d in
-          let end : getD last c 0 ≡ 3227451392 = g .other c (omega arith) ∙ ap (λ (l : List ℕ). getD l c 0) ev ∙ getD-set-same w c 3227451392 0 (omega arith) in
+          let end : getD last c 0 ≡ 199426048 = g .other c (omega arith) ∙ ap (λ (l : List ℕ). getD l c 0) ev ∙ getD-set-same w c 199426048 0 (omega arith) in
           record {
             long = omega (arith, g .long);
             opens =
@@ -183,8 +183,8 @@ emptied w v last c k most all ev g =
                   last = g .last f j (omega arith) ∙ omega arith;
                   decoded = rw e (record { known = λ i l. absurd (omega arith); word = λ i l. absurd (omega arith); end = ap (λ (i : ℕ). getD last i 0) (omega arith) ∙ end });
                 };
-            clock = λ j h. g .clock j h ∙ low (4 * j + 1) (omega arith) (λ z. omega arith);
-            store = λ j h. g .store j h ∙ low (4 * j + 2) (omega arith) (λ z. omega arith);
+            clock = λ j h. g .clock j h ∙ low (16 + j) (omega arith) (λ z. omega arith);
+            store = λ j h. g .store j h ∙ low (32 + j) (omega arith) (λ z. omega arith);
             links = g .other 80 (omega arith) ∙ same 80 (omega arith) ∙ blank .links;
             needs = λ t h. g .other (taskWord s t) (omega arith) ∙ same (taskWord s t) (omega arith) ∙ stores t h;
             zeros = λ i h l. g .other i (omega arith) ∙ low i l (λ z. omega arith);
@@ -192,12 +192,12 @@ emptied w v last c k most all ev g =
     }
   where
     lv : length v ≡ length w
-    lv = ap length ev ∙ length-set w c 3227451392
+    lv = ap length ev ∙ length-set w c 199426048
 
 -- one programme more, from command c on
 module _ (sheet bundle from w u last : List ℕ) (n l k c x e r : ℕ) (near : k < 16) (ex : x ≡ getD from k 0) (ee : e ≡ getD from (k + 1) 0) (fe : e < 4294967296)
     (pr : (r ≤ c + e + 2) × ProgrammeIs sheet bundle w u n l (x + 2) e c r)
-    (el : last ≡ set (set (set u (4 * k) (c % 4294967296)) (4 * k + 3) (c % 4294967296)) (64 + k) (r % 4294967296)) where
+    (el : last ≡ set (set (set u k (c % 4294967296)) (48 + k) (c % 4294967296)) (64 + k) (r % 4294967296)) where
   module _ (s : Sheet) (ps qs : List (List Command)) (same : (j : ℕ) → (j ≡ k → ⊥) → getD qs j [] ≡ getD ps j []) (room : c + length (getD qs k []) < 4095) (g : Opened s w c ps)
       (er : r ≡ c + length (getD qs k [])) (decoded : Decoded s u c (getD qs k []))
       (other : (i : ℕ) → (i < c) ⊎ (c + length (getD qs k []) < i) → getD u i 0 ≡ getD w i 0) where
@@ -236,9 +236,9 @@ module _ (sheet bundle from w u last : List ℕ) (n l k c x e r : ℕ) (near : k
     else j h d =
         let o = g .opens j h in
         let b = behind in
-        let f : firstIn last j ≡ firstIn w j = placed-first-else u last k _ _ el near j h d ∙ low (4 * j + 3) (omega arith) in
+        let f : firstIn last j ≡ firstIn w j = placed-first-else u last k _ _ el near j h d ∙ low (48 + j) (omega arith) in
         record {
-          next = placed-next-else u last k _ _ el near j h d ∙ low (4 * j) (omega arith) ∙ o .next ∙ sym f;
+          next = placed-next-else u last k _ _ el near j h d ∙ low j (omega arith) ∙ o .next ∙ sym f;
           low = omega (arith, o .low);
           high = omega (arith, o .high);
           last = placed-last-else u last k _ _ el near j h d ∙ low (64 + j) (omega arith) ∙ o .last ∙ omega arith;
@@ -253,8 +253,8 @@ module _ (sheet bundle from w u last : List ℕ) (n l k c x e r : ℕ) (near : k
         record {
           long = omega (arith, fits, placed-long u last k _ _ el);
           opens = λ j h. ⊎-elim (λ (q : j ≡ k). rw q own) (λ (d : j ≡ k → ⊥). rw (same j d) (else j h d)) (equal-or j k);
-          clock = λ j h. placed-clock u last k _ _ el near j h ∙ low (4 * j + 1) (omega arith) ∙ g .clock j h;
-          store = λ j h. placed-store u last k _ _ el near j h ∙ low (4 * j + 2) (omega arith) ∙ g .store j h;
+          clock = λ j h. placed-clock u last k _ _ el near j h ∙ low (16 + j) (omega arith) ∙ g .clock j h;
+          store = λ j h. placed-store u last k _ _ el near j h ∙ low (32 + j) (omega arith) ∙ g .store j h;
           links = placed-high u last k _ _ el near 80 (omega arith) ∙ low 80 (omega arith) ∙ g .links;
           needs = λ t h. placed-high u last k _ _ el near (taskWord s t) (omega arith) ∙ low (taskWord s t) (omega arith) ∙ g .needs t h;
           zeros = λ i h l. placed-high u last k _ _ el near i (omega arith) ∙ low i (omega arith) ∙ g .zeros i h l;

@@ -30,9 +30,9 @@ command-past (c ∷ p) (suc i) l = command-past p i (omega arith)
 
 -- a word that no command of processor k changes, but for the stamps of the links
 pub record Away (links k i : ℕ) : Type 0 where
-  pub next : i ≡ 4 * k → ⊥
-  pub clock : i ≡ 4 * k + 1 → ⊥
-  pub store : i ≡ 4 * k + 2 → ⊥
+  pub next : i ≡ k → ⊥
+  pub clock : i ≡ 16 + k → ⊥
+  pub store : i ≡ 32 + k → ⊥
   pub beside : (i < 96) ⊎ (96 + links ≤ i)
 
 -- the words v are those w, but processor k is at command n with the clock c and the store x, and stamps may differ
@@ -46,7 +46,7 @@ pub record Moved (links : ℕ) (w v : List ℕ) (k n c x : ℕ) : Type 0 where
 -- what a move does to the words of another processor, to programmes and to their first and last indices: nothing
 module _ {links : ℕ} {w v : List ℕ} {k n c x : ℕ} (near : k < 16) (m : Moved links w v k n c x) where
   first-same : (j : ℕ) → j < 16 → firstIn v j ≡ firstIn w j
-  first-same j l = m .others (4 * j + 3) (record { next = λ q. omega arith; clock = λ q. omega arith; store = λ q. omega arith; beside = inl (omega arith) })
+  first-same j l = m .others (48 + j) (record { next = λ q. omega arith; clock = λ q. omega arith; store = λ q. omega arith; beside = inl (omega arith) })
 
   above : (i : ℕ) → 64 ≤ i → (i < 96) ⊎ (96 + links ≤ i) → getD v i 0 ≡ getD w i 0
   above i l b = m .others i (record { next = λ q. omega arith; clock = λ q. omega arith; store = λ q. omega arith; beside = b })
@@ -72,13 +72,13 @@ module _ {links : ℕ} {w v : List ℕ} {k n c x : ℕ} (near : k < 16) (m : Mov
 
   module _ (j : ℕ) (d : j ≡ k → ⊥) (l : j < 16) where
     pub next-same : nextIn v j ≡ nextIn w j
-    next-same = m .others (4 * j) (record { next = λ q. d (omega arith); clock = λ q. omega arith; store = λ q. omega arith; beside = inl (omega arith) })
+    next-same = m .others j (record { next = λ q. d (omega arith); clock = λ q. omega arith; store = λ q. omega arith; beside = inl (omega arith) })
 
     pub clock-same : clockIn v j ≡ clockIn w j
-    clock-same = m .others (4 * j + 1) (record { next = λ q. omega arith; clock = λ q. d (omega arith); store = λ q. omega arith; beside = inl (omega arith) })
+    clock-same = m .others (16 + j) (record { next = λ q. omega arith; clock = λ q. d (omega arith); store = λ q. omega arith; beside = inl (omega arith) })
 
     pub store-same : storeIn v j ≡ storeIn w j
-    store-same = m .others (4 * j + 2) (record { next = λ q. omega arith; clock = λ q. omega arith; store = λ q. d (omega arith); beside = inl (omega arith) })
+    store-same = m .others (32 + j) (record { next = λ q. omega arith; clock = λ q. omega arith; store = λ q. d (omega arith); beside = inl (omega arith) })
 
 module _ (s : Sheet) (b : Bundle) (w : List ℕ) (σ : State) (h : Keeps s b w σ) (k : ℕ) (near : k < 16) where
   -- the command c came next, and waited for the time x
@@ -118,25 +118,25 @@ module _ (w : List ℕ) (k c clock store : ℕ) (long : 1120 ≤ length w) (near
   pub placed-moved : (links : ℕ) → Moved links w (placedWords w k c clock store) k (c % 4294967296) (clock % 4294967296) (store % 4294967296)
   unfolding placedWords
   placed-moved links =
-      let a : 4 * k + 1 ≡ 4 * k → ⊥ = λ q. omega arith in
-      let b : 4 * k + 2 ≡ 4 * k → ⊥ = λ q. omega arith in
-      let d : 4 * k + 1 ≡ 4 * k + 2 → ⊥ = λ q. omega arith in
-      let u = set w (4 * k + 1) (clock % 4294967296) in
-      let u2 = set u (4 * k + 2) (store % 4294967296) in
+      let a : 16 + k ≡ k → ⊥ = λ q. omega arith in
+      let b : 32 + k ≡ k → ⊥ = λ q. omega arith in
+      let d : 16 + k ≡ 32 + k → ⊥ = λ q. omega arith in
+      let u = set w (16 + k) (clock % 4294967296) in
+      let u2 = set u (32 + k) (store % 4294967296) in
       record {
         long = simp length-set;
-        next = let l : 4 * k < length u2 = simp length-set (omega arith) in simp getD-set-same;
-        clock = let l : 4 * k + 1 < length w = omega arith in simp (getD-set-other, getD-set-same);
-        store = let l : 4 * k + 2 < length u = simp length-set (omega arith) in simp (getD-set-other, getD-set-same);
+        next = let l : k < length u2 = simp length-set (omega arith) in simp getD-set-same;
+        clock = let l : 16 + k < length w = omega arith in simp (getD-set-other, getD-set-same);
+        store = let l : 32 + k < length u = simp length-set (omega arith) in simp (getD-set-other, getD-set-same);
         others = λ i y. let a = y .next in let b = y .clock in let d = y .store in simp getD-set-other;
       }
 
   pub placed-stamp : (i : ℕ) → 64 ≤ i → getD (placedWords w k c clock store) i 0 ≡ getD w i 0
   unfolding placedWords
   placed-stamp i l =
-      let a : i ≡ 4 * k → ⊥ = λ q. omega arith in
-      let b : i ≡ 4 * k + 1 → ⊥ = λ q. omega arith in
-      let d : i ≡ 4 * k + 2 → ⊥ = λ q. omega arith in
+      let a : i ≡ k → ⊥ = λ q. omega arith in
+      let b : i ≡ 16 + k → ⊥ = λ q. omega arith in
+      let d : i ≡ 32 + k → ⊥ = λ q. omega arith in
       simp getD-set-other
 
 pub length-stepped : (w : List ℕ) (k wait work need : ℕ) → length (steppedWords w k wait work need) ≡ length w

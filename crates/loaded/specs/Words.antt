@@ -1,12 +1,12 @@
 -- The words in which the machine is kept: its processors, the stamps, the tasks' needs, and the commands of all programmes, decoded; below 4,096 in all.
 --
---   4 * k the number of the next command of processor k, 4 * k + 1 its clock, 4 * k + 2 its store in use, 4 * k + 3 the number of its first command (16 processors)
+--   k the number of the next command of processor k, 16 + k its clock, 32 + k its store in use, 48 + k the number of its first command (16 processors)
 --   64 + k the number behind its last command
 --   80 the count of links, at most 1,024
 --   95 is 0: no message
 --   96 + l for link l 0 while its message is not sent, then one more than the stamp
 --   behind the last stamp, for each task what it needs of the store
---   c command c, behind the last task: lowest how much time a task takes or a message costs, or the bytes that it holds, then the word that it works with, a task's or a message's, then what to do. Behind each programme stands one that receives word 95, and so is never done
+--   c command c, behind the last task: lowest how much time a task takes or a message costs, or the bytes that it holds, then what to do, then the word that it works with, a task's or a message's. Behind each programme stands one that receives word 95, and so is never done
 use Prim.Native.Nat.{ℕ, _+_, _*_, _-_, _%_, _<_, max}
 use mathlib.Core.Path.{_≡_}
 use mathlib.Core.List.{List}
@@ -16,16 +16,16 @@ use Rattle.bundle.specs.Bundle.{Command, run, send, receive}
 
 -- processor k in the words w
 abbrev pub nextIn : List ℕ → ℕ → ℕ
-nextIn w k = getD w (4 * k) 0
+nextIn w k = getD w k 0
 
 abbrev pub clockIn : List ℕ → ℕ → ℕ
-clockIn w k = getD w (4 * k + 1) 0
+clockIn w k = getD w (16 + k) 0
 
 abbrev pub storeIn : List ℕ → ℕ → ℕ
-storeIn w k = getD w (4 * k + 2) 0
+storeIn w k = getD w (32 + k) 0
 
 abbrev pub firstIn : List ℕ → ℕ → ℕ
-firstIn w k = getD w (4 * k + 3) 0
+firstIn w k = getD w (48 + k) 0
 
 abbrev pub lastIn : List ℕ → ℕ → ℕ
 lastIn w k = getD w (64 + k) 0
@@ -39,17 +39,17 @@ NeedsIn s w = (t : ℕ) → t < taskCount s → getD w (taskWord s t) 0 ≡ stor
 
 -- a command's word
 abbrev pub wordOf : Sheet → Command → ℕ
-wordOf s (run t) = 65536 * taskWord s t + workOf s t
-wordOf s (send l) = 2147483648 + 65536 * (96 + l) + costOf s l
-wordOf s (receive l) = 3221225472 + 65536 * (96 + l) + bytesOf s l
+wordOf s (run t) = 2097152 * taskWord s t + workOf s t
+wordOf s (send l) = 2097152 * (96 + l) + 65536 + costOf s l
+wordOf s (receive l) = 2097152 * (96 + l) + 196608 + bytesOf s l
 
 -- the word behind a programme
 abbrev pub endCode : ℕ
-endCode = 3221225472 + 65536 * 95
+endCode = 2097152 * 95 + 196608
 
 -- processor k at a command, a clock and a store
 unfoldable pub placedWords : List ℕ → ℕ → ℕ → ℕ → ℕ → List ℕ
-placedWords w k c clock store = set (set (set w (4 * k + 1) (clock % 4294967296)) (4 * k + 2) (store % 4294967296)) (4 * k) (c % 4294967296)
+placedWords w k c clock store = set (set (set w (16 + k) (clock % 4294967296)) (32 + k) (store % 4294967296)) k (c % 4294967296)
 
 -- processor k behind its next command, which waits for a time, takes a time and needs a store
 unfoldable pub steppedWords : List ℕ → ℕ → ℕ → ℕ → ℕ → List ℕ

@@ -8,7 +8,7 @@ pub fn left(w: &[u32]) -> usize
     let mut n = 0;
     let mut k = 0;
     while k < 16 {
-        n += words::minus(words::word(w, 64 + k), words::word(w, 4 * k));
+        n += words::minus(words::word(w, 64 + k), words::word(w, k));
         k += 1;
     }
     n
@@ -19,7 +19,7 @@ pub fn clock(w: &[u32], k: usize) -> usize
     ensures { λ r. ⌜ ClockIs (now (w .entry)) k r ⌝ }
 {
     if k < 16 {
-        return words::word(w, 4 * k + 1);
+        return words::word(w, 16 + k);
     }
     0
 }
@@ -29,7 +29,7 @@ pub fn position(w: &[u32], k: usize) -> usize
     ensures { λ r. ⌜ PositionIs (now (w .entry)) k r ⌝ }
 {
     if k < 16 {
-        return words::minus(words::word(w, 4 * k), words::word(w, 4 * k + 3));
+        return words::minus(words::word(w, k), words::word(w, 48 + k));
     }
     0
 }
@@ -39,7 +39,7 @@ pub fn store(w: &[u32], k: usize) -> usize
     ensures { λ r. ⌜ StoreIs (now (w .entry)) k r ⌝ }
 {
     if k < 16 {
-        return words::word(w, 4 * k + 2);
+        return words::word(w, 32 + k);
     }
     0
 }

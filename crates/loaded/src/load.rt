@@ -23,7 +23,7 @@ fn load_command(
     if c == 0x52 {
         let t = words::byte(bundle, o + 1);
         let work = words::pair(sheet, 7 + 5 * t);
-        words::put(w, at, work + 65536 * (96 + l + t));
+        words::put(w, at, work + 2097152 * (96 + l + t));
         return 2;
     }
     let i = words::pair(bundle, o + 1);
@@ -32,7 +32,7 @@ fn load_command(
     words::put(
         w,
         at,
-        2147483648 + 1073741824 * receives + 65536 * (96 + i) + amount,
+        65536 + 131072 * receives + 2097152 * (96 + i) + amount,
     );
     3
 }
@@ -57,17 +57,17 @@ fn load_programme(
         from += load_command(sheet, bundle, w, n, l, from, to);
         to += 1;
     }
-    words::put(w, to, 3227451392);
+    words::put(w, to, 199426048);
     to
 }
 
 // Processor k before the first command of a programme between two indices.
 fn open_programme(w: &mut [u32], k: usize, first: usize, last: usize)
     requires { ⌜ k < 16 ⌝ }
-    ensures { λ _. ⌜ now (w .exit) ≡ set (set (set (now (w .entry)) (4 * k) (first % 4294967296)) (4 * k + 3) (first % 4294967296)) (64 + k) (last % 4294967296) ⌝ }
+    ensures { λ _. ⌜ now (w .exit) ≡ set (set (set (now (w .entry)) k (first % 4294967296)) (48 + k) (first % 4294967296)) (64 + k) (last % 4294967296) ⌝ }
 {
-    words::put(w, 4 * k, first);
-    words::put(w, 4 * k + 3, first);
+    words::put(w, k, first);
+    words::put(w, 48 + k, first);
     words::put(w, 64 + k, last);
 }
 
@@ -98,7 +98,7 @@ fn empty_all(w: &mut [u32], c: usize)
     requires { ⌜ c < 4096 ⌝ }
     ensures { λ _. ⌜ EmptyIs (now (w .entry)) (now (w .exit)) c ⌝ }
 {
-    words::put(w, c, 3227451392);
+    words::put(w, c, 199426048);
     let mut k = 0;
     while k < 16 {
         open_programme(w, k, c, c);

@@ -18,9 +18,9 @@ fn processor(w: &[u32], k: usize) -> Processor
     ensures { λ p. ⌜ (p .clock ≡ clockIn (now (w .entry)) k) × (p .position ≡ nextIn (now (w .entry)) k) × (p .store ≡ storeIn (now (w .entry)) k) × Narrow p ⌝ }
 {
     Processor {
-        clock: words::word(w, 4 * k + 1),
-        position: words::word(w, 4 * k),
-        store: words::word(w, 4 * k + 2),
+        clock: words::word(w, 16 + k),
+        position: words::word(w, k),
+        store: words::word(w, 32 + k),
     }
 }
 
@@ -29,9 +29,9 @@ fn place(w: &mut [u32], k: usize, p: Processor)
     requires { ⌜ k < 16 ⌝ }
     ensures { λ _. ⌜ now (w .exit) ≡ placedWords (now (w .entry)) k (p .position) (p .clock) (p .store) ⌝ }
 {
-    words::put(w, 4 * k + 1, p.clock);
-    words::put(w, 4 * k + 2, p.store);
-    words::put(w, 4 * k, p.position);
+    words::put(w, 16 + k, p.clock);
+    words::put(w, 32 + k, p.store);
+    words::put(w, k, p.position);
 }
 
 // Processor k does its next command, which waits for a time, takes a time and needs a store.
@@ -48,7 +48,7 @@ fn send(w: &mut [u32], k: usize, amount: usize, i: usize)
     requires { ⌜ (k < 16) × (amount < 4294967296) ⌝ }
     ensures { λ _. ⌜ now (w .exit) ≡ sentWords (now (w .entry)) k amount i ⌝ }
 {
-    let stamp = words::word(w, 4 * k + 1) + amount + 1;
+    let stamp = words::word(w, 16 + k) + amount + 1;
     go_on(w, k, 0, 0, 0);
     words::put(w, i, stamp);
 }
@@ -71,15 +71,15 @@ fn command(w: &mut [u32], k: usize) -> bool
     requires { ⌜ k < 16 ⌝ }
     ensures { λ r. ⌜ StepIs Keeps (now (w .entry)) (now (w .exit)) k r ⌝ }
 {
-    let x = words::word(w, words::word(w, 4 * k));
-    let i = x / 65536 % 2048;
+    let x = words::word(w, words::word(w, k));
+    let i = x / 2097152;
     let amount = x % 65536;
-    if x < 2147483648 {
+    if x / 65536 % 2 == 0 {
         let need = words::word(w, i);
         go_on(w, k, 0, amount, need);
         return true;
     }
-    if x < 3221225472 {
+    if x / 131072 % 2 == 0 {
         send(w, k, amount, i);
         return true;
     }

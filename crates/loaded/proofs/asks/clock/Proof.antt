@@ -11,4 +11,4 @@ returns-2 : tie.Need-returns-2
 returns-2 c = no-clock _ _ 0 (c .if1 .left)
 
 pub clock-spec : {M : Type 1} → statement M
-clock-spec = tie.close (tie.spec (λ c. search needs) (λ c. search needs) (λ c κs. search needs) returns returns-2)
+clock-spec = tie.close (tie.spec (λ c. search needs) (λ c κs. search needs) returns returns-2)

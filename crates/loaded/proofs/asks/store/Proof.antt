@@ -11,4 +11,4 @@ returns-2 : tie.Need-returns-2
 returns-2 c = no-store _ _ 0 (c .if1 .left)
 
 pub store-spec : {M : Type 1} → statement M
-store-spec = tie.close (tie.spec (λ c. search needs) (λ c. search needs) (λ c κs. search needs) returns returns-2)
+store-spec = tie.close (tie.spec (λ c. search needs) (λ c κs. search needs) returns returns-2)

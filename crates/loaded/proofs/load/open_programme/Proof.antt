@@ -10,9 +10,7 @@ pub open-programme-spec : {M : Type 1} → statement M
 open-programme-spec =
     tie.close
     (tie.spec
-    (λ c. search needs)
     (λ c κs. search needs)
-    (λ c. search needs)
     (λ c. search needs)
     (λ c κs. search needs)
     (λ c. search needs)
