@@ -8,14 +8,15 @@ mod cases;
 mod steps;
 mod timing;
 
-use calls::CALLS;
+use calls::{Measure, CALLS};
 use std::process::ExitCode;
 use std::{env, fs};
-use timing::Pair;
+use timing::{in_passes, Pair};
 
 /// How it is measured.
 const HEAD: &str = "\
-Microseconds a call, bytes to bytes; ratio of the medians, product to rewrite.
+Microseconds a call, bytes to bytes; ratio of the medians, product to rewrite. There are seven passes
+over all lines: least of all, and the medians of the pass with the middle ratio.
 The largest sheets have 256 tasks, 1,024 links and 16 processors, the typical ones 40, 80 and 8.
 Lent buffers are made once, outside the timing, and not cleared between calls. Within the times are
 that the product clears its work area in each call, and that the rewrite allocates its tables.
@@ -43,15 +44,16 @@ fn all_calls() {
         "{:<17}{:<10}{:>10}{:>10}{:>10}{:>10}{:>7}",
         "sheet", "call", "least", "median", "least", "median", "ratio"
     );
+    let cases = cases::all();
+    let lines: Vec<_> =
+        cases.iter().flat_map(|case| CALLS.map(|(call, measure)| (case, call, measure))).collect();
+    let jobs: Vec<_> = lines.iter().map(|&(case, _, measure)| move || measure(case)).collect();
     let mut slower = Vec::new();
-    for case in cases::all() {
-        for (call, measure) in CALLS {
-            let pair = measure(&case);
-            let line = row(&case.name, call, &pair);
-            println!("{line}");
-            if pair.ratio() > 1.0 {
-                slower.push(line);
-            }
+    for ((case, call, _), pair) in lines.iter().zip(in_passes(&jobs)) {
+        let line = row(&case.name, call, &pair);
+        println!("{line}");
+        if pair.ratio() > 1.0 {
+            slower.push(line);
         }
     }
     println!("\nRatio above 1.0: {} lines", slower.len());
@@ -70,12 +72,15 @@ fn growth() {
     println!("On {}; medians in microseconds, least in brackets.\n", processor());
     println!("| tasks | links | plan, product | plan, rewrite | check, product | check, rewrite |");
     println!("|---|---|---|---|---|---|");
-    for tasks in [16, 32, 64, 128, 256] {
-        let case = cases::of_size(tasks);
-        let cells = [calls::plan(&case), calls::check(&case)].map(|Pair { product, rewrite }| {
-            [product, rewrite].map(|times| format!("{:.1} ({:.1})", times.median, times.least))
-        });
-        println!("| {tasks} | {} | {} |", 4 * tasks, cells.concat().join(" | "));
+    let cases = [16, 32, 64, 128, 256].map(cases::of_size);
+    let calls: [Measure; 2] = [calls::plan, calls::check];
+    let jobs: Vec<_> =
+        cases.iter().flat_map(|case| calls.map(|measure| move || measure(case))).collect();
+    for (case, pairs) in cases.iter().zip(in_passes(&jobs).chunks(calls.len())) {
+        let times = pairs.iter().flat_map(|pair| [pair.product, pair.rewrite]);
+        let cells = times.map(|times| format!("{:.1} ({:.1})", times.median, times.least));
+        let tasks: usize = case.name.parse().expect("a number of tasks");
+        println!("| {tasks} | {} | {} |", 4 * tasks, cells.collect::<Vec<_>>().join(" | "));
     }
 }
 
