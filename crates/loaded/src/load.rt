@@ -1,6 +1,6 @@
 // The programmes of a bundle, decoded into words, and the fresh state.
 ghost use mathlib.Core.Path.{_≡_};
-ghost use Prim.Native.Nat.{_+_, _*_, _%_, _≤_, _<_};
+ghost use Prim.Native.Nat.{_+_, _%_, _≤_, _<_};
 ghost use lib.ListN.{set};
 ghost use Rattle.loaded.specs.Loads.{CommandIs, ProgrammeIs, LoadIs};
 ghost use Rattle.loaded.specs.Opened.{WipeIs, NeedsIs, EmptyIs, OneIs, AllIs};
