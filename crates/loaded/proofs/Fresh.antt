@@ -22,7 +22,7 @@ use Rattle.messages.proofs.Weights.{weigh-each}
 use Rattle.machine.specs.Machine.{Processor, freshProcessor, freshState, processorOf, stampOf, stampIn}
 use Rattle.machine.specs.Runs.{left}
 use Rattle.machine.proofs.Runs.{fresh-processor, fresh-left}
-use Rattle.loaded.specs.Words.{nextIn, clockIn, storeIn, firstIn, lastIn, taskWord, NeedsIn}
+use Rattle.loaded.specs.Words.{nextIn, clockIn, storeIn, firstIn, lastIn, taskWord, NeedsIn, openedWords}
 use Rattle.loaded.specs.Keeps.{Decoded, Keeps}
 use Rattle.loaded.specs.Loads.{ProgrammeIs, LoadIs}
 use Rattle.loaded.proofs.Loading.{decoded-same}
@@ -64,54 +64,71 @@ pub needs-all : (sheet w last : List ℕ) (n t l : ℕ) → t ≡ n → NeedsIs 
 needs-all sheet w last n t l e g = subst (λ (x : ℕ). NeedsIs sheet w last x l) e g
 
 -- processor k put before the first command of a programme from the index x to the index y
-module _ (w last : List ℕ) (k x y : ℕ) (el : last ≡ set (set (set w k x) (48 + k) x) (64 + k) y) where
+module _ (w last : List ℕ) (k x y : ℕ) (el : last ≡ openedWords w k x y) where
   placed-long : length last ≡ length w
-  placed-long = ap length el ∙ length-set (set (set w k x) (48 + k) x) (64 + k) y ∙ length-set (set w k x) (48 + k) x ∙ length-set w k x
+  unfolding openedWords
+  placed-long = ap length el ∙ simp length-set
 
-  placed-other : (i : ℕ) → (i ≡ k → ⊥) → (i ≡ 48 + k → ⊥) → (i ≡ 64 + k → ⊥) → getD last i 0 ≡ getD w i 0
-  placed-other i a b c =
-      ap (λ (l : List ℕ). getD l i 0) el
-      ∙ getD-set-other (set (set w k x) (48 + k) x) (64 + k) i y 0 c
-      ∙ getD-set-other (set w k x) (48 + k) i x 0 b
-      ∙ getD-set-other w k i x 0 a
+  placed-other : (i : ℕ) → (i ≡ k → ⊥) → (i ≡ 16 + k → ⊥) → (i ≡ 48 + k → ⊥) → (i ≡ 64 + k → ⊥) → getD last i 0 ≡ getD w i 0
+  unfolding openedWords
+  placed-other i a b c d = ap (λ (l : List ℕ). getD l i 0) el ∙ simp getD-set-other
 
   module _ (near : k < 16) where
     placed-high : (i : ℕ) → 80 ≤ i → getD last i 0 ≡ getD w i 0
-    placed-high i h = placed-other i (λ z. omega arith) (λ z. omega arith) (λ z. omega arith)
-
-    placed-clock : (j : ℕ) → j < 16 → clockIn last j ≡ clockIn w j
-    placed-clock j h = placed-other (16 + j) (λ z. omega arith) (λ z. omega arith) (λ z. omega arith)
+    placed-high i h = placed-other i (λ z. omega arith) (λ z. omega arith) (λ z. omega arith) (λ z. omega arith)
 
     placed-store : (j : ℕ) → j < 16 → storeIn last j ≡ storeIn w j
-    placed-store j h = placed-other (32 + j) (λ z. omega arith) (λ z. omega arith) (λ z. omega arith)
+    placed-store j h = placed-other (32 + j) (λ z. omega arith) (λ z. omega arith) (λ z. omega arith) (λ z. omega arith)
 
     module _ (j : ℕ) (h : j < 16) (d : j ≡ k → ⊥) where
       placed-next-else : nextIn last j ≡ nextIn w j
-      placed-next-else = placed-other j (λ z. d (omega arith)) (λ z. omega arith) (λ z. omega arith)
+      placed-next-else = placed-other j (λ z. d (omega arith)) (λ z. omega arith) (λ z. omega arith) (λ z. omega arith)
+
+      placed-clock-else : clockIn last j ≡ clockIn w j
+      placed-clock-else = placed-other (16 + j) (λ z. omega arith) (λ z. d (omega arith)) (λ z. omega arith) (λ z. omega arith)
 
       placed-first-else : firstIn last j ≡ firstIn w j
-      placed-first-else = placed-other (48 + j) (λ z. omega arith) (λ z. d (omega arith)) (λ z. omega arith)
+      placed-first-else = placed-other (48 + j) (λ z. omega arith) (λ z. omega arith) (λ z. d (omega arith)) (λ z. omega arith)
 
       placed-last-else : lastIn last j ≡ lastIn w j
-      placed-last-else = placed-other (64 + j) (λ z. omega arith) (λ z. omega arith) (λ z. d (omega arith))
+      placed-last-else = placed-other (64 + j) (λ z. omega arith) (λ z. omega arith) (λ z. omega arith) (λ z. d (omega arith))
 
     module _ (long : fixed ≤ length w) where
+      abbrev u1 : List ℕ
+      u1 = set w k x
+
+      abbrev u2 : List ℕ
+      u2 = set u1 (16 + k) 1
+
+      abbrev u3 : List ℕ
+      u3 = set u2 (48 + k) x
+
       placed-last : lastIn last k ≡ y
-      placed-last =
-          ap (λ (l : List ℕ). getD l (64 + k) 0) el
-          ∙ getD-set-same (set (set w k x) (48 + k) x) (64 + k) y 0 (simp length-set (omega arith))
+      unfolding openedWords
+      placed-last = ap (λ (l : List ℕ). getD l (64 + k) 0) el ∙ getD-set-same u3 (64 + k) y 0 (simp length-set (omega arith))
 
       placed-first : firstIn last k ≡ x
+      unfolding openedWords
       placed-first =
           ap (λ (l : List ℕ). getD l (48 + k) 0) el
-          ∙ getD-set-other (set (set w k x) (48 + k) x) (64 + k) (48 + k) y 0 (λ z. omega arith)
-          ∙ getD-set-same (set w k x) (48 + k) x 0 (simp length-set (omega arith))
+          ∙ getD-set-other u3 (64 + k) (48 + k) y 0 (λ z. omega arith)
+          ∙ getD-set-same u2 (48 + k) x 0 (simp length-set (omega arith))
+
+      placed-clock : clockIn last k ≡ 1
+      unfolding openedWords
+      placed-clock =
+          ap (λ (l : List ℕ). getD l (16 + k) 0) el
+          ∙ getD-set-other u3 (64 + k) (16 + k) y 0 (λ z. omega arith)
+          ∙ getD-set-other u2 (48 + k) (16 + k) x 0 (λ z. omega arith)
+          ∙ getD-set-same u1 (16 + k) 1 0 (simp length-set (omega arith))
 
       placed-next : nextIn last k ≡ x
+      unfolding openedWords
       placed-next =
           ap (λ (l : List ℕ). getD l k 0) el
-          ∙ getD-set-other (set (set w k x) (48 + k) x) (64 + k) k y 0 (λ z. omega arith)
-          ∙ getD-set-other (set w k x) (48 + k) k x 0 (λ z. omega arith)
+          ∙ getD-set-other u3 (64 + k) k y 0 (λ z. omega arith)
+          ∙ getD-set-other u2 (48 + k) k x 0 (λ z. omega arith)
+          ∙ getD-set-other u1 (16 + k) k 1 0 (λ z. omega arith)
           ∙ getD-set-same w k x 0 (omega arith)
 
 -- the first k processors have the empty programme at command c, in the words w that were v
@@ -120,7 +137,7 @@ pub record Emptying (v w : List ℕ) (c k : ℕ) : Type 0 where
   pub next : fixed ≤ length v → (j : ℕ) → j < k → nextIn w j ≡ c
   pub first : fixed ≤ length v → (j : ℕ) → j < k → firstIn w j ≡ c
   pub last : fixed ≤ length v → (j : ℕ) → j < k → lastIn w j ≡ c
-  pub clock : (j : ℕ) → j < 16 → clockIn w j ≡ clockIn v j
+  pub clock : fixed ≤ length v → (j : ℕ) → j < k → clockIn w j ≡ 1
   pub store : (j : ℕ) → j < 16 → storeIn w j ≡ storeIn v j
   pub other : (i : ℕ) → 80 ≤ i → getD w i 0 ≡ getD v i 0
 
@@ -131,17 +148,17 @@ emptying-starts v c =
       next = λ f j l. absurd (omega arith);
       first = λ f j l. absurd (omega arith);
       last = λ f j l. absurd (omega arith);
-      clock = λ j l. refl;
+      clock = λ f j l. absurd (omega arith);
       store = λ j l. refl;
       other = λ i h. refl;
     }
 
 pub emptying-more : (v w u : List ℕ) (c k : ℕ) → c < 4096 → k < 16 → Emptying v w c k
-    → u ≡ set (set (set w k (c % 4294967296)) (48 + k) (c % 4294967296)) (64 + k) (c % 4294967296) → Emptying v u c (k + 1)
+    → u ≡ openedWords w k (c % 4294967296) (c % 4294967296) → Emptying v u c (k + 1)
 emptying-more v w u c k most near g en =
     let fits : fixed ≤ length v → fixed ≤ length w = λ f. omega (arith, g .long) in
     let whole : c % 4294967296 ≡ c = omega arith in
-    let el : u ≡ set (set (set w k c) (48 + k) c) (64 + k) c = en ∙ ap (λ (x : ℕ). set (set (set w k x) (48 + k) x) (64 + k) x) whole in
+    let el : u ≡ openedWords w k c c = en ∙ ap (λ (x : ℕ). openedWords w k x x) whole in
     record {
       long = placed-long w u k c c el ∙ g .long;
       next =
@@ -156,21 +173,24 @@ emptying-more v w u c k most near g en =
           λ f j l.
           ⊎-elim (λ (h : j < k). placed-last-else w u k c c el near j (omega arith) (λ z. omega arith) ∙ g .last f j h)
           (λ (q : j ≡ k). rw q (placed-last w u k c c el near (fits f))) (below-suc (rw add-one at l));
-      clock = λ j l. placed-clock w u k c c el near j l ∙ g .clock j l;
+      clock =
+          λ f j l.
+          ⊎-elim (λ (h : j < k). placed-clock-else w u k c c el near j (omega arith) (λ z. omega arith) ∙ g .clock f j h)
+          (λ (q : j ≡ k). rw q (placed-clock w u k c c el near (fits f))) (below-suc (rw add-one at l));
       store = λ j l. placed-store w u k c c el near j l ∙ g .store j l;
       other = λ i h. placed-high w u k c c el near i h ∙ g .other i h;
     }
 
-pub emptied : (w v last : List ℕ) (c k : ℕ) → c < 4096 → 16 ≤ k → v ≡ set w c (199426048 % 4294967296) → Emptying v last c k → EmptyIs w last c
+pub emptied : (w v last : List ℕ) (c k : ℕ) → c < 4096 → 16 ≤ k → v ≡ set w c (196608 % 4294967296) → Emptying v last c k → EmptyIs w last c
 emptied w v last c k most all ev g =
     record {
       long = g .long ∙ lv;
       opened =
           λ s long ranged behind blank stores.
           let f : fixed ≤ length v = omega (arith, lv) in
-          let same : (i : ℕ) → i < taskWord s (taskCount s) → getD v i 0 ≡ getD w i 0 = λ i h. ap (λ (l : List ℕ). getD l i 0) ev ∙ getD-set-other w c i 199426048 0 (λ z. omega arith) in
+          let same : (i : ℕ) → i < taskWord s (taskCount s) → getD v i 0 ≡ getD w i 0 = λ i h. ap (λ (l : List ℕ). getD l i 0) ev ∙ getD-set-other w c i 196608 0 (λ z. omega arith) in
           let low : (i : ℕ) → i < 96 + linkCount s → (i ≡ 80 → ⊥) → getD v i 0 ≡ 0 = λ i h d. same i (omega arith) ∙ blank .zeros i h d in
-          let end : getD last c 0 ≡ 199426048 = g .other c (omega arith) ∙ ap (λ (l : List ℕ). getD l c 0) ev ∙ getD-set-same w c 199426048 0 (omega arith) in
+          let end : getD last c 0 ≡ 196608 = g .other c (omega arith) ∙ ap (λ (l : List ℕ). getD l c 0) ev ∙ getD-set-same w c 196608 0 (omega arith) in
           record {
             long = omega (arith, g .long);
             opens =
@@ -178,12 +198,12 @@ emptied w v last c k most all ev g =
                 let e : firstIn last j ≡ c = g .first f j (omega arith) in
                 record {
                   next = g .next f j (omega arith) ∙ sym e;
+                  clock = g .clock f j (omega arith);
                   low = omega arith;
                   high = omega arith;
                   last = g .last f j (omega arith) ∙ omega arith;
                   decoded = rw e (record { known = λ i l. absurd (omega arith); word = λ i l. absurd (omega arith); end = ap (λ (i : ℕ). getD last i 0) (omega arith) ∙ end });
                 };
-            clock = λ j h. g .clock j h ∙ low (16 + j) (omega arith) (λ z. omega arith);
             store = λ j h. g .store j h ∙ low (32 + j) (omega arith) (λ z. omega arith);
             links = g .other 80 (omega arith) ∙ same 80 (omega arith) ∙ blank .links;
             needs = λ t h. g .other (taskWord s t) (omega arith) ∙ same (taskWord s t) (omega arith) ∙ stores t h;
@@ -192,12 +212,12 @@ emptied w v last c k most all ev g =
     }
   where
     lv : length v ≡ length w
-    lv = ap length ev ∙ length-set w c 199426048
+    lv = ap length ev ∙ length-set w c 196608
 
 -- one programme more, from command c on
 module _ (sheet bundle from w u last : List ℕ) (n l k c x e r : ℕ) (near : k < 16) (ex : x ≡ getD from k 0) (ee : e ≡ getD from (k + 1) 0) (fe : e < 4294967296)
     (pr : (r ≤ c + e + 2) × ProgrammeIs sheet bundle w u n l (x + 2) e c r)
-    (el : last ≡ set (set (set u k (c % 4294967296)) (48 + k) (c % 4294967296)) (64 + k) (r % 4294967296)) where
+    (el : last ≡ openedWords u k (c % 4294967296) (r % 4294967296)) where
   module _ (s : Sheet) (ps qs : List (List Command)) (same : (j : ℕ) → (j ≡ k → ⊥) → getD qs j [] ≡ getD ps j []) (room : c + length (getD qs k []) < 4095) (g : Opened s w c ps)
       (er : r ≡ c + length (getD qs k [])) (decoded : Decoded s u c (getD qs k []))
       (other : (i : ℕ) → (i < c) ⊎ (c + length (getD qs k []) < i) → getD u i 0 ≡ getD w i 0) where
@@ -223,6 +243,7 @@ module _ (sheet bundle from w u last : List ℕ) (n l k c x e r : ℕ) (near : k
         let b = behind in
         record {
           next = placed-next u last k _ _ el near fits ∙ c-fits ∙ sym f;
+          clock = placed-clock u last k _ _ el near fits;
           low = omega arith;
           high = omega arith;
           last = placed-last u last k _ _ el near fits ∙ r-fits ∙ omega arith;
@@ -239,6 +260,7 @@ module _ (sheet bundle from w u last : List ℕ) (n l k c x e r : ℕ) (near : k
         let f : firstIn last j ≡ firstIn w j = placed-first-else u last k _ _ el near j h d ∙ low (48 + j) (omega arith) in
         record {
           next = placed-next-else u last k _ _ el near j h d ∙ low j (omega arith) ∙ o .next ∙ sym f;
+          clock = placed-clock-else u last k _ _ el near j h d ∙ low (16 + j) (omega arith) ∙ o .clock;
           low = omega (arith, o .low);
           high = omega (arith, o .high);
           last = placed-last-else u last k _ _ el near j h d ∙ low (64 + j) (omega arith) ∙ o .last ∙ omega arith;
@@ -253,7 +275,6 @@ module _ (sheet bundle from w u last : List ℕ) (n l k c x e r : ℕ) (near : k
         record {
           long = omega (arith, fits, placed-long u last k _ _ el);
           opens = λ j h. ⊎-elim (λ (q : j ≡ k). rw q own) (λ (d : j ≡ k → ⊥). rw (same j d) (else j h d)) (equal-or j k);
-          clock = λ j h. placed-clock u last k _ _ el near j h ∙ low (16 + j) (omega arith) ∙ g .clock j h;
           store = λ j h. placed-store u last k _ _ el near j h ∙ low (32 + j) (omega arith) ∙ g .store j h;
           links = placed-high u last k _ _ el near 80 (omega arith) ∙ low 80 (omega arith) ∙ g .links;
           needs = λ t h. placed-high u last k _ _ el near (taskWord s t) (omega arith) ∙ low (taskWord s t) (omega arith) ∙ g .needs t h;
@@ -341,8 +362,7 @@ module _ (sheet bundle from v : List ℕ) (m n l first : ℕ) (near : first ≤ 
               opens =
                   λ j h.
                   let z = q .opens j h in
-                  record { next = z .next; low = z .low; high = omega (arith, z .high); last = z .last; decoded = z .decoded };
-              clock = q .clock;
+                  record { next = z .next; clock = z .clock; low = z .low; high = omega (arith, z .high); last = z .last; decoded = z .decoded };
               store = q .store;
               links = q .links;
               needs = q .needs;
@@ -380,7 +400,7 @@ module _ (sheet bundle from w : List ℕ) (m n l : ℕ) (s : Sheet) (b : Bundle)
         stamps = length-replicate (linkCount s) none;
         inside = λ k h. omega (arith, position k);
         next = λ k h. g .opens k h .next ∙ omega (arith, position k);
-        clock = λ k h. g .clock k h ∙ sym (clock k);
+        clock = λ k h. omega (arith, g .opens k h .clock, clock k);
         store = λ k h. g .store k h ∙ sym (store k);
         stamp = λ l h. ap stampIn (g .zeros (96 + l) (omega arith) (omega arith)) ∙ sym (stampless l);
         room = λ k h. (omega (arith, clock k), omega (arith, store k));

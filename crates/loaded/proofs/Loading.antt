@@ -4,11 +4,13 @@ use mathlib.Core.Path.{_≡_, refl, sym, ap, _∙_, subst}
 use mathlib.Core.Logic.{_⊎_, inl, inr, ⊎-elim}
 use mathlib.Core.List.{List, [], _∷_}
 use native.Mathlib.Omega.{arith}
+use native.Mathlib.Decide.{decLt}
 use lib.ListN.{length, getD, set, drop, length-set}
 use lib.Seq.{getD-set-same, getD-set-other}
+use borrow.Author.Tests.{lt-ltb, le-ltb}
 use Rattle.folds.proofs.Tests.{below-suc}
 use Rattle.numbers.specs.Number.{numberAt}
-use Rattle.sheet.specs.Sheet.{Sheet, taskCount, linkCount, workOf, costOf, bytesOf}
+use Rattle.sheet.specs.Sheet.{Sheet, taskCount, linkCount, workOf, storeOf, costOf, bytesOf}
 use Rattle.bundle.specs.Bundle.{Command, run, send, receive}
 use Rattle.bundle.specs.Fits.{Known}
 use Rattle.bundle.specs.Lies.{sizeOf, Stands, Lies}
@@ -16,15 +18,24 @@ use Rattle.bundle.proofs.Lying.{lies-next, lies-none}
 use Rattle.messages.specs.Fields.{Fields}
 use Rattle.messages.proofs.Noted.{stands-known}
 use Rattle.messages.proofs.Walking.{stands-run, drop-short}
-use Rattle.loaded.specs.Words.{wordOf}
+use Rattle.loaded.specs.Words.{runWord, wordOf}
 use Rattle.loaded.specs.Keeps.{Decoded}
 use Rattle.loaded.specs.Loads.{CommandIs, ProgrammeIs}
 
+-- a run's word is one of two
+pub run-word : (work need number x : ℕ) → x ≡ runWord work need number → ((need < 32768) × (x ≡ 131072 * need + work)) ⊎ (x ≡ 2097152 * number + 458752 + work)
+unfolding runWord
+run-word work need number x e =
+    elim (decLt need 32768) [
+      | yes l ↦ inl (l, e ∙ rw (lt-ltb need 32768 l) refl)
+      | no l ↦ inr (e ∙ rw (le-ltb need 32768 (omega arith)) refl)
+    ]
+
 module _ (sheet bundle w last : List ℕ) (n l o at : ℕ) where
   -- a run
-  pub ran : (t work : ℕ) → l ≤ 1024 → getD bundle o 0 ≡ 0x52 → t ≡ getD bundle (o + 1) 0 → t < 256 → work ≡ numberAt 2 sheet (7 + 5 * t) → work < 65536
-      → last ≡ set w at ((work + 2097152 * (96 + l + t)) % 4294967296) → CommandIs sheet bundle w last n l o at 2
-  ran t work most q et ft ew fw el =
+  pub ran : (t work need word : ℕ) → l ≤ 1024 → getD bundle o 0 ≡ 0x52 → t ≡ getD bundle (o + 1) 0 → t < 256 → work ≡ numberAt 2 sheet (7 + 5 * t) → work < 65536
+      → need ≡ numberAt 2 sheet (9 + 5 * t) → need < 65536 → word ≡ runWord work need (1 + l + t) → last ≡ set w at (word % 4294967296) → CommandIs sheet bundle w last n l o at 2
+  ran t work need word most q et ft ew fw es fs er el =
       record {
         long = ap length el ∙ length-set w at _;
         some = omega arith;
@@ -32,8 +43,11 @@ module _ (sheet bundle w last : List ℕ) (n l o at : ℕ) where
         is =
             λ s c fields en links stands.
             let z = stands-run (taskCount s) (linkCount s) bundle o c stands q in
-            let y : work ≡ workOf s t = ew ∙ fields .work t (rw (sym et) at (z .1)) in
-            let x : (work + 2097152 * (96 + l + t)) % 4294967296 ≡ wordOf s (run t) = omega arith in
+            let here = rw (sym et) at (z .1) in
+            let y : work ≡ workOf s t = ew ∙ fields .work t here in
+            let a : need ≡ storeOf s t = es ∙ fields .store t here in
+            let fits : word % 4294967296 ≡ word = ⊎-elim (λ (h : (need < 32768) × (word ≡ 131072 * need + work)). omega (arith, h .0, h .1)) (λ (h : word ≡ 2097152 * (1 + l + t) + 458752 + work). omega arith) (run-word work need (1 + l + t) word er) in
+            let x : word % 4294967296 ≡ wordOf s (run t) = fits ∙ er ∙ rw (y, a, sym links) refl in
             let k : c ≡ run t = z .0 ∙ ap run (sym et) in
             subst (λ (d : Command). (last ≡ set w at (wordOf s d)) × (2 ≡ sizeOf d)) (sym k) (el ∙ ap (set w at) x, refl);
       }
@@ -41,7 +55,7 @@ module _ (sheet bundle w last : List ℕ) (n l o at : ℕ) where
   -- a send or a receive
   pub told : (i r amount : ℕ) → l ≤ 1024 → (getD bundle o 0 ≡ 0x52 → ⊥) → r ≡ getD bundle o 0 / 0x56 → i ≡ numberAt 2 bundle (o + 1) → i < 65536
       → amount ≡ numberAt 2 sheet (9 + 5 * n + 7 * i + 2 * r) → amount < 65536
-      → last ≡ set w at ((65536 + 131072 * r + 2097152 * (96 + i) + amount) % 4294967296) → CommandIs sheet bundle w last n l o at 3
+      → last ≡ set w at ((65536 + 131072 * r + 2097152 * (1 + i) + amount) % 4294967296) → CommandIs sheet bundle w last n l o at 3
   told i r amount most q er et fi ea fa el =
       record {
         long = ap length el ∙ length-set w at _;
@@ -50,8 +64,8 @@ module _ (sheet bundle w last : List ℕ) (n l o at : ℕ) where
         is = by;
       }
     where
-      these : (x : ℕ) → 65536 + 131072 * r + 2097152 * (96 + i) + amount ≡ x → x < 4294967296 → last ≡ set w at x
-      these x e f = let d : (65536 + 131072 * r + 2097152 * (96 + i) + amount) % 4294967296 ≡ x = omega arith in el ∙ ap (set w at) d
+      these : (x : ℕ) → 65536 + 131072 * r + 2097152 * (1 + i) + amount ≡ x → x < 4294967296 → last ≡ set w at x
+      these x e f = let d : (65536 + 131072 * r + 2097152 * (1 + i) + amount) % 4294967296 ≡ x = omega arith in el ∙ ap (set w at) d
 
       by : (s : Sheet) (c : Command) → Fields s sheet → taskCount s ≡ n → linkCount s ≡ l → Stands (taskCount s) (linkCount s) bundle o c
           → (last ≡ set w at (wordOf s c)) × (3 ≡ sizeOf c)
@@ -60,13 +74,13 @@ module _ (sheet bundle w last : List ℕ) (n l o at : ℕ) where
           let z : r ≡ 0 = omega (arith, h .0) in
           let j : 9 + 5 * n + 7 * i + 2 * r ≡ 9 + 5 * taskCount s + 7 * x = omega (arith, h .1) in
           let e : amount ≡ costOf s x = ea ∙ ap (numberAt 2 sheet) j ∙ fields .cost x (h .2) in
-          let d : 65536 + 131072 * r + 2097152 * (96 + i) + amount ≡ wordOf s (send x) = omega (arith, h .1) in
+          let d : 65536 + 131072 * r + 2097152 * (1 + i) + amount ≡ wordOf s (send x) = omega (arith, h .1) in
           (these (wordOf s (send x)) d (omega (arith, h .2)), refl)
       by s (receive x) fields en links h =
           let z : r ≡ 1 = omega (arith, h .0) in
           let j : 9 + 5 * n + 7 * i + 2 * r ≡ 11 + 5 * taskCount s + 7 * x = omega (arith, h .1) in
           let e : amount ≡ bytesOf s x = ea ∙ ap (numberAt 2 sheet) j ∙ fields .bytes x (h .2) in
-          let d : 65536 + 131072 * r + 2097152 * (96 + i) + amount ≡ wordOf s (receive x) = omega (arith, h .1) in
+          let d : 65536 + 131072 * r + 2097152 * (1 + i) + amount ≡ wordOf s (receive x) = omega (arith, h .1) in
           (these (wordOf s (receive x)) d (omega (arith, h .2)), refl)
 
 -- commands stand in other words that agree from the first of them up to the index z
@@ -159,19 +173,19 @@ module _ (sheet bundle v : List ℕ) (n l o e at : ℕ) where
           is = λ s cs fields en links lies room. part-more s cs fields en links room (g .is s cs fields en links lies room);
         }
 
-  module _ (w last : List ℕ) (from to : ℕ) (g : Loading sheet bundle v w n l o e at from to) (over : e ≤ from) (el : last ≡ set w to (199426048 % 4294967296)) where
+  module _ (w last : List ℕ) (from to : ℕ) (g : Loading sheet bundle v w n l o e at from to) (over : e ≤ from) (el : last ≡ set w to (196608 % 4294967296)) where
     ended : (s : Sheet) (cs : List Command) → at + length cs < length v → Part s bundle v w e at from to cs
         → (to ≡ at + length cs) × Decoded s last at cs × ((i : ℕ) → (i < at) ⊎ (at + length cs < i) → getD last i 0 ≡ getD v i 0)
     ended s cs room p =
         let all : p .count ≡ length cs = omega (arith, p .few, drop-short cs (p .count) (lies-none (taskCount s) (linkCount s) bundle (p .lies) over)) in
         let behind : to ≡ at + length cs = omega (arith, p .behind) in
         let inside : to < length w = omega (arith, g .long) in
-        let same : (i : ℕ) → (i ≡ to → ⊥) → getD last i 0 ≡ getD w i 0 = λ i d. ap (λ (l : List ℕ). getD l i 0) el ∙ getD-set-other w to i 199426048 0 d in (
+        let same : (i : ℕ) → (i ≡ to → ⊥) → getD last i 0 ≡ getD w i 0 = λ i d. ap (λ (l : List ℕ). getD l i 0) el ∙ getD-set-other w to i 196608 0 d in (
           behind,
           record {
             known = λ i l. p .known i (omega arith);
             word = λ i l. same (at + i) (λ z. omega arith) ∙ p .word i (omega arith);
-            end = ap (λ (i : ℕ). getD last i 0) (sym behind) ∙ ap (λ (l : List ℕ). getD l to 0) el ∙ getD-set-same w to 199426048 0 inside;
+            end = ap (λ (i : ℕ). getD last i 0) (sym behind) ∙ ap (λ (l : List ℕ). getD l to 0) el ∙ getD-set-same w to 196608 0 inside;
           },
           λ i l.
               ⊎-elim (λ (a : i < at). same i (λ z. omega arith) ∙ p .other i (inl a)) (λ (a : at + length cs < i). same i (λ z. omega arith) ∙ p .other i (inr (omega arith))) l,
@@ -181,7 +195,7 @@ module _ (sheet bundle v : List ℕ) (n l o e at : ℕ) where
     loading-ends = (
       omega (arith, g .low, g .near),
       record {
-        long = ap length el ∙ length-set w to 199426048 ∙ g .long;
+        long = ap length el ∙ length-set w to 196608 ∙ g .long;
         is = λ s cs fields en links lies room. ended s cs room (g .is s cs fields en links lies room);
       },
     )

@@ -85,7 +85,7 @@ module _ (s : Sheet) (b : Bundle) (w : List ℕ) (σ : State) (h : Keeps s b w �
   module _
       (c : Command) (e : next b σ k ≡ some c) (x : ℕ) (inside : processorOf σ k .position < length (programmeOf b k))
       (works : takes s c < 65536) (needs : need s c < 65536) (waited : x + 65535 * left b σ each ≤ 4294901760) (v : List ℕ)
-      (m : Moved (linkCount s) w v k (nextIn w k + 1) (max (processorOf σ k .clock) x + takes s c) (processorOf σ k .store + need s c)) where
+      (m : Moved (linkCount s) w v k (nextIn w k + 1) (max (processorOf σ k .clock) x + takes s c + 1) (processorOf σ k .store + need s c)) where
     abbrev pub τ : State
     τ = moved s σ k c x
 
@@ -104,7 +104,7 @@ module _ (s : Sheet) (b : Bundle) (w : List ℕ) (σ : State) (h : Keeps s b w �
           next =
               of (λ j p. nextIn v j ≡ firstIn v j + p .position) (omega (arith, m .next, first-same near m k near, h .next k near))
               (λ j d l. omega (arith, next-same near m j d l, first-same near m j l, h .next j l));
-          clock = of (λ j p. clockIn v j ≡ p .clock) (m .clock) (λ j d l. clock-same near m j d l ∙ h .clock j l);
+          clock = of (λ j p. clockIn v j ≡ p .clock + 1) (m .clock) (λ j d l. clock-same near m j d l ∙ h .clock j l);
           store = of (λ j p. storeIn v j ≡ p .store) (m .store) (λ j d l. store-same near m j d l ∙ h .store j l);
           stamp = stamped;
           room =

@@ -27,8 +27,8 @@ module _ (w : List ℕ) (k r : ℕ) where
   pub no-clock : 16 ≤ k → ClockIs w k 0
   no-clock e = record { is = λ s b σ h. ap {B = ℕ} (λ (p : Processor). p .clock) (sym (nobody e s b σ h)) }
 
-  pub some-clock : k < 16 → r ≡ clockIn w k → ClockIs w k r
-  some-clock e f = record { is = λ s b σ h. f ∙ h .clock k e }
+  pub some-clock : k < 16 → r ≡ clockIn w k - 1 → ClockIs w k r
+  some-clock e f = record { is = λ s b σ h. omega (arith, h .clock k e) }
 
   pub no-position : 16 ≤ k → PositionIs w k 0
   no-position e = record { is = λ s b σ h. ap {B = ℕ} (λ (p : Processor). p .position) (sym (nobody e s b σ h)) }

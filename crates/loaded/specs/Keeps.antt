@@ -40,7 +40,7 @@ pub record Keeps (s : Sheet) (b : Bundle) (w : List ℕ) (σ : State) : Type 0 w
   pub stamps : length (σ .stamps) ≡ linkCount s
   pub inside : (k : ℕ) → k < 16 → processorOf σ k .position ≤ length (programmeOf b k)
   pub next : (k : ℕ) → k < 16 → nextIn w k ≡ firstIn w k + processorOf σ k .position
-  pub clock : (k : ℕ) → k < 16 → clockIn w k ≡ processorOf σ k .clock
+  pub clock : (k : ℕ) → k < 16 → clockIn w k ≡ processorOf σ k .clock + 1
   pub store : (k : ℕ) → k < 16 → storeIn w k ≡ processorOf σ k .store
   pub stamp : (l : ℕ) → l < linkCount s → stampIn (getD w (96 + l) 0) ≡ stampOf σ l
   -- all that is still to come fits the words

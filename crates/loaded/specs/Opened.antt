@@ -14,9 +14,10 @@ use Rattle.messages.specs.Fields.{Fields}
 use Rattle.loaded.specs.Words.{nextIn, clockIn, storeIn, firstIn, lastIn, taskWord, NeedsIn}
 use Rattle.loaded.specs.Keeps.{Decoded}
 
--- processor k stands before the first of the commands cs, whose numbers and the end's are below c
+-- processor k stands before the first of the commands cs, whose numbers and the end's are below c, with its clock at 0
 pub record Opens (s : Sheet) (w : List ℕ) (c k : ℕ) (cs : List Command) : Type 0 where
   pub next : nextIn w k ≡ firstIn w k
+  pub clock : clockIn w k ≡ 1
   pub low : taskWord s (taskCount s) ≤ firstIn w k
   pub high : firstIn w k + length cs < c
   pub last : lastIn w k ≡ firstIn w k + length cs
@@ -26,7 +27,6 @@ pub record Opens (s : Sheet) (w : List ℕ) (c k : ℕ) (cs : List Command) : Ty
 pub record Opened (s : Sheet) (w : List ℕ) (c : ℕ) (ps : List (List Command)) : Type 0 where
   pub long : fixed ≤ length w
   pub opens : (k : ℕ) → k < 16 → Opens s w c k (getD ps k [])
-  pub clock : (k : ℕ) → k < 16 → clockIn w k ≡ 0
   pub store : (k : ℕ) → k < 16 → storeIn w k ≡ 0
   pub links : getD w 80 0 ≡ linkCount s
   pub needs : NeedsIn s w

@@ -1,16 +1,18 @@
 -- The words in which the machine is kept: its processors, the stamps, the tasks' needs, and the commands of all programmes, decoded; below 4,096 in all.
 --
---   k the number of the next command of processor k, 16 + k its clock, 32 + k its store in use, 48 + k the number of its first command (16 processors)
+--   k the number of the next command of processor k, 16 + k one more than its clock, 32 + k its store in use, 48 + k the number of its first command (16 processors)
 --   64 + k the number behind its last command
 --   80 the count of links, at most 1,024
 --   95 is 0: no message
 --   96 + l for link l 0 while its message is not sent, then one more than the stamp
 --   behind the last stamp, for each task what it needs of the store
---   c command c, behind the last task: lowest how much time a task takes or a message costs, or the bytes that it holds, then what to do, then the word that it works with, a task's or a message's. Behind each programme stands one that receives word 95, and so is never done
-use Prim.Native.Nat.{ℕ, _+_, _*_, _-_, _%_, _<_, max}
+--   c command c, behind the last task: lowest how much time a task takes or a message costs, or the bytes that it holds; then, of a task that needs less than 32,768, what it needs; else what to do, and how far behind word 95 the message's or the task's word stands. Behind each programme stands one that receives word 95, and so is never done
+use Prim.Native.Nat.{ℕ, _+_, _*_, _/_, _%_, _<_, max}
 use mathlib.Core.Path.{_≡_}
 use mathlib.Core.List.{List}
 use lib.ListN.{getD, set}
+use lib.Dec.{eqb, ltb}
+use Rattle.folds.specs.Folds.{pick}
 use Rattle.sheet.specs.Sheet.{Sheet, taskCount, linkCount, workOf, storeOf, costOf, bytesOf}
 use Rattle.bundle.specs.Bundle.{Command, run, send, receive}
 
@@ -37,15 +39,27 @@ taskWord s t = 96 + linkCount s + t
 abbrev pub NeedsIn : Sheet → List ℕ → Type 0
 NeedsIn s w = (t : ℕ) → t < taskCount s → getD w (taskWord s t) 0 ≡ storeOf s t
 
+-- the word of a run, where the task's word is the one by this number behind word 95
+unfoldable pub runWord : ℕ → ℕ → ℕ → ℕ
+runWord work need number = pick (ltb need 32768) (131072 * need + work) (2097152 * number + 458752 + work)
+
+-- what the task of such a run needs, by its word x
+unfoldable pub needIn : List ℕ → ℕ → ℕ
+needIn w x = pick (eqb (x / 65536 % 2) 0) (x / 131072) (getD w (95 + x / 2097152) 0)
+
 -- a command's word
 abbrev pub wordOf : Sheet → Command → ℕ
-wordOf s (run t) = 2097152 * taskWord s t + workOf s t
-wordOf s (send l) = 2097152 * (96 + l) + 65536 + costOf s l
-wordOf s (receive l) = 2097152 * (96 + l) + 196608 + bytesOf s l
+wordOf s (run t) = runWord (workOf s t) (storeOf s t) (1 + linkCount s + t)
+wordOf s (send l) = 2097152 * (1 + l) + 65536 + costOf s l
+wordOf s (receive l) = 2097152 * (1 + l) + 196608 + bytesOf s l
 
 -- the word behind a programme
 abbrev pub endCode : ℕ
-endCode = 2097152 * 95 + 196608
+endCode = 196608
+
+-- processor k before the first command of a programme from a number to another, its clock at 0
+unfoldable pub openedWords : List ℕ → ℕ → ℕ → ℕ → List ℕ
+openedWords w k first last = set (set (set (set w k first) (16 + k) 1) (48 + k) first) (64 + k) last
 
 -- processor k at a command, a clock and a store
 unfoldable pub placedWords : List ℕ → ℕ → ℕ → ℕ → ℕ → List ℕ
@@ -61,7 +75,7 @@ module _ (w : List ℕ) (k amount : ℕ) where
   ranWords need = steppedWords w k 0 amount need
 
   unfoldable pub sentWords : ℕ → List ℕ
-  sentWords i = set (steppedWords w k 0 0 0) i ((clockIn w k + amount + 1) % 4294967296)
+  sentWords i = set (steppedWords w k 0 0 0) i ((clockIn w k + amount) % 4294967296)
 
   unfoldable pub gotWords : ℕ → List ℕ
-  gotWords i = steppedWords w k (getD w i 0 - 1) 0 amount
+  gotWords i = steppedWords w k (getD w i 0) 0 amount

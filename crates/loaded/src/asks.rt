@@ -19,7 +19,7 @@ pub fn clock(w: &[u32], k: usize) -> usize
     ensures { λ r. ⌜ ClockIs (now (w .entry)) k r ⌝ }
 {
     if k < 16 {
-        return words::word(w, 16 + k);
+        return words::minus(words::word(w, 16 + k), 1);
     }
     0
 }

@@ -1,9 +1,20 @@
 // The programmes of a bundle, decoded into words, and the fresh state.
 ghost use mathlib.Core.Path.{_≡_};
 ghost use Prim.Native.Nat.{_+_, _%_, _≤_, _<_};
-ghost use lib.ListN.{set};
+ghost use Rattle.loaded.specs.Words.{runWord, openedWords};
 ghost use Rattle.loaded.specs.Loads.{CommandIs, ProgrammeIs, LoadIs};
 ghost use Rattle.loaded.specs.Opened.{WipeIs, NeedsIs, EmptyIs, OneIs, AllIs};
+
+// The word of a run: a need below 32,768 stands in it, else the number of the task's word.
+fn run_word(work: usize, need: usize, number: usize) -> usize
+    requires { ⌜ (work < 65536) × (need < 65536) × (number < 2048) ⌝ }
+    ensures { λ r. ⌜ r ≡ runWord work need number ⌝ }
+{
+    if need < 32768 {
+        return 131072 * need + work;
+    }
+    2097152 * number + 458752 + work
+}
 
 // The command at the offset o, for a sheet of n tasks and l links, into the word at the index `at`; how many bytes it has. A send is told from a
 // receive by value: which of them comes cannot be foretold.
@@ -23,7 +34,8 @@ fn load_command(
     if c == 0x52 {
         let t = words::byte(bundle, o + 1);
         let work = words::pair(sheet, 7 + 5 * t);
-        words::put(w, at, work + 2097152 * (96 + l + t));
+        let need = words::pair(sheet, 9 + 5 * t);
+        words::put(w, at, run_word(work, need, 1 + l + t));
         return 2;
     }
     let i = words::pair(bundle, o + 1);
@@ -32,7 +44,7 @@ fn load_command(
     words::put(
         w,
         at,
-        65536 + 131072 * receives + 2097152 * (96 + i) + amount,
+        65536 + 131072 * receives + 2097152 * (1 + i) + amount,
     );
     3
 }
@@ -57,16 +69,17 @@ fn load_programme(
         from += load_command(sheet, bundle, w, n, l, from, to);
         to += 1;
     }
-    words::put(w, to, 199426048);
+    words::put(w, to, 196608);
     to
 }
 
 // Processor k before the first command of a programme between two indices.
 fn open_programme(w: &mut [u32], k: usize, first: usize, last: usize)
     requires { ⌜ k < 16 ⌝ }
-    ensures { λ _. ⌜ now (w .exit) ≡ set (set (set (now (w .entry)) k (first % 4294967296)) (48 + k) (first % 4294967296)) (64 + k) (last % 4294967296) ⌝ }
+    ensures { λ _. ⌜ now (w .exit) ≡ openedWords (now (w .entry)) k (first % 4294967296) (last % 4294967296) ⌝ }
 {
     words::put(w, k, first);
+    words::put(w, 16 + k, 1);
     words::put(w, 48 + k, first);
     words::put(w, 64 + k, last);
 }
@@ -98,7 +111,7 @@ fn empty_all(w: &mut [u32], c: usize)
     requires { ⌜ c < 4096 ⌝ }
     ensures { λ _. ⌜ EmptyIs (now (w .entry)) (now (w .exit)) c ⌝ }
 {
-    words::put(w, c, 199426048);
+    words::put(w, c, 196608);
     let mut k = 0;
     while k < 16 {
         open_programme(w, k, c, c);

@@ -5,14 +5,14 @@ ghost use Prim.Native.Nat.{_<_};
 ghost use lib.ListN.{getD};
 ghost use lib.Dec.{eqb};
 ghost use Rattle.folds.specs.Folds.{pick, bit};
-ghost use Rattle.loaded.specs.Words.{nextIn, clockIn, storeIn, placedWords, steppedWords, sentWords, gotWords};
+ghost use Rattle.loaded.specs.Words.{nextIn, clockIn, storeIn, placedWords, steppedWords, sentWords, gotWords, needIn};
 ghost use Rattle.loaded.specs.Advance.{Narrow, Small};
 ghost use Rattle.machine.specs.Kept.{StepIs, RunIs};
 ghost use Rattle.loaded.specs.Keeps.{Keeps};
 use crate::processors::Processor;
 use crate::processors::stepped;
 
-// Processor k of the words.
+// Processor k of the words. A clock stands there as one more, since a stamp does: 0 is none.
 fn processor(w: &[u32], k: usize) -> Processor
     requires { ⌜ k < 16 ⌝ }
     ensures { λ p. ⌜ (p .clock ≡ clockIn (now (w .entry)) k) × (p .position ≡ nextIn (now (w .entry)) k) × (p .store ≡ storeIn (now (w .entry)) k) × Narrow p ⌝ }
@@ -48,7 +48,7 @@ fn send(w: &mut [u32], k: usize, amount: usize, i: usize)
     requires { ⌜ (k < 16) × (amount < 4294967296) ⌝ }
     ensures { λ _. ⌜ now (w .exit) ≡ sentWords (now (w .entry)) k amount i ⌝ }
 {
-    let stamp = words::word(w, 16 + k) + amount + 1;
+    let stamp = words::word(w, 16 + k) + amount;
     go_on(w, k, 0, 0, 0);
     words::put(w, i, stamp);
 }
@@ -62,28 +62,41 @@ fn receive(w: &mut [u32], k: usize, amount: usize, i: usize) -> bool
     if stamp == 0 {
         return false;
     }
-    go_on(w, k, stamp - 1, 0, amount);
+    go_on(w, k, stamp, 0, amount);
     true
 }
 
-// One command of processor k. The word that it works with is among the first 2,048, and so is there.
+// What the task of the run x needs of the store: it stands in the run's word or, from 32,768 on, in the task's.
+fn need_in(w: &[u32], x: usize) -> usize
+    requires { ⌜ x < 4294967296 ⌝ }
+    ensures { λ r. ⌜ (r ≡ needIn (now (w .entry)) x) × (r < 4294967296) ⌝ }
+{
+    if x / 65536 % 2 == 0 {
+        return x / 131072;
+    }
+    words::word(w, 95 + x / 2097152)
+}
+
+// One command of processor k. The word that it works with is among the first 2,143, and so is there.
 fn command(w: &mut [u32], k: usize) -> bool
     requires { ⌜ k < 16 ⌝ }
     ensures { λ r. ⌜ StepIs Keeps (now (w .entry)) (now (w .exit)) k r ⌝ }
 {
     let x = words::word(w, words::word(w, k));
-    let i = x / 2097152;
     let amount = x % 65536;
-    if x / 65536 % 2 == 0 {
-        let need = words::word(w, i);
-        go_on(w, k, 0, amount, need);
-        return true;
+    if x / 65536 % 2 == 1 {
+        let i = 95 + x / 2097152;
+        if x / 131072 % 2 == 0 {
+            send(w, k, amount, i);
+            return true;
+        }
+        if x / 262144 % 2 == 0 {
+            return receive(w, k, amount, i);
+        }
     }
-    if x / 131072 % 2 == 0 {
-        send(w, k, amount, i);
-        return true;
-    }
-    receive(w, k, amount, i)
+    let need = need_in(w, x);
+    go_on(w, k, 0, amount, need);
+    true
 }
 
 // One command of processor k, in constant time. False, and nothing changed, where it cannot step.

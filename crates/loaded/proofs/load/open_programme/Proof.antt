@@ -1,15 +1,19 @@
 -- `open_programme` (src/load.rt) keeps its contract.
+use Rattle.loaded.specs.Words.{openedWords}
 use borrow.Author.Needs.{needs}
 use Rattle.loaded.proofs.load.open_programme.Statement.{statement}
 use Rattle.loaded.proofs.load.open_programme.Tie as tie
 
 returns : tie.Need-returns
-returns c = simp (c .before .before .put3 .ensures, c .before .before .before .before .before .before .put2 .ensures, c .before .before .before .before .before .before .before .before .before .before .put .ensures)
+unfolding openedWords
+returns c = simp (c .before .before .put4 .ensures, c .before .before .before .before .before .before .put3 .ensures, c .before .before .before .before .before .before .before .before .before .before .put2 .ensures, c .before .before .before .before .before .before .before .before .before .before .before .before .before .before .put .ensures)
 
 pub open-programme-spec : {M : Type 1} → statement M
 open-programme-spec =
     tie.close
     (tie.spec
+    (λ c κs. search needs)
+    (λ c. search needs)
     (λ c κs. search needs)
     (λ c. search needs)
     (λ c κs. search needs)
