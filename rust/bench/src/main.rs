@@ -5,37 +5,54 @@
 
 mod calls;
 mod cases;
+mod passes;
 mod steps;
+mod table;
 mod timing;
 
-use calls::{Measure, CALLS};
+use passes::{over_all, write_one, PASS};
 use std::process::ExitCode;
-use std::{env, fs};
-use timing::{in_passes, Pair};
+use std::{env, fs, io};
+use table::Table;
+use timing::Pair;
 
 /// How it is measured.
 const HEAD: &str = "\
 Microseconds a call, bytes to bytes; ratio of the medians, product to rewrite. There are seven passes
-over all lines: least of all, and the medians of the pass with the middle ratio.
-The largest sheets have 256 tasks, 1,024 links and 16 processors, the typical ones 40, 80 and 8.
-Lent buffers are made once, outside the timing, and not cleared between calls. Within the times are
-that the product clears its work area in each call, and that the rewrite allocates its tables.
+over all lines, each in a process of its own: least of all, and the medians of the pass with the
+middle ratio. The largest sheets have 256 tasks, 1,024 links and 16 processors, the typical ones 40,
+80 and 8. Lent buffers are made once, outside the timing, and not cleared between calls. Within the
+times are that the product clears its work area in each call, and that the rewrite allocates its
+tables.
 ";
 
 fn main() -> ExitCode {
-    match env::args().nth(1).as_deref() {
-        None => all_calls(),
-        Some("growth") => growth(),
-        Some(_) => {
-            eprintln!("usage: bench [growth]");
-            return ExitCode::FAILURE;
+    let arguments: Vec<String> = env::args().skip(1).collect();
+    let words: Vec<&str> = arguments.iter().map(String::as_str).collect();
+    let measured = match words[..] {
+        [] => all_calls(),
+        ["growth"] => growth(),
+        [PASS, table] => one_pass(table),
+        _ => Err(io::Error::other("usage: bench [growth]")),
+    };
+    match measured {
+        Ok(()) => ExitCode::SUCCESS,
+        Err(error) => {
+            eprintln!("{error}");
+            ExitCode::FAILURE
         }
     }
-    ExitCode::SUCCESS
+}
+
+/// The times of a table in this process.
+fn one_pass(table: &str) -> io::Result<()> {
+    let table = Table::named(table).ok_or_else(|| io::Error::other("no such table"))?;
+    write_one(&table);
+    Ok(())
 }
 
 /// A row for each case and call, and again those in which the product is slower.
-fn all_calls() {
+fn all_calls() -> io::Result<()> {
     println!("Product and rewrite on {}, both built for release, in turns.", processor());
     print!("{HEAD}");
     println!("Clearing it alone takes {:.3}.\n", calls::clearing().median);
@@ -44,20 +61,18 @@ fn all_calls() {
         "{:<17}{:<10}{:>10}{:>10}{:>10}{:>10}{:>7}",
         "sheet", "call", "least", "median", "least", "median", "ratio"
     );
-    let cases = cases::all();
-    let lines: Vec<_> =
-        cases.iter().flat_map(|case| CALLS.map(|(call, measure)| (case, call, measure))).collect();
-    let jobs: Vec<_> = lines.iter().map(|&(case, _, measure)| move || measure(case)).collect();
+    let table = Table::of_calls();
     let mut slower = Vec::new();
-    for ((case, call, _), pair) in lines.iter().zip(in_passes(&jobs)) {
-        let line = row(&case.name, call, &pair);
-        println!("{line}");
+    for (line, pair) in table.lines().zip(over_all(&table)?) {
+        let row = row(&line.case.name, line.call, &pair);
+        println!("{row}");
         if pair.ratio() > 1.0 {
-            slower.push(line);
+            slower.push(row);
         }
     }
     println!("\nRatio above 1.0: {} lines", slower.len());
-    slower.iter().for_each(|line| println!("{line}"));
+    slower.iter().for_each(|row| println!("{row}"));
+    Ok(())
 }
 
 fn row(case: &str, call: &str, pair: &Pair) -> String {
@@ -68,20 +83,19 @@ fn row(case: &str, call: &str, pair: &Pair) -> String {
 }
 
 /// Plan and check by the number of tasks.
-fn growth() {
+fn growth() -> io::Result<()> {
     println!("On {}; medians in microseconds, least in brackets.\n", processor());
     println!("| tasks | links | plan, product | plan, rewrite | check, product | check, rewrite |");
     println!("|---|---|---|---|---|---|");
-    let cases = [16, 32, 64, 128, 256].map(cases::of_size);
-    let calls: [Measure; 2] = [calls::plan, calls::check];
-    let jobs: Vec<_> =
-        cases.iter().flat_map(|case| calls.map(|measure| move || measure(case))).collect();
-    for (case, pairs) in cases.iter().zip(in_passes(&jobs).chunks(calls.len())) {
+    let table = Table::of_growth();
+    let pairs = over_all(&table)?;
+    for (case, pairs) in table.cases.iter().zip(pairs.chunks(pairs.len() / table.cases.len())) {
         let times = pairs.iter().flat_map(|pair| [pair.product, pair.rewrite]);
         let cells = times.map(|times| format!("{:.1} ({:.1})", times.median, times.least));
         let tasks: usize = case.name.parse().expect("a number of tasks");
         println!("| {tasks} | {} | {} |", 4 * tasks, cells.collect::<Vec<_>>().join(" | "));
     }
+    Ok(())
 }
 
 /// The name of this machine's processor.

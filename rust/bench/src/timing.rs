@@ -1,13 +1,10 @@
 //! Timing of two jobs in turns: least and median of many timings, after both were warmed alike.
 
-use std::hint::black_box;
 use std::ops::Range;
 use std::time::{Duration, Instant};
 
 /// How many timings of each job there are in a pass, over all of its inputs.
 const TIMINGS: usize = 301;
-/// How many passes there are over all lines of a table.
-const PASSES: usize = 7;
 /// How many passes over all inputs come before them, to warm caches and branch predictors.
 const WARM_UP: usize = 20;
 /// How long a timing lasts at least, so that the clock's grain does not matter. It is not much more
@@ -87,7 +84,7 @@ impl Pair {
     }
 
     /// The medians of the pass whose ratio is the middle one, and the least times of all passes.
-    fn over(mut passes: Vec<Pair>) -> Self {
+    pub fn over(mut passes: Vec<Pair>) -> Self {
         passes.sort_unstable_by(|one, other| one.ratio().total_cmp(&other.ratio()));
         let least = |part: fn(&Pair) -> f64| passes.iter().map(part).fold(f64::INFINITY, f64::min);
         let Pair { product, rewrite } = passes[passes.len() / 2];
@@ -96,28 +93,6 @@ impl Pair {
             rewrite: Times { least: least(|pair| pair.rewrite.least), ..rewrite },
         }
     }
-}
-
-/// Measures every line of a table in each pass. Between two passes over a line are all the other lines,
-/// and each pass has its stack elsewhere: neither a neighbour on a shared machine nor a stack and a
-/// heap that happen to lie alike settle a line.
-pub fn in_passes<L: Fn() -> Pair>(lines: &[L]) -> Vec<Pair> {
-    let mut passes = vec![Vec::new(); lines.len()];
-    for pass in 0..PASSES {
-        for (line, pairs) in lines.iter().zip(&mut passes) {
-            pairs.push(deeper(pass, line));
-        }
-    }
-    passes.into_iter().map(Pair::over).collect()
-}
-
-/// Measures with the stack so many frames deeper.
-#[inline(never)]
-fn deeper(frames: usize, line: &impl Fn() -> Pair) -> Pair {
-    let frame = black_box([0_u8; 304]);
-    let pair = if frames == 0 { line() } else { deeper(frames - 1, line) };
-    black_box(frame);
-    pair
 }
 
 /// Times one job alone, so many calls to a timing.
