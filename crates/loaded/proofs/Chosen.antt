@@ -39,9 +39,9 @@ module _ (w : List ℕ) (k : ℕ) where
 moved-at : {links : ℕ} {w v : List ℕ} {k n c x n′ c′ x′ : ℕ} → Moved links w v k n c x → n ≡ n′ → c ≡ c′ → x ≡ x′ → Moved links w v k n′ c′ x′
 moved-at m d e f = record { long = m .long; next = m .next ∙ d; clock = m .clock ∙ e; store = m .store ∙ f; others = m .others }
 
--- a run by the need in its task's word is no receive
-far-runs : (x number work : ℕ) → work < 65536 → x ≡ 2097152 * number + 458752 + work → x / 262144 % 2 ≡ 0 → ⊥
-far-runs x number work f e z = omega arith
+-- a run by the need in its task's word is neither a send nor a receive
+far-runs : (x number work : ℕ) → work < 65536 → x ≡ 2097152 * number + 458752 + work → (x / 131072 % 2 ≡ 0 → ⊥) × (x / 262144 % 2 ≡ 0 → ⊥)
+far-runs x number work f e = (λ z. omega arith, λ z. omega arith)
 
 -- what comes next in the programme, and what stands for it in the words
 data Coming (s : Sheet) (b : Bundle) (w : List ℕ) (σ : State) (k n : ℕ) : Type 0 where
@@ -115,14 +115,17 @@ module _ (w : List ℕ) (k : ℕ) (near : k < 16) (n : ℕ) (here : n ≡ nextIn
 
   -- a message, in the word i
   module _ (i : ℕ) (at : i ≡ 95 + x / 2097152) (s : Sheet) (b : Bundle) (σ : State) (h : Keeps s b w σ) (a : x / 65536 % 2 ≡ 1) where
+    no-run : (t : ℕ) → Known s (run t) → getD w n 0 ≡ wordOf s (run t) → (x / 131072 % 2 ≡ 0 → ⊥) × (x / 262144 % 2 ≡ 0 → ⊥)
+    no-run t o f =
+        let wf : workOf s t < 65536 = h .programmed .ranged .works t o in
+        ⊎-elim (λ (y : (storeOf s t < 32768) × (x ≡ 131072 * storeOf s t + workOf s t)). absurd (omega (arith, y .1)))
+        (λ (y : x ≡ 2097152 * (1 + linkCount s + t) + 458752 + workOf s t). far-runs x (1 + linkCount s + t) (workOf s t) wf y) (run-is s b σ h t f)
+
     -- a send
     sent-on : x / 131072 % 2 ≡ 0 → Coming s b w σ k n → (true ≡ canStep s b σ k) × Keeps s b (sentWords w k (x % 65536) i) (chosen σ (step s b σ k))
     unfolding sentWords steppedWords stampOf
     sent-on z (over e f) = absurd (omega arith)
-    sent-on z (comes (run t) e j o f) =
-        let wf : workOf s t < 65536 = h .programmed .ranged .works t o in
-        ⊎-elim (λ (y : (storeOf s t < 32768) × (x ≡ 131072 * storeOf s t + workOf s t)). absurd (omega (arith, y .1)))
-        (λ (y : x ≡ 2097152 * (1 + linkCount s + t) + 458752 + workOf s t). absurd (omega arith)) (run-is s b σ h t f)
+    sent-on z (comes (run t) e j o f) = absurd (no-run t o f .0 z)
     sent-on z (comes (receive l) e j o f) = absurd (omega (arith, h .programmed .ranged .sizes l o))
     sent-on z (comes (send l) e j o f) =
         let few = h .programmed .ranged .few-links in
@@ -182,10 +185,7 @@ module _ (w : List ℕ) (k : ℕ) (near : k < 16) (n : ℕ) (here : n ≡ nextIn
         let none-there : getD w i 0 ≡ 0 = ap (λ (j : ℕ). getD w j 0) slot ∙ h .programmed .nothing in
         let off : f ≡ false = u ∙ ap not (eq-eqb (getD w i 0) 0 none-there) in
         subst (λ (y : Bool). (y ≡ canStep s b σ k) × Keeps s b (pick y (gotWords w k (x % 65536) i) w) (chosen σ (step s b σ k))) (sym off) (no-next Keeps s b w σ k h e)
-    got-on z y (comes (run t) e j o g) f u =
-        let wf : workOf s t < 65536 = h .programmed .ranged .works t o in
-        ⊎-elim (λ (c : (storeOf s t < 32768) × (x ≡ 131072 * storeOf s t + workOf s t)). absurd (omega (arith, c .1)))
-        (λ (c : x ≡ 2097152 * (1 + linkCount s + t) + 458752 + workOf s t). absurd (far-runs x (1 + linkCount s + t) (workOf s t) wf c y)) (run-is s b σ h t g)
+    got-on z y (comes (run t) e j o g) f u = absurd (no-run t o g .1 y)
     got-on z y (comes (send l) e j o g) f u = absurd (z (omega (arith, h .programmed .ranged .costs l o)))
     got-on z y (comes (receive l) e j o g) f u = by f (getD w i 0) refl u (ap (λ (y : ℕ). stampIn (getD w y 0)) slot ∙ h .stamp l o)
       where
