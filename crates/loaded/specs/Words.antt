@@ -6,7 +6,10 @@
 --   95 is 0: no message
 --   96 + l for link l 0 while its message is not sent, then one more than the stamp
 --   behind the last stamp, for each task what it needs of the store
---   c command c, behind the last task: lowest how much time a task takes or a message costs, or the bytes that it holds; then, of a task that needs less than 32,768, what it needs; else what to do, and how far behind word 95 the message's or the task's word stands. Behind each programme stands one that receives word 95, and so is never done
+--   c command c, behind the last task, and behind each programme one that receives word 95, and so is never done. The bits of a command's word:
+--     0 to 15 the time that a task takes or that a message costs, or the bytes that it holds
+--     16 is 0 if it runs a task that needs less than 32,768, and 17 to 31 say what that needs
+--     else 16 to 18 say what to do, 1 a send, 3 a receive, 7 a run, and 21 to 31 how far behind word 95 the message's word or the task's stands
 use Prim.Native.Nat.{ℕ, _+_, _*_, _/_, _%_, _<_, max}
 use mathlib.Core.Path.{_≡_}
 use mathlib.Core.List.{List}
@@ -41,7 +44,7 @@ NeedsIn s w = (t : ℕ) → t < taskCount s → getD w (taskWord s t) 0 ≡ stor
 
 -- the word of a run, where the task's word is the one by this number behind word 95
 unfoldable pub runWord : ℕ → ℕ → ℕ → ℕ
-runWord work need number = pick (ltb need 32768) (131072 * need + work) (2097152 * number + 458752 + work)
+runWord work need number = pick (ltb need 32768) (131072 * need + work) (2097152 * number + 65536 * 7 + work)
 
 -- what the task of such a run needs, by its word x
 unfoldable pub needIn : List ℕ → ℕ → ℕ
@@ -50,12 +53,12 @@ needIn w x = pick (eqb (x / 65536 % 2) 0) (x / 131072) (getD w (95 + x / 2097152
 -- a command's word
 abbrev pub wordOf : Sheet → Command → ℕ
 wordOf s (run t) = runWord (workOf s t) (storeOf s t) (1 + linkCount s + t)
-wordOf s (send l) = 2097152 * (1 + l) + 65536 + costOf s l
-wordOf s (receive l) = 2097152 * (1 + l) + 196608 + bytesOf s l
+wordOf s (send l) = 2097152 * (1 + l) + 65536 * 1 + costOf s l
+wordOf s (receive l) = 2097152 * (1 + l) + 65536 * 3 + bytesOf s l
 
 -- the word behind a programme
 abbrev pub endCode : ℕ
-endCode = 196608
+endCode = 65536 * 3
 
 -- processor k before the first command of a programme from a number to another, its clock at 0
 unfoldable pub openedWords : List ℕ → ℕ → ℕ → ℕ → List ℕ
