@@ -22,7 +22,7 @@ use Rattle.machine.specs.Runs.{chosen, left}
 use Rattle.machine.proofs.Steps.{move-step, left-moved, stamp-sent, stamp-other}
 use Rattle.loaded.specs.Words.{nextIn, clockIn, storeIn, firstIn, taskWord, wordOf, endCode, needIn, placedWords, steppedWords, ranWords, sentWords, gotWords}
 use Rattle.machine.specs.Kept.{StepIs}
-use Rattle.machine.proofs.Kept.{goes, no-next, no-wait, none-of}
+use Rattle.machine.proofs.Kept.{goes, no-next, no-wait, none-of, step-is}
 use Rattle.loaded.specs.Keeps.{Keeps}
 use Rattle.loaded.proofs.Loading.{run-word}
 use Rattle.loaded.proofs.Moves.{command-at, command-past, Moved, keeps-moved, placed-moved, placed-stamp, length-stepped}
@@ -228,33 +228,17 @@ module _ (w : List ℕ) (k : ℕ) (near : k < 16) (n : ℕ) (here : n ≡ nextIn
   unfolding sentWords
   sent-long i = length-set (steppedWords w k 0 0 0) i _ ∙ length-stepped w k 0 0 0
 
-  got-long : (i : ℕ) (f : Bool) → length (pick f (gotWords w k (x % 65536) i) w) ≡ length w
+  got-long : (i : ℕ) → length (gotWords w k (x % 65536) i) ≡ length w
   unfolding gotWords
-  got-long i true = length-stepped w k _ _ _
-  got-long i false = refl
+  got-long i = length-stepped w k _ _ _
 
   module _ (v : List ℕ) where
     pub ran : (x / 65536 % 2 ≡ 1 → (x / 131072 % 2 ≡ 0 → ⊥) × (x / 262144 % 2 ≡ 0 → ⊥)) → (gets : ℕ) → gets ≡ needIn w x → v ≡ ranWords w k (x % 65536) gets → StepIs Keeps w v k true
-    ran q gets e g =
-        record {
-          long = ap length g ∙ ran-long gets;
-          same = λ f. absurd (true≢false f);
-          agrees = λ s b σ h. subst (λ (u : List ℕ). (true ≡ canStep s b σ k) × Keeps s b u (chosen σ (step s b σ k))) (sym g) (ran-on s b σ h q (coming s b σ h) gets e);
-        }
+    ran q gets e g = step-is Keeps w (ranWords w k (x % 65536) gets) v k (ran-long gets) true g (λ s b σ h. ran-on s b σ h q (coming s b σ h) gets e)
 
     module _ (i : ℕ) (at : i ≡ 95 + x / 2097152) (a : x / 65536 % 2 ≡ 1) where
       pub sent : x / 131072 % 2 ≡ 0 → v ≡ sentWords w k (x % 65536) i → StepIs Keeps w v k true
-      sent z g =
-          record {
-            long = ap length g ∙ sent-long i;
-            same = λ f. absurd (true≢false f);
-            agrees = λ s b σ h. subst (λ (u : List ℕ). (true ≡ canStep s b σ k) × Keeps s b u (chosen σ (step s b σ k))) (sym g) (sent-on i at s b σ h a z (coming s b σ h));
-          }
+      sent z g = step-is Keeps w (sentWords w k (x % 65536) i) v k (sent-long i) true g (λ s b σ h. sent-on i at s b σ h a z (coming s b σ h))
 
       pub got : (x / 131072 % 2 ≡ 0 → ⊥) → x / 262144 % 2 ≡ 0 → (f : Bool) → f ≡ not (eqb (getD w i 0) 0) → v ≡ pick f (gotWords w k (x % 65536) i) w → StepIs Keeps w v k f
-      got z y f u g =
-          record {
-            long = ap length g ∙ got-long i f;
-            same = λ e. g ∙ ap (λ (y : Bool). pick y (gotWords w k (x % 65536) i) w) e;
-            agrees = λ s b σ h. subst (λ (y : List ℕ). (f ≡ canStep s b σ k) × Keeps s b y (chosen σ (step s b σ k))) (sym g) (got-on i at s b σ h a z y (coming s b σ h) f u);
-          }
+      got z y f u g = step-is Keeps w (gotWords w k (x % 65536) i) v k (got-long i) f g (λ s b σ h. got-on i at s b σ h a z y (coming s b σ h) f u)

@@ -9,7 +9,7 @@ use native.Mathlib.Omega.{arith}
 use native.Mathlib.Numerals.{add-one}
 use lib.ListN.{length, getD, take}
 use lib.Seq.{take-suc, take-all}
-use Rattle.folds.specs.Folds.{bit}
+use Rattle.folds.specs.Folds.{pick, bit}
 use Rattle.sheet.specs.Sheet.{Sheet}
 use Rattle.bundle.specs.Bundle.{Command, Bundle, programmeCount}
 use Rattle.messages.proofs.Weights.{programme-or}
@@ -43,6 +43,20 @@ module _ (Kept : Sheet → Bundle → List ℕ → State → Type 0) where
     where
       none-at : (s : Sheet) (b : Bundle) (σ : State) → programmeCount b ≤ k → next b σ k ≡ none
       none-at s b σ l = ⊎-elim (λ i. absurd (omega arith)) (λ q. rw q) (programme-or b k)
+
+  -- words that are others, u, if the processor stepped, and as they were if not
+  module _ (w u v : List ℕ) (k : ℕ) (lu : length u ≡ length w) where
+    either-long : (f : Bool) → length (pick f u w) ≡ length w
+    either-long true = lu
+    either-long false = refl
+
+    pub step-is : (f : Bool) → v ≡ pick f u w → ((s : Sheet) (b : Bundle) (σ : State) → Kept s b w σ → (f ≡ canStep s b σ k) × Kept s b (pick f u w) (chosen σ (step s b σ k))) → StepIs Kept w v k f
+    step-is f g on =
+        record {
+          long = ap length g ∙ either-long f;
+          same = λ e. g ∙ ap (λ (y : Bool). pick y u w) e;
+          agrees = λ s b σ h. subst (λ (y : List ℕ). (f ≡ canStep s b σ k) × Kept s b y (chosen σ (step s b σ k))) (sym g) (on s b σ h);
+        }
 
   pub run-none : (choices w : List ℕ) → RunIs Kept (take 0 choices) w w 0
   unfolding runFrom

@@ -23,7 +23,7 @@ use Rattle.machine.specs.Machine.{State, processorOf, stampOf, next, moved, ste
 use Rattle.machine.specs.Runs.{chosen, left}
 use Rattle.state.specs.Words.{movedWords, ranWords, sentWords, gotWords}
 use Rattle.machine.specs.Kept.{StepIs}
-use Rattle.machine.proofs.Kept.{goes, no-next, no-wait, none-of}
+use Rattle.machine.proofs.Kept.{goes, no-next, no-wait, none-of, step-is}
 use Rattle.state.specs.Tracks.{Tracks}
 use Rattle.machine.proofs.Steps.{move-step, left-moved, stamp-sent, stamp-other}
 use Rattle.state.proofs.Lows.{Low, moved-low, moved-high, length-moved, low-at, low-stamped}
@@ -198,32 +198,16 @@ module _ (sheet bundle w : List ℕ) (k : ℕ) where
     unfolding sentWords
     sent-long = length-moved (set w (96 + numberAt 2 bundle (at + 1)) _) k (at + 3) _ _ _ ∙ length-set w (96 + numberAt 2 bundle (at + 1)) _
 
-    got-long : (f : Bool) → length (pick f (gotWords sheet bundle w k at) w) ≡ length w
+    got-long : length (gotWords sheet bundle w k at) ≡ length w
     unfolding gotWords
-    got-long true = length-moved w k (at + 3) _ _ _
-    got-long false = refl
+    got-long = length-moved w k (at + 3) _ _ _
 
     pub ran : getD bundle at 0 ≡ 0x52 → (v : List ℕ) → v ≡ ranWords sheet bundle w k at → StepIs (Tracks sheet bundle) w v k true
-    ran q v g =
-        record {
-          long = ap length g ∙ ran-long;
-          same = λ f. absurd (true≢false f);
-          agrees = λ s b σ h. subst (λ (x : List ℕ). (true ≡ canStep s b σ k) × Tracks sheet bundle s b x (chosen σ (step s b σ k))) (sym g) (ran-on s b σ h q);
-        }
+    ran q v g = step-is (Tracks sheet bundle) w (ranWords sheet bundle w k at) v k ran-long true g (λ s b σ h. ran-on s b σ h q)
 
     pub sent-step : getD bundle at 0 ≡ 0x53 → (v : List ℕ) → v ≡ sentWords sheet bundle w k at → StepIs (Tracks sheet bundle) w v k true
-    sent-step q v g =
-        record {
-          long = ap length g ∙ sent-long;
-          same = λ f. absurd (true≢false f);
-          agrees = λ s b σ h. subst (λ (x : List ℕ). (true ≡ canStep s b σ k) × Tracks sheet bundle s b x (chosen σ (step s b σ k))) (sym g) (sent-on s b σ h q);
-        }
+    sent-step q v g = step-is (Tracks sheet bundle) w (sentWords sheet bundle w k at) v k sent-long true g (λ s b σ h. sent-on s b σ h q)
 
     pub got-step : (getD bundle at 0 ≡ 0x52 → ⊥) → (getD bundle at 0 ≡ 0x53 → ⊥) → (f : Bool) → f ≡ not (eqb (getD w (96 + numberAt 2 bundle (at + 1)) 0) 0)
         → (v : List ℕ) → v ≡ pick f (gotWords sheet bundle w k at) w → StepIs (Tracks sheet bundle) w v k f
-    got-step p q f i v g =
-        record {
-          long = ap length g ∙ got-long f;
-          same = λ e. g ∙ ap (λ (x : Bool). pick x (gotWords sheet bundle w k at) w) e;
-          agrees = λ s b σ h. subst (λ (x : List ℕ). (f ≡ canStep s b σ k) × Tracks sheet bundle s b x (chosen σ (step s b σ k))) (sym g) (got-on s b σ h p q f i);
-        }
+    got-step p q f i v g = step-is (Tracks sheet bundle) w (gotWords sheet bundle w k at) v k got-long f g (λ s b σ h. got-on s b σ h p q f i)
