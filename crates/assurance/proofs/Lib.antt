@@ -9,3 +9,4 @@ pub mod Numbers
 pub mod Results
 pub mod Calls
 pub mod Whole
+pub mod Trips

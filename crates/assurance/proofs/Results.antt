@@ -5,13 +5,13 @@ use native.Mathlib.Decide.{decLt}
 use mathlib.Core.Path.{_≡_, refl, sym, ap, ap₂, _∙_}
 use mathlib.Core.Bool.{Bool, true, false}
 use mathlib.Core.List.{List, _++_}
-use borrow.Author.Tests.{le-ltb, ltb-false}
+use borrow.Author.Tests.{le-ltb}
 use lib.ListN.{length, take, drop}
 use lib.Seq.{take-append-seam}
 use lib.Dec.{ltb}
 use Rattle.folds.specs.Folds.{pick}
 use Rattle.folds.specs.Answers.{Answer, value, refused, longEnough, fitting, number, placeOr, written}
-use Rattle.folds.proofs.Tests.{not-value}
+use Rattle.folds.proofs.Tests.{not-value, value-same}
 use Rattle.workspace.specs.Area.{fixed}
 use Rattle.zeldrupa.specs.Promises.{Gives}
 use Rattle.zeldrupa.proofs.Gives.{short, enough}
@@ -21,12 +21,13 @@ use Rattle.assurance.proofs.Numbers.{Numbered, returned-0}
 pub long-value : {A : Type 0} (n : ℕ) (a : Answer A) (x : A) → longEnough fixed n a ≡ value x → (fixed ≤ n) × (a ≡ value x)
 long-value n a x e = elim (decLt n fixed) [ yes l ↦ not-value (sym (short a n l) ∙ e) | no l ↦ (omega arith, sym (enough a n (omega arith)) ∙ e) ]
 
+-- an answer that came through a test to a value
+pub past-test : {A : Type 0} (t : Bool) (n at : ℕ) (a : Answer A) (x : A) → pick t (refused n at) a ≡ value x → a ≡ value x
+past-test true n at a x e = not-value e
+past-test false n at a x e = e
+
 pub fitting-value : (n : ℕ) (r x : List ℕ) → fitting n r ≡ value x → r ≡ x
-fitting-value n r x e = split (ltb n (length r)) e
-  where
-    split : (t : Bool) → pick t (refused 12 (length r)) (value r) ≡ value x → r ≡ x
-    split true e = not-value e
-    split false e = cc
+fitting-value n r x e = value-same (past-test (ltb n (length r)) 12 (length r) (value r) x e)
 
 pub value-fitting : (n : ℕ) (r : List ℕ) → length r ≤ n → fitting n r ≡ value r
 value-fitting n r h = rw (le-ltb n (length r) h)
