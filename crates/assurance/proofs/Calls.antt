@@ -19,9 +19,9 @@ use Rattle.assurance.specs.Demand.{Stepped, nothing, stepped, refused, A
 -- a call refused with 13 was lent too few words, and left them as they were
 refused-same : (state part : List ℕ) (n k p : ℕ) → GivesStep (take n state) part k p 13 → part ++ drop n state ≡ state
 refused-same state part n k p g = elim (decLt (length (take n state)) fixed) [
-    yes l ↦ ap (λ (x : List ℕ). x ++ drop n state) (g .short l .1) ∙ take-append-drop n state
+  | yes l ↦ ap (λ (x : List ℕ). x ++ drop n state) (g .short l .1) ∙ take-append-drop n state
   | no l ↦ let z : stateNumber (take n state) ≡ 0 = rw (le-ltb (length (take n state)) fixed (omega arith)) in absurd (omega (arith, g .returns, z))
-  ]
+]
 
 module _ (s : Sheet) (b : Bundle) where
   -- from words that keep the state of a run

@@ -59,15 +59,15 @@ module _ (p l : ℕ) (tv lv : List ℕ) where
     unfolding valueBytes taskValueBytes linkValueBytes sheetBytes sheetOfValues
     values-bytes = rw (eq-eqb (length tv % 2) 0 even, eq-eqb (length lv % 4) 0 whole)
 
+    pub written-length : length (valueBytes p l tv lv) ≡ 7 + 5 * (length tv / 2) + 7 * (length lv / 4)
+    written-length = ap length values-bytes ∙ sheet-length (sheetOfValues p l tv lv) ∙ ap₂ (λ (n m : ℕ). 7 + 5 * n + 7 * m) values-tasks values-links
+
 -- the values of a sheet are written as its bytes
 pub bytes-of-values : (s : Sheet) → valueBytes (s .processors) (s .limit) (taskValues (s .tasks)) (linkValues (s .links)) ≡ sheetBytes s
 bytes-of-values s =
     let t = taskValues (s .tasks) in
     let l = linkValues (s .links) in
     values-bytes (s .processors) (s .limit) t l (omega (arith, task-values-length (s .tasks))) (omega (arith, link-values-length (s .links))) ∙ ap sheetBytes (sheet-again s)
-
-    pub written-length : length (valueBytes p l tv lv) ≡ 7 + 5 * (length tv / 2) + 7 * (length lv / 4)
-    written-length = ap length values-bytes ∙ sheet-length (sheetOfValues p l tv lv) ∙ ap₂ (λ (n m : ℕ). 7 + 5 * n + 7 * m) values-tasks values-links
 
 -- a task and a link, read from their bytes
 task-back : (t : Task) (X : List ℕ) → TaskFits t → taskFrom (numberBytes 2 (t .work) ++ (numberBytes 2 (t .store) ++ X)) ≡ t

@@ -1,6 +1,6 @@
 // The interface for C and Rust. Every function refuses a short work area first (13), then in the document's order; a refusal changes no
-// output, and the work area is all zero afterwards. What each of them gives is in specs/Promises.antt,
-// and of the stepping machine in specs/Stepping.antt.
+// output, and the work area is all zero afterwards, except under 13, where it is untouched. What each of them gives is in
+// specs/Promises.antt, and of the stepping machine in specs/Stepping.antt.
 ghost use lib.ListN.{length};
 ghost use Rattle.zeldrupa.specs.Promises.{Gives, GivesSheet, GivesBundle, GivesCheck, GivesPlan, GivesListing, levelsAnswer, writeSheetAnswer, readSheetAnswer, readBundleAnswer, writeBundleAnswer};
 ghost use Rattle.zeldrupa.specs.Stepping.{GivesStart, GivesRun, GivesStep, GivesLeft, GivesProcessor, GivesStamp};

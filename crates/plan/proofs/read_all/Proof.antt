@@ -1,12 +1,12 @@
--- `console::read_all` meets its contract.
+-- `plan::read_all` meets its contract.
 use native.Mathlib.Omega.{arith}
 use Prim.Native.Nat.{_-_, _≤_}
 use mathlib.Core.Path.{_≡_, refl, _∙_}
 use lib.ListN.{length}
-use Rattle.console.proofs.Pieces.{input-failed, input-bytes}
+use Rattle.plan.proofs.Pieces.{input-failed, input-bytes}
 use borrow.Author.Needs.{needs}
-use Rattle.console.proofs.read_all.Statement.{statement}
-use Rattle.console.proofs.read_all.Tie as tie
+use Rattle.plan.proofs.read_all.Statement.{statement}
+use Rattle.plan.proofs.read_all.Tie as tie
 
 abbrev Inv-loop : tie.InvT-loop
 Inv-loop buf₀ at₀ buf at = (length buf ≡ length buf₀) × (at ≤ length buf₀)

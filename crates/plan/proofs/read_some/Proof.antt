@@ -1,9 +1,9 @@
--- `console::read_some` meets its contract.
+-- `plan::read_some` meets its contract.
 use denote.Ref.{now}
-use Rattle.console.proofs.Pieces.{got-end, got-failed, got-more}
+use Rattle.plan.proofs.Pieces.{got-end, got-failed, got-more}
 use borrow.Author.Needs.{needs}
-use Rattle.console.proofs.read_some.Statement.{statement}
-use Rattle.console.proofs.read_some.Tie as tie
+use Rattle.plan.proofs.read_some.Statement.{statement}
+use Rattle.plan.proofs.read_some.Tie as tie
 
 returns : tie.Need-returns
 returns c = got-failed
