@@ -7,7 +7,7 @@ use crate::levels;
 use crate::listing::lines;
 use crate::machine::Machine;
 use crate::placing::{place, Placed};
-use crate::refusal::Refusal;
+use crate::refusal::{output, Refusal};
 use crate::sheet::Sheet;
 
 /// The tables of a sheet, as docs/INTERFACE.md has them.
@@ -19,6 +19,15 @@ pub struct Tables {
     pub links: Vec<u16>,
     /// "the processors, the store limit, the number of tasks and the number of links".
     pub board: [u32; 4],
+}
+
+impl Tables {
+    /// "12 with twice the number of tasks where `tasks` is shorter, else with four times the number of links
+    /// where `links` is".
+    pub fn lent(&self, tasks: usize, links: usize) -> Result<(), Refusal> {
+        output(self.tasks.len(), tasks)?;
+        output(self.links.len(), links)
+    }
 }
 
 /// Reads a sheet.

@@ -1,12 +1,17 @@
 //! The families of the formats: which sheets, bundles and values the readers and writers get.
 
-use super::{mostly_small, planned, seldom_largest, trial_files};
+use super::{damage_bundle, damage_sheet, mostly_small, planned, seldom_largest, trial_files};
 use crate::comparison::{Comparison, Outcome};
+use crate::rules::Rules;
 use inputs::{bundles, damage, sheets};
 use reference::trials;
 
 /// Everything that reads a sheet, with this one.
-fn every_reader(c: &mut Comparison, sheet: &[u8], bundle: &bundles::Bundle) -> Outcome {
+fn every_reader<R: Rules>(
+    c: &mut Comparison<R>,
+    sheet: &[u8],
+    bundle: &bundles::Bundle,
+) -> Outcome {
     c.read_sheet(sheet)?;
     c.levels(sheet)?;
     c.read_bundle(sheet, &bundle.encode())?;
@@ -26,7 +31,7 @@ pub fn trial_sheets(c: &mut Comparison) -> Outcome {
 }
 
 /// A sheet for each refusal of sheets, with every function.
-pub fn refused_sheets(c: &mut Comparison) -> Outcome {
+pub fn refused_sheets<R: Rules>(c: &mut Comparison<R>) -> Outcome {
     let task: &[u8] = &[0x54, 1, 0, 1, 0];
     let link: &[u8] = &[0x45, 0, 1, 1, 0, 1, 0];
     let full = task.repeat(257);
@@ -97,14 +102,7 @@ pub fn damaged_sheets(c: &mut Comparison) -> Outcome {
 pub fn damaged_sheet_values(c: &mut Comparison) -> Outcome {
     for round in 0..16_000 {
         let mut values = mostly_small(c, round);
-        for _ in 0..c.random.within(1..=3) {
-            match c.random.below(8) {
-                0 => values.processors = c.random.bits() as u8,
-                1 => values.limit = c.random.bits() as u32,
-                2..=3 => damage::values(&mut c.random, &mut values.tasks, 2),
-                _ => damage::values(&mut c.random, &mut values.links, 4),
-            }
-        }
+        damage_sheet(&mut c.random, &mut values);
         c.write_sheet(&values)?;
     }
     Ok(())
@@ -235,13 +233,7 @@ pub fn damaged_bundle_values(c: &mut Comparison) -> Outcome {
     for round in 0..16_000 {
         let values = mostly_small(c, round);
         let mut bundle = formed(c, &values);
-        for _ in 0..c.random.within(1..=3) {
-            damage::values(&mut c.random, &mut bundle.commands, 2);
-        }
-        if c.random.once_in(8) {
-            let at = 2 * c.random.below(bundle.commands.len() / 2 + 1);
-            bundle.commands.splice(at..at, [0x5A, c.random.bits() as u16]);
-        }
+        damage_bundle(&mut c.random, &mut bundle);
         c.write_bundle(&values.encode(), &bundle)?;
     }
     Ok(())
