@@ -92,6 +92,10 @@ pub fn run<R: Rules>(
         let Some((_, family)) = families.get(number / times) else { return };
         let mut comparison = Comparison::new(seed.wrapping_mul(1000).wrapping_add(number as u64));
         let outcome = family(&mut comparison);
+        if outcome.is_err() {
+            // Nothing more is started.
+            next.store(families.len() * times, Ordering::Relaxed);
+        }
         parts.lock().expect("no family panics").push((number, comparison.tally, outcome));
     };
     thread::scope(|scope| (0..threads).for_each(|_| drop(scope.spawn(work))));
