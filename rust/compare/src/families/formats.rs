@@ -1,6 +1,8 @@
 //! The families of the formats: which sheets, bundles and values the readers and writers get.
 
-use super::{damage_bundle, damage_sheet, mostly_small, planned, seldom_largest, trial_files};
+use super::{
+    damage_bundle, damage_sheet, mostly_small, over_full, planned, seldom_largest, trial_files,
+};
 use crate::comparison::{Comparison, Outcome};
 use crate::rules::Rules;
 use inputs::{bundles, damage, sheets};
@@ -135,10 +137,7 @@ pub fn circles(c: &mut Comparison) -> Outcome {
 pub fn brimful_sheets(c: &mut Comparison) -> Outcome {
     for _ in 0..20 {
         let full = sheets::largest(&mut c.random);
-        let mut more_tasks = full.clone();
-        more_tasks.tasks.extend([c.random.below(2) as u16, 7]);
-        let mut more_links = full.clone();
-        more_links.links.extend([3, c.random.below(300) as u16, 0, 0]);
+        let [more_tasks, more_links] = over_full(&mut c.random, &full);
         let mut doubled = full.clone();
         let at = 4 * c.random.below(full.link_count() - 1);
         doubled.links.copy_within(at..at + 4, full.links.len() - 4);

@@ -128,6 +128,15 @@ fn faulty_sheet(random: &mut Random, values: &sheets::Sheet, round: usize) -> Ve
     }
 }
 
+/// A largest sheet with a task more, perhaps out of range, and with a link more, perhaps loose or doubled.
+fn over_full(random: &mut Random, full: &sheets::Sheet) -> [sheets::Sheet; 2] {
+    let mut more_tasks = full.clone();
+    more_tasks.tasks.extend([random.below(2) as u16, 7]);
+    let mut more_links = full.clone();
+    more_links.links.extend([3, random.below(300) as u16, 0, 0]);
+    [more_tasks, more_links]
+}
+
 /// Damages the values of a sheet one to three times.
 fn damage_sheet(random: &mut Random, values: &mut sheets::Sheet) {
     for _ in 0..random.within(1..=3) {

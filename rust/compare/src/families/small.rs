@@ -1,7 +1,8 @@
 //! The families for the literal rules: small sheets and bundles, with every function.
 
 use super::{
-    claim_wrongly, damage_bundle, damage_sheet, faulty_sheet, limit_as_needed, right_bundle,
+    claim_wrongly, damage_bundle, damage_sheet, faulty_sheet, limit_as_needed, over_full,
+    right_bundle,
 };
 use crate::comparison::{Comparison, Outcome};
 use crate::rules::Literal;
@@ -51,11 +52,10 @@ pub fn damaged_sheets(c: &mut Small) -> Outcome {
     Ok(())
 }
 
-/// Sheets with one task more than there may be.
+/// Sheets with one task or one link more than there may be.
 pub fn over_full_sheets(c: &mut Small) -> Outcome {
-    for _ in 0..10 {
-        let mut values = sheets::small_board(&mut c.random);
-        values.tasks = [1, 1].repeat(257);
+    let full = sheets::largest(&mut c.random);
+    for values in over_full(&mut c.random, &full) {
         sheet_functions(c, &values.encode(), &values)?;
     }
     Ok(())
