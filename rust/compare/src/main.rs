@@ -1,5 +1,5 @@
-//! Holds the product against the fast rewrite on inputs of all sizes, and against the literal rules on
-//! small ones; fails on the first difference.
+//! Holds the product against the fast rewrite on inputs of all sizes, and against the literal rules
+//! on small ones; fails on the first difference.
 //!
 //! `compare [SEED]`: the same seed makes the same inputs.
 
@@ -61,7 +61,8 @@ fn compare(seed: u64) -> Result<usize, String> {
     Ok(fast + literal)
 }
 
-/// Holds the product against some rules on these families, and prints what came; how many calls it made.
+/// Holds the product against some rules on these families, and prints what came; how many calls it
+/// made.
 fn hold<R: Rules>(
     families: &[Family<R>],
     times: usize,

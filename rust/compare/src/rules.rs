@@ -47,7 +47,8 @@ pub trait Machine {
     /// Clock, position and store in use of a processor, 0 where it has no programme.
     fn processor(&self, k: u64) -> [u32; 3];
 
-    /// One more than a link's stamp, 0 while its message is not sent or where there is no such link.
+    /// One more than a link's stamp, 0 while its message is not sent or where there is no such
+    /// link.
     fn stamp(&self, link: u64) -> u64;
 }
 

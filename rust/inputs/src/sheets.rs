@@ -138,8 +138,8 @@ fn guarded_of(random: &mut Random, tasks: usize) -> Sheet {
     sheet
 }
 
-/// A valid sheet of at most eight tasks on at most four processors, with ties, free and dear messages, and
-/// store enough or hardly enough.
+/// A valid sheet of at most eight tasks on at most four processors, with ties, free and dear
+/// messages, and store enough or hardly enough.
 pub fn small_board(random: &mut Random) -> Sheet {
     let mut sheet = match random.below(4) {
         0 => small(random),

@@ -1,6 +1,6 @@
-//! The bundle: "`50` (u8) opens a processor's programme, numbered 0, 1, 2 and so on with no gap, below the
-//! sheet's processors. A programme may be empty. In it stand `52` run (task u8), `53` send (link u16), `56`
-//! receive (link u16). `5A` (claimed time u32) ends the bundle."
+//! The bundle: "`50` (u8) opens a processor's programme, numbered 0, 1, 2 and so on with no gap,
+//! below the sheet's processors. A programme may be empty. In it stand `52` run (task u8), `53`
+//! send (link u16), `56` receive (link u16). `5A` (claimed time u32) ends the bundle."
 
 use crate::commands::{count, Command, Format, Text};
 use crate::placing::Placed;
@@ -95,8 +95,8 @@ impl Bundle {
         Ok(Bundle { programmes, claim: claim.operand(0).into() })
     }
 
-    /// The values of a bundle's bytes: docs/INTERFACE.md: "two values a command, its byte and its operand, each
-    /// `50` with the number of its programme among them", and the claim.
+    /// The values of a bundle's bytes: docs/INTERFACE.md: "two values a command, its byte and its
+    /// operand, each `50` with the number of its programme among them", and the claim.
     pub fn values(sheet: &Sheet, bytes: &[u8]) -> Result<(Vec<u16>, u32), Refusal> {
         let text = BUNDLE.split(bytes);
         let (commands, claim) = BUNDLE.judge(sheet, &text)?;
@@ -116,8 +116,8 @@ impl Bundle {
         Ok(BUNDLE.bytes(&text))
     }
 
-    /// The bytes of a plan. "Programmes list tasks in placing order." "Each programme is written directly
-    /// behind the one before it. The claim is the latest finish."
+    /// The bytes of a plan. "Programmes list tasks in placing order." "Each programme is written
+    /// directly behind the one before it. The claim is the latest finish."
     pub fn of_plan(sheet: &Sheet, placed: &[Placed]) -> Vec<u8> {
         let mut text = Text::default();
         let highest = placed.iter().map(|placed| placed.processor).max();
@@ -132,8 +132,8 @@ impl Bundle {
     }
 }
 
-/// "For each task: receives of its links from other processors in rising link number, run, sends of its links
-/// to other processors likewise."
+/// "For each task: receives of its links from other processors in rising link number, run, sends of
+/// its links to other processors likewise."
 fn push_task(text: &mut Text, sheet: &Sheet, placed: &[Placed], one: &Placed) {
     let elsewhere = |task| {
         let there = placed.iter().find(|placed| placed.task == task);

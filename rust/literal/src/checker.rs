@@ -8,8 +8,8 @@ use crate::sheet::Sheet;
 /// A rule of the checker: the place where a bundle breaks it.
 type Rule = fn(&Sheet, &Bundle) -> Option<u64>;
 
-/// "A bundle has [..] the published messages if 26 and 27 don't" apply; the public machine starts if none of
-/// "21 to 28" does.
+/// "A bundle has [..] the published messages if 26 and 27 don't" apply; the public machine starts
+/// if none of "21 to 28" does.
 const STANDING: [(u8, Rule); 3] = [(26, run_count), (27, message), (28, over_store)];
 
 /// What only shows when it runs.
@@ -63,10 +63,10 @@ fn message(sheet: &Sheet, bundle: &Bundle) -> Option<u64> {
     (0..sheet.links.len()).find(|&link| message_wrong(sheet, bundle, link)).map(|link| link as u64)
 }
 
-/// "27 is given when a link between processors has not exactly one send and one receive in the whole bundle, or
-/// its send isn't after its source's run in that run's programme, or its receive isn't before its target's run
-/// in that run's programme; or when a link inside one processor has any message, or its source runs after its
-/// target."
+/// "27 is given when a link between processors has not exactly one send and one receive in the
+/// whole bundle, or its send isn't after its source's run in that run's programme, or its receive
+/// isn't before its target's run in that run's programme; or when a link inside one processor has
+/// any message, or its source runs after its target."
 fn message_wrong(sheet: &Sheet, bundle: &Bundle, link: usize) -> bool {
     let run_of = |task| stands(bundle, Action::Run(task))[0];
     let (source, target) = (run_of(sheet.links[link].from), run_of(sheet.links[link].to));
@@ -86,7 +86,8 @@ fn before(one: Stand, other: Stand) -> bool {
     one.0 == other.0 && one.1 < other.1
 }
 
-/// 28, over store: "stores of a programme's tasks plus bytes of its receives above M", "lowest processor".
+/// 28, over store: "stores of a programme's tasks plus bytes of its receives above M", "lowest
+/// processor".
 fn over_store(sheet: &Sheet, bundle: &Bundle) -> Option<u64> {
     let store = |action: &Action| match *action {
         Action::Run(task) => sheet.tasks[task].store,

@@ -1,5 +1,5 @@
-//! Sheet and bundle: "Both are commands of one byte (hexadecimal below), then unsigned operands, lowest
-//! byte first; u8, u16, u32 give the bits."
+//! Sheet and bundle: "Both are commands of one byte (hexadecimal below), then unsigned operands,
+//! lowest byte first; u8, u16, u32 give the bits."
 
 use crate::refusal::Refusal;
 
@@ -41,7 +41,7 @@ pub struct Text {
 /// Whether a command, behind the commands before it, breaks a rule.
 pub type Broken<C> = fn(&C, &[Command], &Command) -> bool;
 
-/// What sheets, or bundles for a sheet `C`, are made of.
+/// What a sheet or a bundle is made of; `C` is what its rules have to know beside its commands.
 pub struct Format<C: 'static> {
     /// Each command's byte, and how many bytes each of its operands has.
     pub kinds: &'static [(u8, &'static [usize])],
@@ -61,30 +61,35 @@ impl<C> Format<C> {
         self.kinds.iter().find(|kind| u16::from(kind.0) == byte).map(|kind| kind.1)
     }
 
+    /// How many bytes a whole command has.
+    fn length(&self, byte: u16) -> usize {
+        1 + self.widths(byte).unwrap_or(&[]).iter().sum::<usize>()
+    }
+
     /// The commands of some bytes: up to the end, or up to one that is strange or cut.
     pub fn split(&self, bytes: &[u8]) -> Text {
         let mut text = Text { commands: Vec::new(), length: bytes.len() };
         let mut offset = 0;
         while let Some(&byte) = bytes.get(offset) {
-            let widths = self.widths(byte.into());
-            let operands = widths.and_then(|widths| operands(&bytes[offset + 1..], widths));
+            let behind = &bytes[offset + 1..];
+            let operands = self.widths(byte.into()).and_then(|widths| operands(behind, widths));
             let last = operands.is_none() || byte == self.end;
             text.commands.push(Command { offset, byte: byte.into(), operands });
             if last {
                 break;
             }
-            offset += 1 + widths.iter().copied().flatten().sum::<usize>();
+            offset += self.length(byte.into());
         }
         text
     }
 
-    /// Puts a command behind a text. With too few operands it is cut, and one that ends there.
+    /// Puts a command behind a text. With too few operands it is cut: its bytes stop behind the
+    /// first.
     pub fn push(&self, text: &mut Text, byte: u16, operands: &[u32]) {
-        let widths = self.widths(byte).unwrap_or(&[]);
-        let whole = operands.len() >= widths.len();
+        let whole = operands.len() >= self.widths(byte).map_or(0, <[usize]>::len);
         let operands = whole.then(|| operands.to_vec());
         text.commands.push(Command { offset: text.length, byte, operands });
-        text.length += 1 + if whole { widths.iter().sum() } else { 0 };
+        text.length += if whole { self.length(byte) } else { 1 };
     }
 
     /// The bytes of a text without fault.
@@ -113,8 +118,7 @@ impl<C> Format<C> {
                 return Err(Refusal::new(number, command.offset));
             }
             if command.is(self.end) {
-                let widths = self.widths(command.byte).unwrap_or(&[]);
-                let behind = command.offset + 1 + widths.iter().sum::<usize>();
+                let behind = command.offset + self.length(command.byte);
                 return match text.length > behind {
                     true => Err(Refusal::new(self.tail, behind)),
                     false => Ok((before, command)),

@@ -1,5 +1,6 @@
-//! Each function of the library, from bytes to its answer to a caller who lends enough (12 and 13 are in
-//! [`crate::refusal`]): "then the sheet from its first byte [..] then the planner [..] or the checker".
+//! Each function of the library, from bytes to its answer to a caller who lends enough (12 and 13
+//! are in [`crate::refusal`]): "then the sheet from its first byte [..] then the planner [..] or
+//! the checker".
 
 use crate::bundle::Bundle;
 use crate::checker;
@@ -22,8 +23,8 @@ pub struct Tables {
 }
 
 impl Tables {
-    /// "12 with twice the number of tasks where `tasks` is shorter, else with four times the number of links
-    /// where `links` is".
+    /// "12 with twice the number of tasks where `tasks` is shorter, else with four times the number
+    /// of links where `links` is".
     pub fn lent(&self, tasks: usize, links: usize) -> Result<(), Refusal> {
         output(self.tasks.len(), tasks)?;
         output(self.links.len(), links)

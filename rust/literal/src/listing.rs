@@ -13,8 +13,8 @@ pub fn lines(plan: &Result<Vec<Placed>, Refusal>) -> String {
     }
 }
 
-/// "Line one: `PLAN`, processors opened, claim. Then a line for each task in number order: task, processor,
-/// start, finish."
+/// "Line one: `PLAN`, processors opened, claim. Then a line for each task in number order: task,
+/// processor, start, finish."
 fn plan_lines(placed: &[Placed]) -> String {
     let opened = (0..16).filter(|&k| placed.iter().any(|placed| placed.processor == k)).count();
     let mut lines = format!("PLAN {opened} {}\n", latest_finish(placed));

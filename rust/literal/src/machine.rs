@@ -32,7 +32,8 @@ impl<'a> Machine<'a> {
         Ok(Machine::fresh(sheet, bundle))
     }
 
-    /// "the fresh state: every programme at its first command, clocks and stores in use 0, nothing sent".
+    /// "the fresh state: every programme at its first command, clocks and stores in use 0, nothing
+    /// sent".
     pub fn fresh(sheet: &'a Sheet, bundle: &'a Bundle) -> Self {
         Machine {
             sheet,
@@ -47,8 +48,8 @@ impl<'a> Machine<'a> {
         self.bundle.programmes.get(k)?.get(self.processors[k].position).copied()
     }
 
-    /// "A processor can step if its programme has a command left and, where the next one is a receive, its
-    /// message has been sent."
+    /// "A processor can step if its programme has a command left and, where the next one is a
+    /// receive, its message has been sent."
     fn can_step(&self, k: usize) -> bool {
         match self.next(k) {
             Some(Action::Receive(link)) => self.stamps[link].is_some(),
@@ -56,8 +57,8 @@ impl<'a> Machine<'a> {
         }
     }
 
-    /// "the machine is advanced by one command of one chosen processor. A choice that cannot step, or names no
-    /// programme, changes nothing and says so."
+    /// "the machine is advanced by one command of one chosen processor. A choice that cannot step,
+    /// or names no programme, changes nothing and says so."
     pub fn step(&mut self, choice: u64) -> bool {
         let Ok(k) = usize::try_from(choice) else { return false };
         if !self.can_step(k) {
@@ -82,8 +83,8 @@ impl<'a> Machine<'a> {
             Action::Send(link) => {
                 self.stamps[link] = Some(processor.clock + self.sheet.links[link].cost);
             }
-            // "Receive [..] sets the clock to the later of clock and stamp, and adds the link's bytes to the
-            // store in use."
+            // "Receive [..] sets the clock to the later of clock and stamp, and adds the link's
+            // bytes to the store in use."
             Action::Receive(link) => {
                 processor.clock = processor.clock.max(self.stamps[link].unwrap_or(0));
                 processor.store += self.sheet.links[link].bytes;
@@ -91,7 +92,8 @@ impl<'a> Machine<'a> {
         }
     }
 
-    /// "Commands still to do are those standing in the programmes and not yet done, so neither `50` nor `5A`."
+    /// "Commands still to do are those standing in the programmes and not yet done, so neither `50`
+    /// nor `5A`."
     pub fn left(&self) -> usize {
         let programmes = self.bundle.programmes.iter().zip(&self.processors);
         programmes.map(|(programme, processor)| programme.len() - processor.position).sum()

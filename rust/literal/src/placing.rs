@@ -1,4 +1,4 @@
-//! Levels' second half and placing: whose turn it is, and which processor a task gets.
+//! Whose turn it is (the second half of "Levels"), and which processor a task gets ("Placing").
 
 use crate::levels::levels;
 use crate::refusal::Refusal;
@@ -22,8 +22,8 @@ pub fn place(sheet: &Sheet, guard: bool) -> Result<Vec<Placed>, Refusal> {
     place_by(sheet, &levels(sheet), guard)
 }
 
-/// The same by levels that are known: "Each turn takes the first ready task t." "With none, the plan is
-/// refused (11)", with "that task". K3 also tells what comes of it without the guard.
+/// The same by levels that are known: "Each turn takes the first ready task t." "With none, the
+/// plan is refused (11)", with "that task". K3 also tells what comes of it without the guard.
 pub fn place_by(sheet: &Sheet, levels: &[u64], guard: bool) -> Result<Vec<Placed>, Refusal> {
     let mut board = Board { sheet, levels, guard, placed: Vec::new() };
     while let Some(t) = board.first(|task| board.ready(task)) {
@@ -32,7 +32,7 @@ pub fn place_by(sheet: &Sheet, levels: &[u64], guard: bool) -> Result<Vec<Placed
     Ok(board.placed)
 }
 
-/// The placed tasks, and nothing that could be found out from them.
+/// The placed tasks, and nothing that can be found out from them.
 #[derive(Clone)]
 struct Board<'a> {
     sheet: &'a Sheet,
@@ -83,8 +83,8 @@ impl Board<'_> {
             && self.predecessors(task).any(|from| !self.is_placed(from))
     }
 
-    /// "Its arrival A is the greatest of (predecessor's finish + link cost), 0 without predecessors"; partly
-    /// ready, "its arrival then counts only the placed ones".
+    /// "Its arrival A is the greatest of (predecessor's finish + link cost), 0 without
+    /// predecessors"; partly ready, "its arrival then counts only the placed ones".
     fn arrival(&self, task: usize) -> u64 {
         let links = self.sheet.links_into(task);
         let times = links.filter_map(|(_, link)| Some(self.find(link.from)?.finish + link.cost));
@@ -107,8 +107,8 @@ impl Board<'_> {
         self.on(k).map(|placed| placed.finish).max().unwrap_or(0)
     }
 
-    /// "On processor k its start is the greatest of k's end time and, over its predecessors, finish + (0 if on
-    /// k, else cost)."
+    /// "On processor k its start is the greatest of k's end time and, over its predecessors,
+    /// finish + (0 if on k, else cost)."
     fn start(&self, t: usize, k: usize) -> u64 {
         self.start_without(t, k, None)
     }
@@ -133,8 +133,8 @@ impl Board<'_> {
         board
     }
 
-    /// "t fits k when the stores of the tasks on k and t, plus the bytes of links into any of them from other
-    /// processors, come to at most M."
+    /// "t fits k when the stores of the tasks on k and t, plus the bytes of links into any of them
+    /// from other processors, come to at most M."
     fn fits(&self, t: usize, k: usize) -> bool {
         let board = self.with(t, k);
         let stores: u64 = board.on(k).map(|placed| board.sheet.tasks[placed.task].store).sum();
@@ -147,22 +147,23 @@ impl Board<'_> {
         self.predecessors(task).any(|from| self.is_on(from, k))
     }
 
-    /// "Let u's best start be the least, over open processors holding a placed predecessor of u, of its start
-    /// there by placed predecessors", "t itself not counted as u's predecessor".
-    fn best_start(&self, u: usize, t: usize) -> Option<u64> {
+    /// "Let u's best start be the least, over open processors holding a placed predecessor of u, of
+    /// its start there by placed predecessors", "t itself not counted as u's predecessor".
+    fn best_start(&self, u: usize, t: usize) -> u64 {
         let holds = |k: &usize| self.predecessors(u).any(|from| from != t && self.is_on(from, *k));
-        self.open().filter(holds).map(|k| self.start_without(u, k, Some(t))).min()
+        let starts = self.open().filter(holds).map(|k| self.start_without(u, k, Some(t)));
+        starts.min().expect("a partly ready task has a placed predecessor")
     }
 
-    /// "The guard applies if the first partly ready task u has a strictly higher priority than t." "k is barred
-    /// if that best is below u's arrival, and putting t on k would raise that best".
+    /// "The guard applies if the first partly ready task u has a strictly higher priority than t."
+    /// "k is barred if that best is below u's arrival, and putting t on k would raise that best".
     fn barred(&self, t: usize, k: usize) -> bool {
         let Some(u) = self.first(|task| self.partly_ready(task)) else { return false };
         if self.priority(u) <= self.priority(t) {
             return false;
         }
         let best = self.best_start(u, t);
-        best < Some(self.arrival(u)) && self.with(t, k).best_start(u, t) > best
+        best < self.arrival(u) && self.with(t, k).best_start(u, t) > best
     }
 
     /// "Least start, then lowest number."
@@ -170,8 +171,8 @@ impl Board<'_> {
         among.min_by_key(|&k| (self.start(t, k), k))
     }
 
-    /// "1. Join: open k that hold a predecessor of t, fit, are not barred, and start t before A. Least start,
-    /// then the lowest numbered of the admissible processors."
+    /// "1. Join: open k that hold a predecessor of t, fit, are not barred, and start t before A.
+    /// Least start, then the lowest numbered of the admissible processors."
     fn join(&self, t: usize) -> Option<usize> {
         let admissible = self.open().filter(|&k| {
             self.holds_predecessor(t, k)
@@ -182,8 +183,9 @@ impl Board<'_> {
         self.least_start(t, admissible)
     }
 
-    /// "2. Idle: open k that fit, with end at most A, where each successor of each task on k is placed or is a
-    /// successor of t. t itself counts as not placed. Latest end, then lowest number."
+    /// "2. Idle: open k that fit, with end at most A, where each successor of each task on k is
+    /// placed or is a successor of t. t itself counts as not placed. Latest end, then lowest
+    /// number."
     fn idle(&self, t: usize) -> Option<usize> {
         let nobody_waits = |k: usize| {
             let links = self.on(k).flat_map(|placed| self.sheet.links_out_of(placed.task));
@@ -210,9 +212,9 @@ impl Board<'_> {
     /// The placing of t by the first step that gives a processor.
     fn choose(&self, t: usize) -> Option<Placed> {
         let steps = Self::STEPS.iter().enumerate();
-        let (step, k) = steps.filter_map(|(i, step)| Some((i + 1, step(self, t)?))).next()?;
+        let (step, k) = steps.map(|(i, step)| (i + 1, step(self, t))).find(|(_, k)| k.is_some())?;
         let unguarded = Board { guard: false, ..self.clone() };
         let guarded = self.guard && unguarded.join(t) != self.join(t);
-        self.with(t, k).placed.last().map(|&placed| Placed { step, guarded, ..placed })
+        self.with(t, k?).placed.last().map(|&placed| Placed { step, guarded, ..placed })
     }
 }

@@ -1,4 +1,5 @@
-//! "What the checker and planner say no with": a number and a place, and the two rules on what is lent.
+//! "What the checker and planner say no with": a number and a place, and the two rules on what is
+//! lent.
 
 /// A refusal, by its number in document 01's table.
 #[derive(Clone, Copy, Debug, PartialEq, Eq)]

@@ -1,6 +1,6 @@
-//! The sheet: "in this order: one `4D` (processors u8, 1 to 16; store limit M u32); then tasks `54` (work
-//! u16, 1 to 65,535; store u16), numbered from 0, at most 256; then links `45` (from u8, to u8, cost u16,
-//! bytes u16), numbered from 0, at most 1,024; then `51`, the end."
+//! The sheet: "in this order: one `4D` (processors u8, 1 to 16; store limit M u32); then tasks `54`
+//! (work u16, 1 to 65,535; store u16), numbered from 0, at most 256; then links `45` (from u8, to
+//! u8, cost u16, bytes u16), numbered from 0, at most 1,024; then `51`, the end."
 
 use crate::commands::{count, Command, Format, Text};
 use crate::refusal::Refusal;
@@ -131,8 +131,8 @@ impl Sheet {
     }
 }
 
-/// The text of a sheet's values: two for a task, four for a link; docs/INTERFACE.md: "A list of values
-/// that stops inside a record stands for a command that is cut there".
+/// The text of a sheet's values: two for a task, four for a link; docs/INTERFACE.md: "A list of
+/// values that stops inside a record stands for a command that is cut there".
 fn text_of(processors: u8, limit: u32, tasks: &[u16], links: &[u16]) -> Text {
     let mut text = Text::default();
     SHEET.push(&mut text, BOARD.into(), &[processors.into(), limit]);

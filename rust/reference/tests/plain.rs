@@ -32,8 +32,8 @@ fn levels_of_all_paths() {
     }
 }
 
-/// The literal bundle and listing of a sheet, by the rewrite's levels: all paths of a larger sheet are too
-/// many to walk.
+/// The literal bundle and listing of a sheet, by the rewrite's levels: all paths of a larger sheet
+/// are too many to walk.
 fn literal_plan(bytes: &[u8]) -> (Result<Vec<u8>, literal::Refusal>, Vec<u8>) {
     let levels = graph::levels(&Sheet::read(bytes).unwrap());
     let levels: Vec<u64> = levels.into_iter().map(u64::from).collect();
@@ -209,7 +209,8 @@ fn writers_and_readers() {
     }
 }
 
-/// A result as long as what is lent fits; one that is longer is refused (12), and nothing is written.
+/// A result as long as what is lent fits; one that is longer is refused (12), and nothing is
+/// written.
 #[test]
 fn short_outputs() {
     let mut out = [7; 4];

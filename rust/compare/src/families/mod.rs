@@ -78,7 +78,8 @@ pub struct Report {
     pub outcome: Outcome,
 }
 
-/// Runs every family so many times over, on so many threads; the reports are in the order of the families.
+/// Runs every family so many times over, on so many threads; the reports are in the order of the
+/// families.
 pub fn run<R: Rules>(
     families: &[Family<R>],
     times: usize,
@@ -128,7 +129,8 @@ fn faulty_sheet(random: &mut Random, values: &sheets::Sheet, round: usize) -> Ve
     }
 }
 
-/// A largest sheet with a task more, perhaps out of range, and with a link more, perhaps loose or doubled.
+/// A largest sheet with a task more, perhaps out of range, and with a link more, perhaps loose or
+/// doubled.
 fn over_full(random: &mut Random, full: &sheets::Sheet) -> [sheets::Sheet; 2] {
     let mut more_tasks = full.clone();
     more_tasks.tasks.extend([random.below(2) as u16, 7]);

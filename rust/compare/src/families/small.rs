@@ -90,8 +90,8 @@ pub fn right_bundles(c: &mut Small) -> Outcome {
     edited(c, 15_000, |_, _, _| ())
 }
 
-/// Bundles as hands arrange them: commands moved, messages early, late or exchanged, another claim, and
-/// sheets that just hold them or just do not.
+/// Bundles as hands arrange them: commands moved, messages early, late or exchanged, another claim,
+/// and sheets that just hold them or just do not.
 pub fn arranged_bundles(c: &mut Small) -> Outcome {
     edited(c, 20_000, |random, values, bundle| match random.below(6) {
         0 => claim_wrongly(random, bundle),
