@@ -100,13 +100,11 @@ impl<R: Rules> Comparison<R> {
         mut machine: Answered<&mut dyn Machine>,
         choices: Vec<u64>,
     ) -> Outcome {
-        let stepped = machine
-            .as_mut()
-            .map_err(|refusal| *refusal)
-            .map(|machine| choices.iter().filter(|&&choice| machine.step(choice)).count() as u64);
         // What names no programme still names none.
         let bytes: Vec<u8> =
             choices.iter().map(|&choice| u8::try_from(choice).unwrap_or(u8::MAX)).collect();
+        let stepped = machine.as_mut().map(|machine| machine.run(&bytes));
+        let stepped = stepped.map_err(|refusal| *refusal);
         let state = self.begin(Function::Run, pair, &bytes, stepped, |work, state| {
             product::run(pair.sheet, pair.bundle, &bytes, work, state)
         })?;

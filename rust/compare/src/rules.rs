@@ -42,6 +42,9 @@ pub trait Machine {
 
     /// Whether the choice stepped.
     fn step(&mut self, choice: u64) -> bool;
+
+    /// How many of these choices stepped.
+    fn run(&mut self, choices: &[u8]) -> u64;
     fn left(&self) -> u64;
 
     /// Clock, position and store in use of a processor, 0 where it has no programme.
@@ -149,6 +152,10 @@ impl Machine for reference::machine::Machine<'_> {
         self.step(choice).stepped()
     }
 
+    fn run(&mut self, choices: &[u8]) -> u64 {
+        choices.iter().filter(|&&choice| self.step(choice.into()).stepped()).count() as u64
+    }
+
     fn left(&self) -> u64 {
         self.left() as u64
     }
@@ -224,6 +231,10 @@ impl Machine for literal::machine::Machine<'_> {
 
     fn step(&mut self, choice: u64) -> bool {
         self.step(choice)
+    }
+
+    fn run(&mut self, choices: &[u8]) -> u64 {
+        literal::interface::run(self, choices)
     }
 
     fn left(&self) -> u64 {

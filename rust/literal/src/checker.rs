@@ -5,35 +5,30 @@ use crate::machine::Machine;
 use crate::refusal::Refusal;
 use crate::sheet::Sheet;
 
-/// A rule of the checker: the place where a bundle breaks it.
-type Rule = fn(&Sheet, &Bundle) -> Option<u64>;
+/// A rule of the checker: the refusal of a bundle that breaks it.
+type Rule = fn(&Sheet, &Bundle) -> Option<Refusal>;
 
-/// "A bundle has [..] the published messages if 26 and 27 don't" apply; the public machine starts
-/// if none of "21 to 28" does.
-const STANDING: [(u8, Rule); 3] = [(26, run_count), (27, message), (28, over_store)];
+/// "A bundle has [..] the published messages if 26 and 27 don't" apply; the public machine starts if
+/// none of "21 to 28" does.
+const STANDING: [Rule; 3] = [run_count, message, over_store];
 
 /// What only shows when it runs.
-const RUNNING: [(u8, Rule); 2] = [(29, stuck), (30, wrong_claim)];
+const RUNNING: [Rule; 2] = [stuck, wrong_claim];
 
 /// Whether a bundle is accepted.
 pub fn check(sheet: &Sheet, bundle: &Bundle) -> Result<(), Refusal> {
     startable(sheet, bundle)?;
-    first(&RUNNING, sheet, bundle)
+    none_broken(&RUNNING, sheet, bundle)
 }
 
 /// Whether the public machine starts.
 pub fn startable(sheet: &Sheet, bundle: &Bundle) -> Result<(), Refusal> {
-    first(&STANDING, sheet, bundle)
+    none_broken(&STANDING, sheet, bundle)
 }
 
-/// The first of these rules that is broken.
-fn first(rules: &[(u8, Rule)], sheet: &Sheet, bundle: &Bundle) -> Result<(), Refusal> {
-    for (number, broken) in rules {
-        if let Some(place) = broken(sheet, bundle) {
-            return Err(Refusal { number: *number, place });
-        }
-    }
-    Ok(())
+/// The refusal of the first of these rules that is broken.
+fn none_broken(rules: &[Rule], sheet: &Sheet, bundle: &Bundle) -> Result<(), Refusal> {
+    rules.iter().find_map(|rule| rule(sheet, bundle)).map_or(Ok(()), Err)
 }
 
 /// Where a command stands: its programme, and its position in it.
@@ -53,14 +48,15 @@ fn stands(bundle: &Bundle, action: Action) -> Vec<Stand> {
 }
 
 /// 26, run count: "task not run just once", "lowest task".
-fn run_count(sheet: &Sheet, bundle: &Bundle) -> Option<u64> {
+fn run_count(sheet: &Sheet, bundle: &Bundle) -> Option<Refusal> {
     let once = |task| stands(bundle, Action::Run(task)).len() == 1;
-    (0..sheet.tasks.len()).find(|&task| !once(task)).map(|task| task as u64)
+    (0..sheet.tasks.len()).find(|&task| !once(task)).map(|task| Refusal::new(26, task))
 }
 
 /// 27, message, "lowest link".
-fn message(sheet: &Sheet, bundle: &Bundle) -> Option<u64> {
-    (0..sheet.links.len()).find(|&link| message_wrong(sheet, bundle, link)).map(|link| link as u64)
+fn message(sheet: &Sheet, bundle: &Bundle) -> Option<Refusal> {
+    let wrong = |&link: &usize| message_wrong(sheet, bundle, link);
+    (0..sheet.links.len()).find(wrong).map(|link| Refusal::new(27, link))
 }
 
 /// "27 is given when a link between processors has not exactly one send and one receive in the
@@ -88,26 +84,27 @@ fn before(one: Stand, other: Stand) -> bool {
 
 /// 28, over store: "stores of a programme's tasks plus bytes of its receives above M", "lowest
 /// processor".
-fn over_store(sheet: &Sheet, bundle: &Bundle) -> Option<u64> {
+fn over_store(sheet: &Sheet, bundle: &Bundle) -> Option<Refusal> {
     let store = |action: &Action| match *action {
         Action::Run(task) => sheet.tasks[task].store,
         Action::Receive(link) => sheet.links[link].bytes,
         Action::Send(_) => 0,
     };
     let above = |programme: &Vec<Action>| programme.iter().map(store).sum::<u64>() > sheet.limit;
-    bundle.programmes.iter().position(above).map(|k| k as u64)
+    bundle.programmes.iter().position(above).map(|k| Refusal::new(28, k))
 }
 
 /// 29, stuck: "no one can step, commands left", "lowest unfinished processor".
-fn stuck(sheet: &Sheet, bundle: &Bundle) -> Option<u64> {
+fn stuck(sheet: &Sheet, bundle: &Bundle) -> Option<Refusal> {
     let machine = run_out(sheet, bundle);
-    (0..bundle.programmes.len()).find(|&k| machine.next(k).is_some()).map(|k| k as u64)
+    let unfinished = |&k: &usize| machine.next(k).is_some();
+    (0..bundle.programmes.len()).find(unfinished).map(|k| Refusal::new(29, k))
 }
 
 /// 30, wrong claim: "claim is not the latest clock", "that clock".
-fn wrong_claim(sheet: &Sheet, bundle: &Bundle) -> Option<u64> {
+fn wrong_claim(sheet: &Sheet, bundle: &Bundle) -> Option<Refusal> {
     let clock = run_out(sheet, bundle).latest_clock();
-    (clock != bundle.claim).then_some(clock)
+    (clock != bundle.claim).then_some(Refusal { number: 30, place: clock })
 }
 
 /// The machine when no one can step; "Any processor able to step may be next", here the lowest.

@@ -120,8 +120,8 @@ pub fn start<T>(
 }
 
 /// docs/INTERFACE.md: "makes these choices, one after the other", and how many of them stepped.
-pub fn run(machine: &mut Machine, choices: &[u8]) -> usize {
-    choices.iter().filter(|&&choice| machine.step(choice.into())).count()
+pub fn run(machine: &mut Machine, choices: &[u8]) -> u64 {
+    choices.iter().filter(|&&choice| machine.step(choice.into())).count() as u64
 }
 
 /// "clock, position and store in use of processor k, each 0 where it has no programme".
