@@ -5,6 +5,7 @@ use mathlib.Core.Logic.{_≢_}
 use mathlib.Core.List.{List}
 use native.Mathlib.Omega.{arith}
 use lib.ListN.{getD}
+use Rattle.workspace.specs.Area.{headsAt, marksAt, nextsAt}
 use Rattle.folds.specs.Folds.{sum}
 use Rattle.folds.proofs.Loops.{sum-more}
 use Rattle.folds.proofs.Laws.{sum-skip}
@@ -27,14 +28,14 @@ module _ {e : End} {s : Sheet} {w w′ : List ℕ} where
         next-none = λ l h. rw (g l h) (d .next-none l h);
       }
 
-  pub chained-frame : taskCount s ≤ 256 → linkCount s ≤ 1024 → ((i : ℕ) → 2576 ≤ i → i < 3856 → getD w′ i 0 ≡ getD w i 0) → Chained e s w → Chained e s w′
+  pub chained-frame : taskCount s ≤ 256 → linkCount s ≤ 1024 → ((i : ℕ) → headsAt ≤ i → i < marksAt → getD w′ i 0 ≡ getD w i 0) → Chained e s w → Chained e s w′
   unfolding headOf nextOf
-  chained-frame n m f = chained-same (λ t h. ap (half e) (f (2576 + t) (omega arith) (omega arith))) (λ l h. ap (half e) (f (2832 + l) (omega arith) (omega arith)))
+  chained-frame n m f = chained-same (λ t h. ap (half e) (f (headsAt + t) (omega arith) (omega arith))) (λ l h. ap (half e) (f (nextsAt + l) (omega arith) (omega arith)))
 
 -- the links into tasks stay chained while those out of tasks are
 pub chained-under : {s : Sheet} {w w′ : List ℕ} → Rechained Source w w′ → Chained Target s w → Chained Target s w′
 unfolding headOf nextOf
-chained-under r = chained-same (λ t h. r .under (2576 + t)) (λ l h. r .under (2832 + l))
+chained-under r = chained-same (λ t h. r .under (headsAt + t)) (λ l h. r .under (nextsAt + l))
 
 -- a sum to which only the links of t give something
 module _ {e : End} {s : Sheet} {w : List ℕ} (d : Chained e s w) (t : ℕ) (t-in : t < taskCount s) (f : ℕ → ℕ) (else : (l : ℕ) → l < linkCount s → endBy e s l ≢ t → f l ≡ 0) where

@@ -5,6 +5,7 @@ use mathlib.Core.Bool.{true}
 use mathlib.Core.List.{List}
 use native.Mathlib.Omega.{arith}
 use lib.ListN.{length, getD, replicate, length-replicate}
+use Rattle.workspace.specs.Area.{headsAt, levelsAt, placedAt, placesAt}
 use Rattle.folds.specs.Answers.{Answer}
 use Rattle.folds.proofs.Lists.{getD-replicate}
 use Rattle.sheet.specs.Sheet.{Sheet, taskCount, linkCount}
@@ -33,7 +34,7 @@ module _ {w w₁ : List ℕ} (loaded : Loaded w) (levelled : Levelled (sheetIn w
   abbrev s : Sheet
   s = sheetIn w
 
-  low₁ : (i : ℕ) → i < 3856 → getD w₁ i 0 ≡ getD w i 0
+  low₁ : (i : ℕ) → i < placesAt → getD w₁ i 0 ≡ getD w i 0
   low₁ i h = e₁ .only .low i h
 
   pub loaded₁ : Loaded w₁
@@ -43,7 +44,7 @@ module _ {w w₁ : List ℕ} (loaded : Loaded w) (levelled : Levelled (sheetIn w
   sheet₁ = same-sheet w w₁ loaded low₁
 
   module _ {w₂ : List ℕ} (r₂ : Rechained Source w₁ w₂) (outward : Chained Source (sheetIn w₁) w₂) where
-    low₂ : (i : ℕ) → i < 2576 → getD w₂ i 0 ≡ getD w i 0
+    low₂ : (i : ℕ) → i < headsAt → getD w₂ i 0 ≡ getD w i 0
     low₂ i h = r₂ .only .low i h ∙ low₁ i (omega arith)
 
     long₂ : length w₂ ≡ length w
@@ -115,9 +116,9 @@ module _ {w w₁ : List ℕ} (loaded : Loaded w) (levelled : Levelled (sheetIn w
                     standing = standing₂;
                     caches = subst (λ (x : Sheet). Caches x (scheduleIn w₂) w₂ own) (sym sheet₂) caches₂;
                   };
-              levelled = subst (λ (x : Sheet). Levelled x w₂) (sym sheet₂) (record { inward = inward₂; levels = λ t h. low₂ (2320 + t) (omega (arith, ranged w loaded .few-tasks)) ∙ levelled .levels t h });
+              levelled = subst (λ (x : Sheet). Levelled x w₂) (sym sheet₂) (record { inward = inward₂; levels = λ t h. low₂ (levelsAt + t) (omega (arith, ranged w loaded .few-tasks)) ∙ levelled .levels t h });
               timely = subst (Timely 0) (sym schedule₂) (empty-timely s);
-              placed = omega (arith, r₂ .only .high 4369 (omega arith), e₁ .placed);
+              placed = omega (arith, r₂ .only .high placedAt (omega arith), e₁ .placed);
             }
 
     planned-by : {a : Answer Schedule} → a ≡ turns (sheetIn w₂) (barred (sheetIn w₂)) (taskCount (sheetIn w₂)) (scheduleIn w₂) → a ≡ planned s

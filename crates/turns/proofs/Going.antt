@@ -6,6 +6,7 @@ use mathlib.Core.List.{List}
 use native.Mathlib.Omega.{arith}
 use native.Mathlib.Decide.{ℕ-discrete}
 use lib.ListN.{length, getD}
+use Rattle.workspace.specs.Area.{placedAt, placesAt}
 use Rattle.sheet.specs.Sheet.{Sheet, taskCount, workOf}
 use Rattle.sheet.specs.Tables.{sheetIn, Loaded, Ranged}
 use Rattle.sheet.proofs.Rows.{ranged, work-in}
@@ -44,7 +45,7 @@ pub record Putting (w own : List ℕ) (j t k a f p o : ℕ) : Type 0 where
   pub late : endOf (sheetIn w) (scheduleIn w) k ≤ f
   pub early : f ≤ 131070 * (j + 1)
   pub lasts : f ≡ a + getD w (16 + t) 0 % 65536
-  pub placed-is : p ≡ getD w 4369 0
+  pub placed-is : p ≡ getD w placedAt 0
   pub opened-is : o ≡ max (scheduleIn w .opened) (k + 1)
 
 module _ {w own own₁ : List ℕ} {j t k a f p o : ℕ} (u : Putting w own j t k a f p o) (o₁ : Only 1536 1568 own own₁) (ends : Ends (sheetIn w) (put (scheduleIn w) t k a f) own₁) where
@@ -91,7 +92,7 @@ module _ {w own own₁ : List ℕ} {j t k a f p o : ℕ} (u : Putting w own j t 
     gathered₂ = gathered-frame (range .few-tasks) (λ i h l. r₂ .low i (omega arith) ∙ o₁ .low i (omega arith)) (u .going .kept .caches .gathered)
 
     module _ {w₃ : List ℕ} (e₃ : w₃ ≡ putWords w t k f p o) where
-      low₃ : (i : ℕ) → i < 3856 → getD w₃ i 0 ≡ getD w i 0
+      low₃ : (i : ℕ) → i < placesAt → getD w₃ i 0 ≡ getD w i 0
       low₃ i h = rw e₃ (put-low w t k f p o (u .going .kept .loaded .long) t-small (u .can .on) p-small i h)
 
       long₃ : length w₃ ≡ length w
@@ -107,7 +108,7 @@ module _ {w own own₁ : List ℕ} {j t k a f p o : ℕ} (u : Putting w own j t 
       unfolding scheduleIn
       schedule₃ = ap scheduleIn e₃ ∙ schedule-put w t k f p o (u .going .kept .loaded .long) t-small (u .can .on) p-small a (u .lasts) (u .going .kept .loaded .tasks) (u .placed-is) (u .opened-is)
 
-      placed₃ : getD w₃ 4369 0 ≡ p + 1
+      placed₃ : getD w₃ placedAt 0 ≡ p + 1
       placed₃ = rw e₃ (put-placed w t k f p o (u .going .kept .loaded .long) t-small (u .can .on) p-small)
 
       chain₃ : Chained Source s w₃
@@ -179,7 +180,7 @@ choosing g h r v = record { kept = g .kept; levelled = g .levelled; task = h; is
 
 -- the numbers as the code finds them
 pub putting : {w own : List ℕ} {j t k a y p x o : ℕ} → Going w j w own → j < 256 → t < taskCount (sheetIn w) → k < 16 → ready (sheetIn w) (scheduleIn w) t ≡ true → Surveyed (sheetIn w) (scheduleIn w) t own
-    → a ≡ startOn (sheetIn w) (scheduleIn w) t k → y ≡ workOf (sheetIn w) t → p ≡ getD w 4369 0 → x ≡ scheduleIn w .opened → o ≡ max x (k + 1) → Putting w own j t k a (a + y) p o
+    → a ≡ startOn (sheetIn w) (scheduleIn w) t k → y ≡ workOf (sheetIn w) t → p ≡ getD w placedAt 0 → x ≡ scheduleIn w .opened → o ≡ max x (k + 1) → Putting w own j t k a (a + y) p o
 putting {w} {own} {j} {t} {k} {a} g turn h on r v ea ey ep ex eo =
     record {
       going = g;

@@ -14,6 +14,10 @@ ghost use Rattle.turns.specs.Turns.{answerOf, Going, Cleared, Emptied, A
 use chains::End;
 use sheet::tables;
 use words::Found;
+use workspace::FINISHES;
+use workspace::OPENED;
+use workspace::PLACED;
+use workspace::PLACES;
 
 // Done, or refused for want of store (11) at a task.
 pub enum Planned {
@@ -120,8 +124,8 @@ fn clear_tables(w: &mut [u32])
     let n = tables::tasks(w);
     let mut t: usize = 0;
     while t < n {
-        w[3856 + t] = 16;
-        w[4112 + t] = 0;
+        w[PLACES + t] = 16;
+        w[FINISHES + t] = 0;
         t += 1;
     }
 }
@@ -132,11 +136,11 @@ fn clear(w: &mut [u32])
     ensures { λ _. ⌜ Emptied (now (w .entry)) (now (w .exit)) ⌝ }
 {
     clear_tables(w);
-    w[4368] = 0;
-    w[4369] = 0;
+    w[OPENED] = 0;
+    w[PLACED] = 0;
 }
 
-// The schedule of the sheet in the tables, in the words from 3856 on, or the task that is refused.
+// The schedule of the sheet in the tables, in its words of the area, or the task that is refused.
 pub fn schedule(w: &mut [u32]) -> Planned
     requires { ⌜ Loaded (now w) ⌝ }
     requires { ⌜ Levelled (sheetIn (now w)) (now w) ⌝ }
