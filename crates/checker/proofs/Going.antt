@@ -12,7 +12,7 @@ use Rattle.sheet.specs.Sheet.{Sheet}
 use Rattle.bundle.specs.Bundle.{Bundle, programmeCount}
 use Rattle.messages.specs.Counting.{each}
 use Rattle.messages.specs.Messages.{Published}
-use Rattle.machine.specs.Machine.{State, freshState, step, canStep}
+use Rattle.machine.specs.Machine.{State, freshState, step, canStep, stated}
 use Rattle.machine.specs.Runs.{Run, freshRun, runFrom, runOf, left, settled}
 use Rattle.machine.specs.Kept.{StepIs, RunIs}
 use Rattle.state.specs.Tracks.{Tracks}
@@ -135,12 +135,12 @@ module _ (sheet bundle : List ℕ) where
         on o k τ p e =
             let m = step-move s b (o .state) k τ e in (
               ap (λ (x : State). length (x .processors)) (m .here) ∙ length-set (o .state .processors) k _ ∙ p .0,
-              omega (arith, p .1, left-moved s b (o .state) k (m .c) (m .w) (p .0) (m .comes) each, ap (λ (x : State). left b x each) (m .here)),
+              omega (arith, p .1, left-moved s b (o .state) k (m .c) (stated s b k (m .c)) (m .w) (p .0) (m .comes) each, ap (λ (x : State). left b x each) (m .here)),
             )
 
     none-left : (w : List ℕ) (σ : State) → Tracks sheet bundle s b w σ → left b σ each ≡ 0 → (k : ℕ) → step s b σ k ≡ none
     none-left w σ h e k =
-        no-step s b σ k (λ τ q. let m = step-move s b σ k τ q in omega (arith, left-moved s b σ k (m .c) (m .w) (h .processors) (m .comes) each))
+        no-step s b σ k (λ τ q. let m = step-move s b σ k τ q in omega (arith, left-moved s b σ k (m .c) (stated s b k (m .c)) (m .w) (h .processors) (m .comes) each))
 
     -- words keep what is at most 65,536 commands from the end
     few-left : (w : List ℕ) (σ : State) → Tracks sheet bundle s b w σ → 0 < programmeCount b → left b σ each ≤ 65536

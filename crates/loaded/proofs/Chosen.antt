@@ -17,7 +17,7 @@ use Rattle.sheet.specs.Sheet.{Sheet, linkCount, workOf, storeOf, costOf, bytesO
 use Rattle.bundle.specs.Bundle.{Command, run, send, receive, Bundle, programmeOf}
 use Rattle.bundle.specs.Fits.{Known}
 use Rattle.messages.specs.Counting.{each}
-use Rattle.machine.specs.Machine.{State, processorOf, stampOf, next, moved, step, canStep, stampIn}
+use Rattle.machine.specs.Machine.{State, processorOf, stampOf, next, stated, moved, step, canStep, stampIn}
 use Rattle.machine.specs.Runs.{chosen, left}
 use Rattle.machine.proofs.Steps.{move-step, left-moved, stamp-sent, stamp-other}
 use Rattle.loaded.specs.Words.{nextIn, clockIn, storeIn, firstIn, taskWord, wordOf, endCode, needIn, placedWords, steppedWords, ranWords, sentWords, gotWords}
@@ -76,20 +76,20 @@ module _ (w : List ℕ) (k : ℕ) (near : k < 16) (n : ℕ) (here : n ≡ nextIn
     -- a run
     module _ (t : ℕ) (e : next b σ k ≡ some (run t)) (j : p < length (programmeOf b k)) (o : Known s (run t)) (amount gets : ℕ) (takes : amount ≡ workOf s t) (is : gets ≡ storeOf s t) where
       ran-with : (true ≡ canStep s b σ k) × Keeps s b (ranWords w k amount gets) (chosen σ (step s b σ k))
-      unfolding ranWords steppedWords stampOf
+      unfolding ranWords steppedWords stampOf stated
       ran-with =
           let r = h .room k near in
           let wf : workOf s t < 65536 = h .programmed .ranged .works t o in
           let sf : storeOf s t < 65536 = h .programmed .ranged .stores t o in
           let v = placedWords w k (nextIn w k + 1) (max (clockIn w k) 0 + amount) (storeIn w k + gets) in
-          let less : left b (moved s σ k (run t) 0) each + 1 ≡ left b σ each = left-moved s b σ k (run t) 0 (h .processors) e each in
+          let less : left b (moved s σ k (run t) (workOf s t) 0) each + 1 ≡ left b σ each = left-moved s b σ k (run t) (workOf s t) 0 (h .processors) e each in
           let bounds = h .programmed .high k near in
           let m : Moved (linkCount s) w v k (nextIn w k + 1) (max (processorOf σ k .clock) 0 + workOf s t + 1) (processorOf σ k .store + storeOf s t) =
           moved-at (placed-moved w k (nextIn w k + 1) (max (clockIn w k) 0 + amount) (storeIn w k + gets) long near (linkCount s)) (omega (arith, h .next k near, h .inside k near))
           (omega (arith, h .clock k near, r .0)) (omega (arith, h .store k near, r .1))
           in
-          goes Keeps s b v σ k (moved s σ k (run t) 0) (move-step s b σ k (run t) 0 e refl)
-          (keeps-moved s b w σ h k near (run t) e 0 j wf sf (omega (arith, r .0)) v m
+          goes Keeps s b v σ k (moved s σ k (run t) (workOf s t) 0) (move-step s b σ k (run t) 0 e refl)
+          (keeps-moved s b w σ h k near (run t) e (workOf s t) 0 j wf sf (omega (arith, r .0)) v m
           (λ l j. ap stampIn (placed-stamp w k (nextIn w k + 1) (max (clockIn w k) 0 + amount) (storeIn w k + gets) long near (96 + l) (omega arith)) ∙ h .stamp l j)
           (λ l x j. omega (arith, h .roomy l x j)))
 
@@ -123,7 +123,7 @@ module _ (w : List ℕ) (k : ℕ) (near : k < 16) (n : ℕ) (here : n ≡ nextIn
 
     -- a send
     sent-on : x / 131072 % 2 ≡ 0 → Coming s b w σ k n → (true ≡ canStep s b σ k) × Keeps s b (sentWords w k (x % 65536) i) (chosen σ (step s b σ k))
-    unfolding sentWords steppedWords stampOf
+    unfolding sentWords steppedWords stampOf stated
     sent-on z (over e f) = absurd (omega arith)
     sent-on z (comes (run t) e j o f) = absurd (no-run t o f .0 z)
     sent-on z (comes (receive l) e j o f) = absurd (omega (arith, h .programmed .ranged .sizes l o))
@@ -157,29 +157,29 @@ module _ (w : List ℕ) (k : ℕ) (near : k < 16) (n : ℕ) (here : n ≡ nextIn
             in
             let high : (i : ℕ) → getD u (96 + i) 0 ≡ getD w (96 + i) 0 = λ i. placed-stamp w k (nextIn w k + 1) (max (clockIn w k) 0 + 0) (storeIn w k + 0) lw near (96 + i) (omega arith) in
             let kept : (i : ℕ) → (i ≡ l → ⊥) → getD v (96 + i) 0 ≡ getD w (96 + i) 0 = λ i d. away (96 + i) (λ y. d (omega arith)) ∙ high i in
-            let less : left b (moved s σ k (send l) 0) each + 1 ≡ left b σ each = left-moved s b σ k (send l) 0 (h .processors) e each in
+            let less : left b (moved s σ k (send l) (costOf s l) 0) each + 1 ≡ left b σ each = left-moved s b σ k (send l) (costOf s l) 0 (h .processors) e each in
             let now : clockIn w k + amount ≡ suc (processorOf σ k .clock + costOf s l) = omega (arith, h .clock k near) in
             let stamp-is : stamp ≡ suc (processorOf σ k .clock + costOf s l) = omega (arith, r .0) in
             let put : getD v (96 + l) 0 ≡ stamp = getD-set-same u (96 + l) stamp 0 (omega (arith, y .long)) in
-            let mine = stamp-sent s σ k l 0 (omega (arith, h .stamps)) in
-            let theirs = stamp-other s σ k l 0 in
-            goes Keeps s b v σ k (moved s σ k (send l) 0) (move-step s b σ k (send l) 0 e refl)
-            (keeps-moved s b w σ h k near (send l) e 0 j (omega arith) (omega arith) (omega (arith, r .0)) v m
+            let mine = stamp-sent s σ k l (costOf s l) 0 (omega (arith, h .stamps)) in
+            let theirs = stamp-other s σ k l (costOf s l) 0 in
+            goes Keeps s b v σ k (moved s σ k (send l) (costOf s l) 0) (move-step s b σ k (send l) 0 e refl)
+            (keeps-moved s b w σ h k near (send l) e (costOf s l) 0 j (omega arith) (omega arith) (omega (arith, r .0)) v m
             (λ i o.
             elim (ℕ-discrete i l) [
-              | yes y ↦ subst (λ (c : ℕ). stampIn (getD v (96 + c) 0) ≡ stampOf (moved s σ k (send l) 0) c) (sym y) (ap stampIn (put ∙ stamp-is) ∙ sym mine)
+              | yes y ↦ subst (λ (c : ℕ). stampIn (getD v (96 + c) 0) ≡ stampOf (moved s σ k (send l) (costOf s l) 0) c) (sym y) (ap stampIn (put ∙ stamp-is) ∙ sym mine)
               | no d ↦ ap stampIn (kept i d) ∙ h .stamp i o ∙ sym (theirs i d)
             ])
             (λ i y o.
             elim (ℕ-discrete i l) [
-              | yes z ↦ omega (arith, r .0, Option·some-injective (processorOf σ k .clock + costOf s l) y (sym mine ∙ ap (stampOf (moved s σ k (send l) 0)) (sym z) ∙ o))
+              | yes z ↦ omega (arith, r .0, Option·some-injective (processorOf σ k .clock + costOf s l) y (sym mine ∙ ap (stampOf (moved s σ k (send l) (costOf s l) 0)) (sym z) ∙ o))
               | no d ↦ omega (arith, h .roomy i y (sym (theirs i d) ∙ o))
             ]))
 
     -- a receive
     got-on : (x / 131072 % 2 ≡ 0 → ⊥) → x / 262144 % 2 ≡ 0 → Coming s b w σ k n → (f : Bool) → f ≡ not (eqb (getD w i 0) 0)
         → (f ≡ canStep s b σ k) × Keeps s b (pick f (gotWords w k (x % 65536) i) w) (chosen σ (step s b σ k))
-    unfolding gotWords steppedWords stampOf
+    unfolding gotWords steppedWords stampOf stated
     got-on z y (over e g) f u =
         let slot : i ≡ 95 = omega arith in
         let none-there : getD w i 0 ≡ 0 = ap (λ (j : ℕ). getD w j 0) slot ∙ h .programmed .nothing in
@@ -214,9 +214,9 @@ module _ (w : List ℕ) (k : ℕ) (near : k < 16) (n : ℕ) (here : n ≡ nextIn
             moved-at (placed-moved w k (nextIn w k + 1) (max (clockIn w k) (getD w i 0) + 0) (storeIn w k + amount) (long s b σ h) near (linkCount s)) (omega (arith, h .next k near, h .inside k near))
             (omega (arith, h .clock k near, r .0)) (omega (arith, h .store k near, r .1))
             in
-            let less : left b (moved s σ k (receive l) y) each + 1 ≡ left b σ each = left-moved s b σ k (receive l) y (h .processors) e each in
-            goes Keeps s b v σ k (moved s σ k (receive l) y) (move-step s b σ k (receive l) y e got)
-            (keeps-moved s b w σ h k near (receive l) e y j (omega arith) bf late v m
+            let less : left b (moved s σ k (receive l) 0 y) each + 1 ≡ left b σ each = left-moved s b σ k (receive l) 0 y (h .processors) e each in
+            goes Keeps s b v σ k (moved s σ k (receive l) 0 y) (move-step s b σ k (receive l) y e got)
+            (keeps-moved s b w σ h k near (receive l) e 0 y j (omega arith) bf late v m
             (λ c o. ap stampIn (placed-stamp w k (nextIn w k + 1) (max (clockIn w k) (getD w i 0) + 0) (storeIn w k + amount) (long s b σ h) near (96 + c) (omega arith)) ∙ h .stamp c o)
             (λ c a o. omega (arith, h .roomy c a o)))
 

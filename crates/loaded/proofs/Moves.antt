@@ -83,23 +83,23 @@ module _ {links : ℕ} {w v : List ℕ} {k n c x : ℕ} (near : k < 16) (m : Mov
 module _ (s : Sheet) (b : Bundle) (w : List ℕ) (σ : State) (h : Keeps s b w σ) (k : ℕ) (near : k < 16) where
   -- the command c came next, and waited for the time x
   module _
-      (c : Command) (e : next b σ k ≡ some c) (x : ℕ) (inside : processorOf σ k .position < length (programmeOf b k))
-      (works : takes s c < 65536) (needs : need s c < 65536) (waited : x + 65535 * left b σ each ≤ 4294901760) (v : List ℕ)
-      (m : Moved (linkCount s) w v k (nextIn w k + 1) (max (processorOf σ k .clock) x + takes s c + 1) (processorOf σ k .store + need s c)) where
+      (c : Command) (e : next b σ k ≡ some c) (d x : ℕ) (inside : processorOf σ k .position < length (programmeOf b k))
+      (works : takes c d < 65536) (needs : need s c < 65536) (waited : x + 65535 * left b σ each ≤ 4294901760) (v : List ℕ)
+      (m : Moved (linkCount s) w v k (nextIn w k + 1) (max (processorOf σ k .clock) x + takes c d + 1) (processorOf σ k .store + need s c)) where
     abbrev pub τ : State
-    τ = moved s σ k c x
+    τ = moved s σ k c d x
 
     one-less : left b τ each + 1 ≡ left b σ each
-    one-less = left-moved s b σ k c x (h .processors) e each
+    one-less = left-moved s b σ k c d x (h .processors) e each
 
     pub keeps-moved : ((l : ℕ) → l < linkCount s → stampIn (getD v (96 + l) 0) ≡ stampOf τ l) → ((l y : ℕ) → stampOf τ l ≡ some y → y + 65535 * left b τ each ≤ 4294901760) → Keeps s b v τ
     keeps-moved stamped roomed =
         let less = one-less in
-        let of = each-of s b σ k c x (h .processors) e 16 in
+        let of = each-of s b σ k c d x (h .processors) e 16 in
         record {
           programmed = programmed-same near m s b refl (h .programmed);
           processors = length-set (σ .processors) k _ ∙ h .processors;
-          stamps = length-posted s c (processorOf σ k .clock) (σ .stamps) ∙ h .stamps;
+          stamps = length-posted c (processorOf σ k .clock + d) (σ .stamps) ∙ h .stamps;
           inside = of (λ j p. p .position ≤ length (programmeOf b j)) (omega arith) (λ j d l. h .inside j l);
           next =
               of (λ j p. nextIn v j ≡ firstIn v j + p .position) (omega (arith, m .next, first-same near m k near, h .next k near))

@@ -19,7 +19,7 @@ use Rattle.bundle.specs.Lies.{sizeOf, Lies}
 use Rattle.bundle.proofs.Lying.{lies-le}
 use Rattle.messages.specs.Counting.{each}
 use Rattle.messages.proofs.Walking.{stands-run, stands-send, stands-receive}
-use Rattle.machine.specs.Machine.{State, processorOf, stampOf, next, moved, step, canStep, stampIn}
+use Rattle.machine.specs.Machine.{State, processorOf, stampOf, next, stated, moved, step, canStep, stampIn}
 use Rattle.machine.specs.Runs.{chosen, left}
 use Rattle.state.specs.Words.{movedWords, ranWords, sentWords, gotWords}
 use Rattle.machine.specs.Kept.{StepIs}
@@ -68,7 +68,7 @@ module _ (sheet bundle w : List ℕ) (k : ℕ) where
 
       -- a run
       ran-on : getD bundle at 0 ≡ 0x52 → (true ≡ canStep s b σ k) × Tracks sheet bundle s b (ranWords sheet bundle w k at) (chosen σ (step s b σ k))
-      unfolding ranWords stampOf
+      unfolding ranWords stampOf stated
       ran-on q =
           let n = coming in
           let t = getD bundle (at + 1) 0 in
@@ -90,15 +90,15 @@ module _ (sheet bundle w : List ℕ) (k : ℕ) where
           in
           let wf : workOf s t < 65536 = omega (arith, small (7 + 5 * t)) in
           let sf : storeOf s t < 65536 = omega (arith, small (9 + 5 * t)) in
-          let less : left b (moved s σ k (run t) 0) each + 1 ≡ left b σ each = left-moved s b σ k (run t) 0 (h .processors) c each in
-          goes (Tracks sheet bundle) s b v σ k (moved s σ k (run t) 0) (move-step s b σ k (run t) 0 c refl)
-          (tracks-moved s b sheet bundle w σ h k below (run t) c 0 y wf sf (omega (arith, r .0)) v low
+          let less : left b (moved s σ k (run t) (workOf s t) 0) each + 1 ≡ left b σ each = left-moved s b σ k (run t) (workOf s t) 0 (h .processors) c each in
+          goes (Tracks sheet bundle) s b v σ k (moved s σ k (run t) (workOf s t) 0) (move-step s b σ k (run t) 0 c refl)
+          (tracks-moved s b sheet bundle w σ h k below (run t) c (workOf s t) 0 y wf sf (omega (arith, r .0)) v low
           (λ m i. ap stampIn (moved-high w k (at + 2) (max (getD w (64 + k) 0) 0 + work) (getD w (48 + k) 0 + 1) (getD w (80 + k) 0 + size) (h .long) near (96 + m) (omega arith)) ∙ h .stamp m i)
           (λ m x i. omega (arith, h .roomy m x i)))
 
       -- a send
       sent-on : getD bundle at 0 ≡ 0x53 → (true ≡ canStep s b σ k) × Tracks sheet bundle s b (sentWords sheet bundle w k at) (chosen σ (step s b σ k))
-      unfolding sentWords stampOf
+      unfolding sentWords stampOf stated
       sent-on q =
           let n = coming in
           let m = numberAt 2 bundle (at + 1) in
@@ -123,29 +123,29 @@ module _ (sheet bundle w : List ℕ) (k : ℕ) where
           (omega (arith, lies-le (taskCount s) (linkCount s) bundle y, fits (suc k))) (omega (arith, h .position k below, r .0))
           (omega (arith, h .clock k below, r .1)) (omega (arith, h .store k below, r .2)))
           in
-          let less : left b (moved s σ k (send m) 0) each + 1 ≡ left b σ each = left-moved s b σ k (send m) 0 (h .processors) c each in
+          let less : left b (moved s σ k (send m) (costOf s m) 0) each + 1 ≡ left b σ each = left-moved s b σ k (send m) (costOf s m) 0 (h .processors) c each in
           let stamp-is : x ≡ suc (processorOf σ k .clock + costOf s m) = omega (arith, h .clock k below, r .1, co, small-cost) in
           let put : getD u (96 + m) 0 ≡ x = getD-set-same w (96 + m) x 0 (omega (arith, h .long, h .few-links, z .1)) in
-          let mine = stamp-sent s σ k m 0 (omega (arith, h .stamps, z .1)) in
-          let theirs = stamp-other s σ k m 0 in
+          let mine = stamp-sent s σ k m (costOf s m) 0 (omega (arith, h .stamps, z .1)) in
+          let theirs = stamp-other s σ k m (costOf s m) 0 in
           let high : (i : ℕ) → 96 ≤ i → getD v i 0 ≡ getD u i 0 = moved-high u k (at + 3) (max (getD w (64 + k) 0) 0 + 0) (getD w (48 + k) 0 + 1) (getD w (80 + k) 0 + 0) lu nk in
-          goes (Tracks sheet bundle) s b v σ k (moved s σ k (send m) 0) (move-step s b σ k (send m) 0 c refl)
-          (tracks-moved s b sheet bundle w σ h k below (send m) c 0 y (omega arith) (omega arith) (omega (arith, r .0)) v low
+          goes (Tracks sheet bundle) s b v σ k (moved s σ k (send m) (costOf s m) 0) (move-step s b σ k (send m) 0 c refl)
+          (tracks-moved s b sheet bundle w σ h k below (send m) c (costOf s m) 0 y (omega arith) (omega arith) (omega (arith, r .0)) v low
           (λ i l.
           elim (ℕ-discrete i m) [
-            | yes g ↦ subst (λ (j : ℕ). stampIn (getD v (96 + j) 0) ≡ stampOf (moved s σ k (send m) 0) j) (sym g) (ap stampIn (high (96 + m) (omega arith) ∙ put ∙ stamp-is) ∙ sym mine)
+            | yes g ↦ subst (λ (j : ℕ). stampIn (getD v (96 + j) 0) ≡ stampOf (moved s σ k (send m) (costOf s m) 0) j) (sym g) (ap stampIn (high (96 + m) (omega arith) ∙ put ∙ stamp-is) ∙ sym mine)
             | no d ↦ ap stampIn (high (96 + i) (omega arith) ∙ getD-set-other w (96 + m) (96 + i) x 0 (λ g. d (omega arith))) ∙ h .stamp i l ∙ sym (theirs i d)
           ])
           (λ i x f.
           elim (ℕ-discrete i m) [
-            | yes g ↦ omega (arith, r .1, co, small-cost, Option·some-injective (processorOf σ k .clock + costOf s m) x (sym mine ∙ ap (stampOf (moved s σ k (send m) 0)) (sym g) ∙ f))
+            | yes g ↦ omega (arith, r .1, co, small-cost, Option·some-injective (processorOf σ k .clock + costOf s m) x (sym mine ∙ ap (stampOf (moved s σ k (send m) (costOf s m) 0)) (sym g) ∙ f))
             | no d ↦ omega (arith, h .roomy i x (sym (theirs i d) ∙ f))
           ]))
 
       -- a receive of a message that was sent, and of one that was not
       got-on : (getD bundle at 0 ≡ 0x52 → ⊥) → (getD bundle at 0 ≡ 0x53 → ⊥) → (f : Bool) → f ≡ not (eqb (getD w (96 + numberAt 2 bundle (at + 1)) 0) 0)
           → (f ≡ canStep s b σ k) × Tracks sheet bundle s b (pick f (gotWords sheet bundle w k at) w) (chosen σ (step s b σ k))
-      unfolding gotWords stampOf
+      unfolding gotWords stampOf stated
       got-on p q f g = by f (getD w (96 + m) 0) refl g (h .stamp m (z .1))
         where
           n : Coming s b sheet bundle w σ h k
@@ -183,10 +183,10 @@ module _ (sheet bundle w : List ℕ) (k : ℕ) where
               (omega (arith, lies-le (taskCount s) (linkCount s) bundle y, fits (suc k))) (omega (arith, h .position k below, r .0))
               (omega (arith, h .clock k below, r .1, e, late)) (omega (arith, h .store k below, r .2, si, small-size))
               in
-              let less : left b (moved s σ k (receive m) x) each + 1 ≡ left b σ each = left-moved s b σ k (receive m) x (h .processors) c each in
+              let less : left b (moved s σ k (receive m) 0 x) each + 1 ≡ left b σ each = left-moved s b σ k (receive m) 0 x (h .processors) c each in
               let sf : bytesOf s m < 65536 = omega (arith, si, small-size) in
-              goes (Tracks sheet bundle) s b v σ k (moved s σ k (receive m) x) (move-step s b σ k (receive m) x c got)
-              (tracks-moved s b sheet bundle w σ h k below (receive m) c x y (omega arith) sf late v low
+              goes (Tracks sheet bundle) s b v σ k (moved s σ k (receive m) 0 x) (move-step s b σ k (receive m) x c got)
+              (tracks-moved s b sheet bundle w σ h k below (receive m) c 0 x y (omega arith) sf late v low
               (λ j l. ap stampIn (moved-high w k (at + 3) (max (getD w (64 + k) 0) (getD w (96 + m) 0 - 1) + 0) (getD w (48 + k) 0 + 1) (getD w (80 + k) 0 + size) (h .long) near (96 + j) (omega arith)) ∙ h .stamp j l)
               (λ j x f. omega (arith, h .roomy j x f)))
 

@@ -42,15 +42,15 @@ module _ (s : Sheet) (b : Bundle) (sheet bundle w : List ℕ) (σ : State) (h : 
       }
 
   module _
-      (below : k < programmeCount b) (c : Command) (e : next b σ k ≡ some c) (x : ℕ)
+      (below : k < programmeCount b) (c : Command) (e : next b σ k ≡ some c) (u x : ℕ)
       (lying : Lies (taskCount s) (linkCount s) bundle (getD w (32 + k) 0 + sizeOf c) (getD w (suc k) 0) (drop (suc (processorOf σ k .position)) (programmeOf b k)))
-      (works : takes s c < 65536) (needs : need s c < 65536) (waited : x + 65535 * left b σ each ≤ 4294901760) (v : List ℕ)
-      (low : Low w v k (left b σ each - 1) (getD w (32 + k) 0 + sizeOf c) (processorOf σ k .position + 1) (max (processorOf σ k .clock) x + takes s c) (processorOf σ k .store + need s c)) where
+      (works : takes c u < 65536) (needs : need s c < 65536) (waited : x + 65535 * left b σ each ≤ 4294901760) (v : List ℕ)
+      (low : Low w v k (left b σ each - 1) (getD w (32 + k) 0 + sizeOf c) (processorOf σ k .position + 1) (max (processorOf σ k .clock) x + takes c u) (processorOf σ k .store + need s c)) where
     abbrev pub τ : State
-    τ = moved s σ k c x
+    τ = moved s σ k c u x
 
     one-less : left b τ each + 1 ≡ left b σ each
-    one-less = left-moved s b σ k c x (h .processors) e each
+    one-less = left-moved s b σ k c u x (h .processors) e each
 
     small : k < 16
     small = omega (arith, h .few, below)
@@ -94,7 +94,7 @@ module _ (s : Sheet) (b : Bundle) (sheet bundle w : List ℕ) (σ : State) (h : 
         → Tracks sheet bundle s b v τ
     tracks-moved stamped roomed =
         let less = one-less in
-        let of = each-of s b σ k c x (h .processors) e (programmeCount b) in
+        let of = each-of s b σ k c u x (h .processors) e (programmeCount b) in
         record {
           fields = h .fields;
           long = omega (arith, h .long, low .long);
@@ -104,7 +104,7 @@ module _ (s : Sheet) (b : Bundle) (sheet bundle w : List ℕ) (σ : State) (h : 
           tasks = fixed 18 (omega arith) (λ q. omega arith) ∙ h .tasks;
           todo = low .todo ∙ omega arith;
           processors = length-set (σ .processors) k _ ∙ h .processors;
-          stamps = length-posted s c (processorOf σ k .clock) (σ .stamps) ∙ h .stamps;
+          stamps = length-posted c (processorOf σ k .clock + u) (σ .stamps) ∙ h .stamps;
           lies =
               of (λ j p. Lies (taskCount s) (linkCount s) bundle (getD v (32 + j) 0) (getD v (suc j) 0) (drop (p .position) (programmeOf b j)))
               (rw (low .at, bound k below) lying) (λ j d l. rw (their-at j d l, bound j l) (h .lies j l));
