@@ -1,0 +1,6 @@
+-- The definitions of `stepping_machine`.
+pub mod Layout
+pub mod Words
+pub mod Advance
+pub mod Represents
+pub mod Settling
