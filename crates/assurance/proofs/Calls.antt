@@ -9,23 +9,23 @@ use Rattle.workspace.specs.Area.{fixed}
 use Rattle.sheet.specs.Sheet.{Sheet}
 use Rattle.bundle.specs.Bundle.{Bundle}
 use Rattle.machine.specs.Runs.{Run, choose, runFrom, freshRun, runOf, answers}
-use Rattle.loaded.specs.Keeps.{Keeps}
+use Rattle.stepping_machine.specs.Represents.{Represents}
 use Rattle.machine.proofs.Choices.{choose-is}
 use Rattle.assurance.specs.Demand.{Stepped, nothing, stepped, Agrees}
 
 module _ (s : Sheet) (b : Bundle) where
   -- from words that keep the state of a run
-  calls : {ks ps state last : List ℕ} → Stepped ks ps state last → (r : Run) → fixed ≤ length state → Keeps s b state (r .state)
-      → (ps ≡ map bit (answers s b r ks)) × (fixed ≤ length last) × Keeps s b last (runFrom s b r ks .state)
+  calls : {ks ps state last : List ℕ} → Stepped ks ps state last → (r : Run) → fixed ≤ length state → Represents s b state (r .state)
+      → (ps ≡ map bit (answers s b r ks)) × (fixed ≤ length last) × Represents s b last (runFrom s b r ks .state)
   unfolding answers runFrom
   calls nothing r long h = (refl, long, h)
   calls (stepped {k} {next = next} g more) r long h =
       let a = g .agrees long s b (r .state) h in
-      let kept : Keeps s b next (choose s b r k .state) = subst (Keeps s b next) (sym (choose-is s b r k .0)) (a .1) in
+      let kept : Represents s b next (choose s b r k .state) = subst (Represents s b next) (sym (choose-is s b r k .0)) (a .1) in
       let z = calls more (choose s b r k) (omega (arith, g .long)) kept in
       (ap₂ (λ (x : ℕ) (y : List ℕ). x ∷ y) (a .0) (z .0), z .1, z .2)
 
-  pub agreed : {ks ps state last : List ℕ} → fixed ≤ length state → Keeps s b state (freshRun s b .state) → Stepped ks ps state last → Agrees s b ks ps last
+  pub agreed : {ks ps state last : List ℕ} → fixed ≤ length state → Represents s b state (freshRun s b .state) → Stepped ks ps state last → Agrees s b ks ps last
   unfolding runOf
   agreed {ks} {ps} {state} {last} long h c =
       let z = calls c (freshRun s b) long h in

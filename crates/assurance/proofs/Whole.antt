@@ -25,7 +25,7 @@ use Rattle.checker.specs.Checker.{checked, check}
 use Rattle.checker.proofs.Accepted.{accepted, passes}
 use Rattle.planner.specs.Placing.{barred}
 use Rattle.planner.specs.Planner.{bundleOf, planned, plan}
-use Rattle.starting.specs.Starts.{starting}
+use Rattle.stepping_machine.specs.Starts.{starting}
 use Rattle.zeldrupa.specs.Promises.{checkAnswer, GivesCheck, planAnswer, GivesPlan}
 use Rattle.answers.specs.Values.{steppedIn}
 use Rattle.zeldrupa.specs.Stepping.{startAnswer}

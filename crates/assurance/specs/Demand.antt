@@ -19,8 +19,8 @@ use Rattle.messages.specs.Counting.{weigh, whole, each, is, need}
 use Rattle.messages.specs.Messages.{Published}
 use Rattle.machine.specs.Machine.{processorOf, stampOf, canStep}
 use Rattle.machine.specs.Runs.{Run, freshRun, runOf, answers, doneOf, done, left, latest}
-use Rattle.loaded.specs.Keeps.{Keeps}
-use Rattle.starting.specs.Starts.{starting}
+use Rattle.stepping_machine.specs.Represents.{Represents}
+use Rattle.stepping_machine.specs.Starts.{starting}
 use Rattle.zeldrupa.specs.Promises.{GivesCheck, GivesPlan}
 use Rattle.answers.specs.Values.{numbersOf}
 use Rattle.zeldrupa.specs.Stepping.{GivesStart, GivesRun, GivesStep, GivesLeft, GivesProcessor, stampNumber, GivesStamp}
@@ -56,7 +56,7 @@ pub record Agrees (s : Sheet) (b : Bundle) (ks ps last : List ℕ) : Type 0 wher
   -- "has given the definition's answers": 1 for each choice that stepped, 0 for each that could not
   pub answered : ps ≡ map bit (answers s b (freshRun s b) ks)
   -- "and holds its positions, clocks, stores and stamps"
-  pub keeps : Keeps s b last (runOf s b ks .state)
+  pub keeps : Represents s b last (runOf s b ks .state)
   pub left : (p r : ℕ) → GivesLeft last p r → p ≡ left b (runOf s b ks .state) each
   pub processor : (k p r : ℕ) (x x′ : List ℕ) → GivesProcessor last k x x′ p r → x′ ≡ numbersOf (runOf s b ks .state) k
   pub stamp : (l p r : ℕ) → GivesStamp last l p r → p ≡ stampNumber (stampOf (runOf s b ks .state) l)
@@ -83,4 +83,4 @@ pub record Demand : Type 0 where
   pub runs :
       (sheet bundle choices work work′ state state′ : List ℕ) (p : ℕ) → GivesRun choices sheet bundle work work′ state state′ p 0 →
       (s : Sheet) × (b : Bundle) × (starting sheet bundle ≡ value (s, b)) ×
-      (p ≡ runOf s b choices .stepped) × Keeps s b state′ (runOf s b choices .state)
+      (p ≡ runOf s b choices .stepped) × Represents s b state′ (runOf s b choices .state)

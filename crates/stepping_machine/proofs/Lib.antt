@@ -4,4 +4,7 @@ pub mod Moves
 pub mod Chosen
 pub mod Told
 pub mod Going
+pub mod Loading
 pub mod Fresh
+pub mod Opening
+pub mod Starting

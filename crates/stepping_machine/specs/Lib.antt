@@ -4,3 +4,5 @@ pub mod Words
 pub mod Advance
 pub mod Represents
 pub mod Settling
+pub mod Loads
+pub mod Starts

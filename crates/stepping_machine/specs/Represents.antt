@@ -52,6 +52,10 @@ pub record Represents (s : Sheet) (b : Bundle) (w : List ℕ) (σ : State) : Typ
   pub room : (k : ℕ) → k < 16 → (processorOf σ k .clock + lay.most * left b σ each ≤ lay.full) × (processorOf σ k .store + lay.most * left b σ each ≤ lay.full)
   pub roomy : (l x : ℕ) → stampOf σ l ≡ some x → x + lay.most * left b σ each ≤ lay.full
 
+-- all programmes stand before the stamps or between the first command's index and the index e
+pub record Within (b : Bundle) (w : List ℕ) (e : ℕ) : Type 0 where
+  pub within : (k : ℕ) → k < 16 → (firstIn w k + length (programmeOf b k) < lay.stamps) ⊎ ((lay.commands ≤ firstIn w k) × (firstIn w k + length (programmeOf b k) < e))
+
 -- one choice: as the definition's step, and nobody steps in words that are all 0
 pub record ChoiceIs (w last : List ℕ) (k : ℕ) (r : Bool) : Type 0 where
   pub steps : StepIs Represents w last k r

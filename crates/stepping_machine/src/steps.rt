@@ -1,8 +1,8 @@
 // One choice of a processor, and a list of them.
 ghost use mathlib.Core.Path.{_≡_};
 ghost use mathlib.Core.Bool.{not};
-ghost use Prim.Native.Nat.{_%_, _≤_, _<_};
-ghost use lib.ListN.{length, getD, set};
+ghost use Prim.Native.Nat.{_≤_, _<_};
+ghost use lib.ListN.{length, getD};
 ghost use lib.Dec.{eqb};
 ghost use Rattle.folds.specs.Folds.{pick, bit};
 ghost use Rattle.machine.specs.Kept.{RunIs};
@@ -18,14 +18,7 @@ use crate::STAMPS;
 use crate::STORES;
 use crate::processors::Processor;
 use crate::processors::stepped;
-
-// Puts the low 32 bits of x at i, a word that is there.
-fn put(w: &mut [u32], i: usize, x: usize)
-    requires { ⌜ i < length (now w) ⌝ }
-    ensures { λ _. ⌜ now (w .exit) ≡ set (now (w .entry)) i (x % 4294967296) ⌝ }
-{
-    w[i] = words::narrow(x);
-}
+use crate::put;
 
 // Processor k of the words.
 fn processor(w: &[u32], k: usize) -> Processor

@@ -8,7 +8,7 @@
 --   2832 + l next link into the same task as link l + 65536 * next link out of the same task (1,024)
 --   3856 to 4383 for one after the other: the search for circles and levels, and the schedule
 -- While a sheet is read, 2320 to 4367 have a bit for each pair of tasks; the checker and the machine's start, which read the
--- sheet's bytes, use the words from 16 on.
+-- sheet's bytes, use the words from 16 on: stepping_machine/specs/Layout lays out the 4,976 of them.
 use Prim.Native.Nat.{ℕ, _≤_, _<_}
 use mathlib.Core.Path.{_≡_}
 use mathlib.Core.Logic.{_⊎_}
@@ -17,7 +17,7 @@ use lib.ListN.{length, getD}
 
 -- the length below which an area is refused (13), in words
 abbrev pub fixed : ℕ
-fixed = 4384
+fixed = 4992
 
 -- the words from a up to e are 0, and the others as they were
 pub record ClearIs (w last : List ℕ) (a e : ℕ) : Type 0 where
