@@ -19,7 +19,7 @@ extern "C" {
 #endif
 
 /* The fixed length of work areas and states, in words of 32 bits. */
-#define ZELDRUPA_WORK_LENGTH 4384
+#define ZELDRUPA_WORK_LENGTH 4992
 
 /* The numbers of the refusals; the place is an offset where nothing else is said. */
 enum zeldrupa_refusal {

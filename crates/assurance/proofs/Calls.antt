@@ -11,7 +11,7 @@ use Rattle.workspace.specs.Area.{fixed}
 use Rattle.sheet.specs.Sheet.{Sheet}
 use Rattle.bundle.specs.Bundle.{Bundle}
 use Rattle.machine.specs.Runs.{Run, choose, runFrom, freshRun, runOf, answers}
-use Rattle.loaded.specs.Keeps.{Keeps}
+use Rattle.stepping_machine.specs.Represents.{Represents}
 use Rattle.machine.proofs.Choices.{choose-is, from-then}
 use Rattle.zeldrupa.specs.Stepping.{GivesStep, stateNumber}
 use Rattle.assurance.specs.Demand.{Stepped, nothing, stepped, refused, Agrees}
@@ -25,24 +25,24 @@ refused-same state part n k p g = elim (decLt (length (take n state)) fixed) [
 
 module _ (s : Sheet) (b : Bundle) where
   -- from words that keep the state of a run
-  calls : {ks ps state last : List ℕ} → Stepped ks ps state last → (r : Run) → fixed ≤ length state → Keeps s b state (r .state)
-      → (ps ≡ map bit (answers s b r ks)) × (fixed ≤ length last) × Keeps s b last (runFrom s b r ks .state)
+  calls : {ks ps state last : List ℕ} → Stepped ks ps state last → (r : Run) → fixed ≤ length state → Represents s b state (r .state)
+      → (ps ≡ map bit (answers s b r ks)) × (fixed ≤ length last) × Represents s b last (runFrom s b r ks .state)
   unfolding answers runFrom
   calls nothing r long h = (refl, long, h)
   calls (stepped {k} {next = next} g more) r long h =
       let a = g .agrees long s b (r .state) h in
-      let kept : Keeps s b next (choose s b r k .state) = subst (Keeps s b next) (sym (choose-is s b r k .0)) (a .1) in
+      let kept : Represents s b next (choose s b r k .state) = subst (Represents s b next) (sym (choose-is s b r k .0)) (a .1) in
       let z = calls more (choose s b r k) (omega (arith, g .long)) kept in
       (ap₂ (λ (x : ℕ) (y : List ℕ). x ∷ y) (a .0) (z .0), z .1, z .2)
   calls (refused n {k} {p} {state = state} {part = part} g more) r long h =
       let same : state ≡ part ++ drop n state = sym (refused-same state part n k p g) in
-      calls more r (subst (λ (x : List ℕ). fixed ≤ length x) same long) (subst (λ (x : List ℕ). Keeps s b x (r .state)) same h)
+      calls more r (subst (λ (x : List ℕ). fixed ≤ length x) same long) (subst (λ (x : List ℕ). Represents s b x (r .state)) same h)
 
-  pub agreed : (made : List ℕ) {ks ps state last : List ℕ} → fixed ≤ length state → Keeps s b state (runOf s b made .state) → Stepped ks ps state last → Agrees s b made ks ps last
+  pub agreed : (made : List ℕ) {ks ps state last : List ℕ} → fixed ≤ length state → Represents s b state (runOf s b made .state) → Stepped ks ps state last → Agrees s b made ks ps last
   unfolding runOf
   agreed made {ks} {ps} {state} {last} long h c =
       let z = calls c (runOf s b made) long h in
-      let kept : Keeps s b last (runOf s b (made ++ ks) .state) = subst (λ (r : Run). Keeps s b last (r .state)) (sym (from-then s b (freshRun s b) made ks)) (z .2) in
+      let kept : Represents s b last (runOf s b (made ++ ks) .state) = subst (λ (r : Run). Represents s b last (r .state)) (sym (from-then s b (freshRun s b) made ks)) (z .2) in
       record {
         answered = z .0;
         keeps = kept;

@@ -19,9 +19,9 @@ use Rattle.bundle.specs.Format.{readBundle}
 use Rattle.bundle.proofs.Numbers.{bundle-numbered}
 use Rattle.bundle.specs.Writing.{bundleBytes}
 use Rattle.messages.specs.Messages.{at26, at27, at28}
-use Rattle.messages.specs.Admitted.{fitting as fittingStore, messaging, admitted, admittedBytes}
+use Rattle.messages.specs.Admitted.{admitted, admittedBytes}
 use Rattle.machine.specs.Runs.{settled}
-use Rattle.starting.specs.Starts.{starting}
+use Rattle.stepping_machine.specs.Starts.{starting}
 use Rattle.checker.specs.Checker.{at29, at30, closing, checked, check}
 use Rattle.planner.specs.Schedule.{Schedule}
 use Rattle.planner.specs.Placing.{barred, firstReady}
@@ -78,7 +78,7 @@ module _ (s : Sheet) where
       (numbered-unless 29 (at29 b (settled s b)) _ (omega arith) (numbered-unless 30 (at30 b (settled s b)) _ (omega arith) (numbered-value b)))))
 
   numbered-admitted : (b : Bundle) → Numbered (admitted s b)
-  unfolding admitted messaging fittingStore
+  unfolding admitted
   numbered-admitted b =
       numbered-unless 26 (at26 s b) _ (omega arith) (numbered-unless 27 (at27 s b) _ (omega arith) (numbered-unless 28 (at28 s b) _ (omega arith) (numbered-value b)))
 

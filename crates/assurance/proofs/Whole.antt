@@ -22,8 +22,8 @@ use Rattle.checker.specs.Checker.{checked, check}
 use Rattle.checker.proofs.Accepted.{accepted, passes}
 use Rattle.planner.specs.Placing.{barred}
 use Rattle.planner.specs.Planner.{bundleOf, planned, plan}
-use Rattle.loaded.specs.Keeps.{Keeps}
-use Rattle.starting.specs.Starts.{starting}
+use Rattle.stepping_machine.specs.Represents.{Represents}
+use Rattle.stepping_machine.specs.Starts.{starting}
 use Rattle.zeldrupa.specs.Promises.{checkAnswer, GivesCheck, planAnswer, GivesPlan}
 use Rattle.answers.specs.Values.{steppedIn}
 use Rattle.zeldrupa.specs.Stepping.{startAnswer}
@@ -100,7 +100,7 @@ starts-checked s b x e =
 -- what a started machine holds: 0 was returned, and its words keep the state after the choices that were made
 begun-keeps : {sheet bundle work work′ state state′ made : List ℕ} {p r : ℕ} → Begun sheet bundle work work′ state state′ made p r → (s : Sheet) (b : Bundle)
     → startAnswer sheet bundle (length work) (length state) ≡ value (s, b)
-    → (r ≡ 0) × (p ≡ runOf s b made .stepped) × (length state′ ≡ length state) × Keeps s b state′ (runOf s b made .state)
+    → (r ≡ 0) × (p ≡ runOf s b made .stepped) × (length state′ ≡ length state) × Represents s b state′ (runOf s b made .state)
 unfolding runOf runFrom
 begun-keeps (started g) s b e = (g .returns ∙ ap number e, g .place ∙ ap (placeOr (λ x. 0)) e, g .long, g .keeps s b e)
 begun-keeps (ran {choices} g) s b e = (g .returns ∙ ap number e, g .place ∙ ap (placeOr (steppedIn choices)) e, g .long, g .keeps s b e)

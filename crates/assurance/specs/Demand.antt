@@ -20,7 +20,7 @@ use Rattle.messages.specs.Counting.{weigh, whole, each, is, need}
 use Rattle.messages.specs.Messages.{Published}
 use Rattle.machine.specs.Machine.{processorOf, stampOf, canStep}
 use Rattle.machine.specs.Runs.{Run, runOf, answers, doneOf, done, left, latest}
-use Rattle.loaded.specs.Keeps.{Keeps}
+use Rattle.stepping_machine.specs.Represents.{Represents}
 use Rattle.zeldrupa.specs.Promises.{GivesCheck, GivesPlan}
 use Rattle.answers.specs.Values.{numbersOf}
 use Rattle.zeldrupa.specs.Stepping.{GivesStart, GivesRun, GivesStep, GivesLeft, GivesProcessor, stampNumber, GivesStamp}
@@ -70,7 +70,7 @@ pub record Agrees (s : Sheet) (b : Bundle) (made ks ps last : List ℕ) : Type 0
   -- "has given the definition's answers": 1 for each choice that stepped, 0 for each that could not
   pub answered : ps ≡ map bit (answers s b (runOf s b made) ks)
   -- "and holds its positions, clocks, stores and stamps"
-  pub keeps : Keeps s b last (runOf s b (made ++ ks) .state)
+  pub keeps : Represents s b last (runOf s b (made ++ ks) .state)
   pub left : (p r : ℕ) → GivesLeft last p r → p ≡ left b (runOf s b (made ++ ks) .state) each
   pub processor : (k p r : ℕ) (x x′ : List ℕ) → GivesProcessor last k x x′ p r → x′ ≡ numbersOf (runOf s b (made ++ ks) .state) k
   pub stamp : (l p r : ℕ) → GivesStamp last l p r → p ≡ stampNumber (stampOf (runOf s b (made ++ ks) .state) l)

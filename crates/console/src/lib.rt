@@ -19,6 +19,6 @@ fn length_of(r: Listed) -> usize
 pub fn put_listing(sheet: &[u8], out: &mut [u8; 21551]) -> usize
     ensures { λ n. ⌜ PutIs (now (sheet .entry)) (now (out .exit)) n ⌝ }
 {
-    let mut work = [0u32; 4384];
+    let mut work = [0u32; workspace::LENGTH];
     length_of(lines::list(sheet, &mut work, out))
 }

@@ -1,9 +1,11 @@
 // 26 and 27, by the notes of a bundle's commands.
 ghost use mathlib.Core.Path.{_≡_};
-ghost use Prim.Native.Nat.{_+_, _≤_, _<_};
+ghost use Prim.Native.Nat.{_≤_, _<_};
 ghost use lib.ListN.{length};
+ghost use Rattle.messages.specs.Fields.{Narrow};
 ghost use Rattle.messages.specs.Notes.{ahead, insideBy, acrossBy};
 ghost use Rattle.messages.specs.Rules.{OnceIs, LinkIs, MessageIs};
+use crate::view::View;
 use words::Found;
 
 // 26: the lowest of n tasks that does not run just once.
@@ -60,13 +62,13 @@ fn across(a: usize, t: usize, sent: usize, got: usize) -> bool
     false
 }
 
-// Whether the messages of link l are as they should be, behind n tasks.
-fn link_ok(sheet: &[u8], w: &[u32], n: usize, l: usize) -> bool
-    requires { ⌜ (n < 65536) × (l < 1024) × (4352 ≤ length (now w)) ⌝ }
-    ensures { λ r. ⌜ LinkIs (now (sheet .entry)) (now (w .entry)) n l r ⌝ }
+// Whether the messages of link l are as they should be.
+fn link_ok(sheet: &[u8], w: &[u32], v: View, l: usize) -> bool
+    requires { ⌜ Narrow v × (l < 1024) × (4352 ≤ length (now w)) ⌝ }
+    ensures { λ r. ⌜ LinkIs (now (sheet .entry)) (now (w .entry)) v l r ⌝ }
 {
-    let source = words::byte(sheet, 7 + 5 * n + 7 * l);
-    let target = words::byte(sheet, 8 + 5 * n + 7 * l);
+    let source = words::byte(sheet, v.source_at(l));
+    let target = words::byte(sheet, v.target_at(l));
     let a = workspace::word(w, 2048 + source);
     let t = workspace::word(w, 2048 + target);
     let sent = workspace::word(w, 2048 + (256 + l));
@@ -77,14 +79,14 @@ fn link_ok(sheet: &[u8], w: &[u32], n: usize, l: usize) -> bool
     across(a, t, sent, got)
 }
 
-// 27: the lowest of m links, behind n tasks, whose messages are not as they should be.
-pub fn wrong_message(sheet: &[u8], w: &[u32], n: usize, m: usize) -> Found
-    requires { ⌜ (n < 65536) × (m ≤ 1024) × (4352 ≤ length (now w)) ⌝ }
-    ensures { λ r. ⌜ MessageIs (now (sheet .entry)) (now (w .entry)) n m r ⌝ }
+// 27: the lowest link whose messages are not as they should be.
+pub fn wrong_message(sheet: &[u8], w: &[u32], v: View) -> Found
+    requires { ⌜ Narrow v × (4352 ≤ length (now w)) ⌝ }
+    ensures { λ r. ⌜ MessageIs (now (sheet .entry)) (now (w .entry)) v r ⌝ }
 {
     let mut l = 0;
-    while l < m {
-        if link_ok(sheet, w, n, l) {
+    while l < v.links {
+        if link_ok(sheet, w, v, l) {
             l += 1;
         } else {
             return Found::At(l);

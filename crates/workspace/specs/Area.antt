@@ -1,4 +1,5 @@
--- The lent work area: its fixed length, and which words of it hold what. No other place knows a number of these.
+-- The lent work area: its fixed length, and which words of it hold what. No other place knows a number of these. The checker and the machine's start, which read the
+-- sheet's bytes, use the words behind the board as stepping_machine/specs/Layout lays them out.
 use Prim.Native.Nat.{ℕ, _≤_, _<_}
 use mathlib.Core.Path.{_≡_}
 use mathlib.Core.Logic.{_⊎_}
@@ -7,7 +8,7 @@ use lib.ListN.{length, getD}
 
 -- the length below which an area is refused (13), in words
 abbrev pub fixed : ℕ
-fixed = 4384
+fixed = 4992
 
 -- the board: the numbers of tasks and of links, the processors and the limit
 abbrev pub taskCountAt : ℕ

@@ -2,7 +2,10 @@
 ghost use mathlib.Core.Path.{_≡_};
 ghost use Prim.Native.Nat.{_≤_, _<_};
 ghost use lib.ListN.{length, getD, replicate};
-ghost use Rattle.workspace.specs.Area.{fixed, ClearIs, UnitedIs};
+ghost use Rattle.workspace.specs.Area.{ClearIs, UnitedIs};
+
+// The least length of a work area or a machine's state, in words: `fixed` of specs/Area.
+pub const LENGTH: usize = 4992;
 
 // Where each number of the board stands and each table of the work area begins, as specs/Area.antt lays it out.
 pub const TASK_COUNT: usize = 0;
@@ -38,13 +41,6 @@ pub const FINISHES: usize = 4112;
 pub const OPENED: usize = 4368;
 
 pub const PLACED: usize = 4369;
-
-// The least length of a work area or a machine's state, in words.
-pub fn fixed_length() -> usize
-    ensures { λ r. ⌜ r ≡ fixed ⌝ }
-{
-    4384
-}
 
 // A word as an index or a sum.
 pub fn wide(x: u32) -> usize
