@@ -4,7 +4,7 @@ use mathlib.Core.Path.{_≡_, ap, ap₂, sym, _∙_}
 use mathlib.Core.List.{List}
 use native.Mathlib.Omega.{arith}
 use lib.ListN.{length, getD}
-use Rattle.workspace.specs.Area.{finishesAt, levelsAt, openedAt, placedAt, placesAt}
+use Rattle.workspace.specs.Area.{finishesAt, levelsAt, openedAt, placedAt, placesAt, scheduleEnd}
 use Rattle.folds.specs.Folds.{listed}
 use Rattle.folds.proofs.Lists.{length-listed, getD-listed, listed-cong}
 use Rattle.sheet.specs.Sheet.{Sheet, taskCount, linkCount}
@@ -46,7 +46,7 @@ module _ (w : List ℕ) where
 
 -- the counts, the works and the words from `placesAt` on are all the schedule
 module _ (w w′ : List ℕ) (few-tasks : getD w 0 0 ≤ 256) (few-placed : getD w placedAt 0 ≤ 256) (low : (i : ℕ) → i < 272 → getD w′ i 0 ≡ getD w i 0)
-    (same : (i : ℕ) → placesAt ≤ i → i < 4384 → getD w′ i 0 ≡ getD w i 0) where
+    (same : (i : ℕ) → placesAt ≤ i → i < scheduleEnd → getD w′ i 0 ≡ getD w i 0) where
   table : (f f′ : ℕ → ℕ) (n n′ : ℕ) → n′ ≡ n → n ≤ 256 → ((i : ℕ) → i < 256 → f′ i ≡ f i) → listed n′ f′ ≡ listed n f
   table f f′ n n′ e h each = ap (λ (k : ℕ). listed k f′) e ∙ listed-cong n f′ f (λ i l. each i (omega arith))
 

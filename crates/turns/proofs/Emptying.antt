@@ -7,7 +7,7 @@ use native.Mathlib.Omega.{arith}
 use native.Mathlib.Decide.{ℕ-discrete}
 use lib.ListN.{length, getD, set, length-set, replicate, length-replicate, getD-replicate}
 use lib.Seq.{getD-set-same, getD-set-other, ext-getD}
-use Rattle.workspace.specs.Area.{fixed, finishesAt, openedAt, placedAt, placesAt}
+use Rattle.workspace.specs.Area.{fixed, finishesAt, openedAt, placedAt, placesAt, scheduleEnd}
 use Rattle.folds.specs.Folds.{listed}
 use Rattle.folds.proofs.Loops.{listed-zero}
 use Rattle.folds.proofs.Lists.{length-listed, getD-listed}
@@ -20,7 +20,7 @@ use Rattle.chains.proofs.Frames.{only-none, only-set}
 use Rattle.turns.specs.Turns.{Cleared, Emptied}
 
 pub cleared-none : (w : List ℕ) → Cleared w 0 w
-cleared-none w = record { only = only-none placesAt 4384 w; on = λ u h. absurd (omega arith); finish = λ u h. absurd (omega arith) }
+cleared-none w = record { only = only-none placesAt scheduleEnd w; on = λ u h. absurd (omega arith); finish = λ u h. absurd (omega arith) }
 
 abbrev clearWords : List ℕ → ℕ → List ℕ
 clearWords w t = set (set w (placesAt + t) 16) (finishesAt + t) 0

@@ -3,7 +3,7 @@ use Prim.Native.Nat.{ℕ, _+_, _*_, _≤_, _<_}
 use mathlib.Core.Path.{_≡_}
 use mathlib.Core.List.{List}
 use lib.ListN.{length, getD}
-use Rattle.workspace.specs.Area.{finishesAt, headsAt, placedAt, placesAt}
+use Rattle.workspace.specs.Area.{finishesAt, headsAt, placedAt, placesAt, scheduleEnd}
 use Rattle.folds.specs.Answers.{Answer, value, refused}
 use Rattle.sheet.specs.Tables.{sheetIn, Loaded}
 use Rattle.planner.specs.Schedule.{Schedule, empty, finishOf}
@@ -37,13 +37,13 @@ pub record Going (w₀ : List ℕ) (j : ℕ) (w own : List ℕ) : Type 0 where
 
 -- the tables of the schedule below t are those of the empty one
 pub record Cleared (w₀ : List ℕ) (t : ℕ) (w : List ℕ) : Type 0 where
-  pub only : Only placesAt 4384 w₀ w
+  pub only : Only placesAt scheduleEnd w₀ w
   pub on : (u : ℕ) → u < t → getD w (placesAt + u) 0 ≡ 16
   pub finish : (u : ℕ) → u < t → getD w (finishesAt + u) 0 ≡ 0
 
 -- the empty schedule
 pub record Emptied (w₀ w : List ℕ) : Type 0 where
-  pub only : Only placesAt 4384 w₀ w
+  pub only : Only placesAt scheduleEnd w₀ w
   pub schedule : scheduleIn w ≡ empty (sheetIn w₀)
   pub placed : getD w placedAt 0 ≡ 0
 

@@ -66,6 +66,10 @@ openedAt = 4368
 abbrev pub placedAt : ℕ
 placedAt = 4369
 
+-- behind the schedule
+abbrev pub scheduleEnd : ℕ
+scheduleEnd = 4384
+
 -- while a sheet is read, a bit for each pair of tasks, up to `openedAt`
 abbrev pub pairsAt : ℕ
 pairsAt = 2320
