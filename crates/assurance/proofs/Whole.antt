@@ -16,7 +16,7 @@ use Rattle.bundle.specs.Format.{readBundle}
 use Rattle.bundle.specs.Writing.{bundleBytes}
 use Rattle.bundle.proofs.Backs.{read-back}
 use Rattle.messages.specs.Messages.{at26, at27, at28}
-use Rattle.messages.specs.Admitted.{fitting as fittingStore, messaging, admitted, admittedBytes}
+use Rattle.messages.specs.Admitted.{admitted, admittedBytes}
 use Rattle.machine.specs.Runs.{runFrom, runOf}
 use Rattle.checker.specs.Checker.{checked, check}
 use Rattle.checker.proofs.Accepted.{accepted, passes}
@@ -90,7 +90,7 @@ plan-value sheet work work′ out out′ n g =
 
 -- a bundle that is accepted is one that the machine starts on
 starts-checked : (s : Sheet) (b x : Bundle) → checked s b ≡ value x → admitted s b ≡ value b
-unfolding checked admitted messaging fittingStore
+unfolding checked admitted
 starts-checked s b x e =
     let p = unless-value 26 (at26 s b) _ x e in
     let q = unless-value 27 (at27 s b) _ x (p .1) in
@@ -110,7 +110,7 @@ begun-returns (started g) = g .returns
 begun-returns (ran g) = g .returns
 
 start-read : (sheet bundle : List ℕ) (s : Sheet) (b : Bundle) → starting sheet bundle ≡ value (s, b) → (readSheet sheet ≡ value s) × (readBundle s bundle ≡ value b)
-unfolding starting admittedBytes admitted messaging fittingStore
+unfolding starting admittedBytes admitted
 start-read sheet bundle s b e =
     let p = andThen-value (readSheet sheet) _ (s, b) e in
     let q = andThen-value (admittedBytes (p .0) bundle) (λ b. value (p .0, b)) (s, b) (p .2) in
