@@ -2,7 +2,7 @@
 ghost use mathlib.Core.Path.{_≡_};
 ghost use Prim.Native.Nat.{_≤_, _<_};
 ghost use lib.ListN.{length};
-ghost use Rattle.messages.specs.Fields.{Narrow};
+ghost use Rattle.messages.specs.Fields.{Bounded};
 ghost use Rattle.messages.specs.Notes.{ahead, insideBy, acrossBy};
 ghost use Rattle.messages.specs.Rules.{OnceIs, LinkIs, MessageIs};
 use crate::view::View;
@@ -64,7 +64,7 @@ fn across(a: usize, t: usize, sent: usize, got: usize) -> bool
 
 // Whether the messages of link l are as they should be.
 fn link_ok(sheet: &[u8], w: &[u32], v: View, l: usize) -> bool
-    requires { ⌜ Narrow v × (l < 1024) × (4352 ≤ length (now w)) ⌝ }
+    requires { ⌜ Bounded v × (l < 1024) × (4352 ≤ length (now w)) ⌝ }
     ensures { λ r. ⌜ LinkIs (now (sheet .entry)) (now (w .entry)) v l r ⌝ }
 {
     let source = words::byte(sheet, v.source_at(l));
@@ -81,7 +81,7 @@ fn link_ok(sheet: &[u8], w: &[u32], v: View, l: usize) -> bool
 
 // 27: the lowest link whose messages are not as they should be.
 pub fn wrong_message(sheet: &[u8], w: &[u32], v: View) -> Found
-    requires { ⌜ Narrow v × (4352 ≤ length (now w)) ⌝ }
+    requires { ⌜ Bounded v × (4352 ≤ length (now w)) ⌝ }
     ensures { λ r. ⌜ MessageIs (now (sheet .entry)) (now (w .entry)) v r ⌝ }
 {
     let mut l = 0;
