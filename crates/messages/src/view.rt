@@ -1,8 +1,7 @@
 // A sheet for who reads its numbers from its bytes: its counts, and where its tasks and its links begin.
 ghost use mathlib.Core.Path.{_≡_};
 ghost use Prim.Native.Nat.{_<_};
-ghost use Rattle.sheet.specs.Sheet.{taskCount, linkCount};
-ghost use Rattle.sheet.specs.Tables.{sheetIn, Loaded};
+ghost use Rattle.sheet.specs.Tables.{Loaded};
 ghost use Rattle.messages.specs.Fields.{workAt, storeAt, sourceAt, targetAt, costAt, Bounded};
 ghost use Rattle.messages.specs.Views.{ViewIs};
 

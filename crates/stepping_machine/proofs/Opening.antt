@@ -27,7 +27,7 @@ use Rattle.messages.specs.declared.view.View.{View}
 use Rattle.messages.proofs.Weights.{weigh-each}
 use Rattle.machine.specs.Machine.{freshState}
 use Rattle.stepping_machine.specs.Layout as lay
-use Rattle.stepping_machine.specs.Words.{nextIn, firstIn, lastIn, needIn, openedWords}
+use Rattle.stepping_machine.specs.Words.{nextIn, firstIn, lastIn, openedWords}
 use Rattle.stepping_machine.specs.Represents.{Decoded, Programmed, Represents, Within}
 use Rattle.stepping_machine.specs.Loads.{Decodable, Ready, ProgrammeIs, Opens, OneIs, LaidOut, AllIs, RestIs, WipeIs, NeedsIs, LoadIs}
 use Rattle.stepping_machine.proofs.Moves.{decoded-same}

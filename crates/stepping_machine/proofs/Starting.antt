@@ -1,7 +1,7 @@
 -- 21 to 28 of any bytes, or the fresh state: in the work area, and copied.
 use Prim.Native.Nat.{ℕ, _+_, _-_, _≤_, _<_}
 use mathlib.Core.Path.{_≡_, refl, sym, ap, _∙_, subst}
-use mathlib.Core.Option.{Option, none, some}
+use mathlib.Core.Option.{Option}
 use mathlib.Core.List.{List}
 use mathlib.Core.Logic.{inl, inr, ⊎-elim}
 use native.Mathlib.Omega.{arith}
@@ -29,7 +29,7 @@ use Rattle.bundle.specs.Format.{readBundle}
 use Rattle.bundle.specs.Counts.{commandCount}
 use Rattle.bundle.proofs.Rounds.{read-formed}
 use Rattle.messages.specs.Counting.{whole, each}
-use Rattle.messages.specs.Messages.{at28, Published}
+use Rattle.messages.specs.Messages.{Published}
 use Rattle.messages.specs.Fields.{Known, Seen}
 use Rattle.messages.specs.Views.{ViewIs, Shown}
 use Rattle.messages.specs.Admitted.{publishedBytes, admitted, admittedBytes, judgedOf, JudgeIs}

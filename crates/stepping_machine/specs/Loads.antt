@@ -13,7 +13,7 @@ use Rattle.bundle.specs.Bundle.{Command, Bundle, programmeCount, programmeOf}
 use Rattle.bundle.specs.Lies.{sizeOf, Stands, Lies, Laid}
 use Rattle.messages.specs.Counting.{weigh, whole, each, need}
 use Rattle.messages.specs.Messages.{at28}
-use Rattle.messages.specs.Fields.{storeAt, Bounded, Known, Seen}
+use Rattle.messages.specs.Fields.{storeAt, Bounded, Known}
 use Rattle.messages.specs.declared.view.View.{View}
 use Rattle.machine.specs.Machine.{freshState}
 use Rattle.stepping_machine.specs.declared.decoding.Coded.{Coded}

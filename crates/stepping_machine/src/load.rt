@@ -1,6 +1,6 @@
 // The programmes of a bundle, decoded into the words that have their offsets, and the fresh state. What each needs of the store is added up on the way.
 ghost use mathlib.Core.Path.{_≡_};
-ghost use Prim.Native.Nat.{suc, _+_, _%_, _*_, _≤_, _<_};
+ghost use Prim.Native.Nat.{suc, _+_, _%_, _≤_, _<_};
 ghost use lib.ListN.{length, getD};
 ghost use Rattle.messages.specs.Fields.{Bounded};
 ghost use Rattle.stepping_machine.specs.Layout.{extent, commands};
