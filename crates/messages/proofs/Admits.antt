@@ -20,7 +20,7 @@ use Rattle.bundle_reader.specs.declared.bytes.Reading.the-variants.{Read, Refus
 use Rattle.bundle.proofs.Rounds.{read-formed}
 use Rattle.bundle.proofs.Faults.{sheetBy, sized-by}
 use Rattle.messages.specs.Messages.{at26, at27, at28, Published}
-use Rattle.messages.specs.Notes.{NotesIs}
+use Rattle.messages.specs.Notes.{slotsEnd, NotesIs}
 use Rattle.words.specs.Found.{foundOf}
 use Rattle.messages.specs.Rules.{Given, OnceIs, MessageIs}
 use Rattle.messages.specs.Fields.{Known, Bounded}
@@ -152,7 +152,7 @@ stored-then s bundle b e =
 sized : {s : Sheet} {sheet : List ℕ} {v : View} → Known s sheet v → Sized s (v .processors) (v .tasks) (v .links)
 sized k = record { processors = k .processors; tasks = k .tasks; links = k .links }
 
-module _ (sheet bundle w u : List ℕ) (v : View) (long : 4352 ≤ length w) (bounded : Bounded v) (f : Reading) (h : ReadIs bundle (v .processors) (v .tasks) (v .links) w u f) where
+module _ (sheet bundle w u : List ℕ) (v : View) (long : slotsEnd ≤ length w) (bounded : Bounded v) (f : Reading) (h : ReadIs bundle (v .processors) (v .tasks) (v .links) w u f) where
   pub judge-refused : (r at : ℕ) → f ≡ Unread r at → JudgeIs sheet bundle w u v (Refused r at)
   unfolding publishedBytes readingOf
   judge-refused r at e =
