@@ -1,3 +1,4 @@
+-- `wrong_message` (src/rules.rt) keeps its contract.
 use Rattle.messages.proofs.Ruled.{Oks, oks-found, oks-more, oks-none, oks-start}
 use Prim.Native.Nat.{_-_, _≤_}
 use native.Mathlib.Omega.{arith}
@@ -13,12 +14,6 @@ abbrev μ-loop : tie.MeasureT-loop
 
 loop-holds : tie.Need-loop-holds Inv-loop μ-loop
 loop-holds c = (oks-start _ _ _, omega arith)
-
-link-ok-requires : tie.Need-link-ok-requires Inv-loop μ-loop
-link-ok-requires c κs = search needs
-
-add-l : tie.Need-add-l Inv-loop μ-loop
-add-l c = search needs
 
 loop-less : tie.Need-loop-less Inv-loop μ-loop
 loop-less c = omega arith
@@ -39,8 +34,8 @@ wrong-message-spec =
     Inv-loop
     μ-loop
     loop-holds
-    link-ok-requires
-    add-l
+    (λ c κs. search needs)
+    (λ c. search needs)
     loop-less
     loop-again
     returns
