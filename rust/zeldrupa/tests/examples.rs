@@ -2,7 +2,7 @@
 
 use std::collections::BTreeMap;
 use std::fs;
-use zeldrupa::{Machine, Refusal, Sheet, WorkArea};
+use zeldrupa::{Refusal, Sheet, WorkArea};
 
 /// The example files by name, the figures among them.
 fn files() -> BTreeMap<String, Vec<u8>> {
@@ -17,12 +17,6 @@ fn files() -> BTreeMap<String, Vec<u8>> {
 
 fn number_and_place<T>(answer: Result<T, Refusal>) -> Option<(u8, u64)> {
     answer.err().map(|refusal| (refusal.number(), refusal.place()))
-}
-
-/// Chooses each processor in turn until nobody can step.
-fn run_out(machine: &mut Machine) {
-    let programmes = machine.processors().count() as u64;
-    while (0..programmes).filter(|&k| machine.step(k)).count() > 0 {}
 }
 
 fn valid_sheets(work: &mut WorkArea) -> Vec<(String, Sheet)> {
@@ -60,7 +54,7 @@ fn plans_are_accepted_and_run_to_their_claims() {
         }
         assert_eq!(work.check(&sheet, &bundle), Ok(()), "{name}");
         let mut machine = work.start(&sheet, &bundle).unwrap();
-        run_out(&mut machine);
+        machine.run_out();
         assert_eq!((machine.left(), machine.latest_clock()), (0, bundle.claim()), "{name}");
     }
 }
@@ -88,7 +82,7 @@ fn a_stuck_bundle_starts_and_stops() {
     let bundle = work.read_bundle(&sheet, &files["k6.bundle"]).unwrap();
     assert_eq!(number_and_place(work.check(&sheet, &bundle)), Some((29, 0)));
     let mut machine = work.start(&sheet, &bundle).unwrap();
-    run_out(&mut machine);
+    machine.run_out();
     assert_eq!((machine.left(), machine.stamp(0), machine.processor(2)), (8, None, None));
     assert_eq!(machine.run(&mut work, &[0, 1, 255]), 0);
 }

@@ -1,0 +1,146 @@
+//! The places of refusals of what the programmes do: runs, messages, store, circles and claims.
+
+use super::explanation::{counted, Read, Subject};
+use super::Refusal;
+use crate::{Bundle, Command, Wait};
+
+/// Where it is, and what stands there.
+pub(super) fn place(refusal: Refusal, read: &Read) -> (String, Subject) {
+    let place = refusal.place as usize;
+    let bundle = read.bundle.as_ref();
+    match (refusal.number, bundle) {
+        (11, _) => (store_of_task(read, place), Subject::Task(place)),
+        (26, Some(bundle)) => (runs(read, bundle, place), Subject::Task(place)),
+        (27, Some(bundle)) => {
+            let told = format!("{}: {}", read.link(place), message(read, bundle, place));
+            (told, Subject::Link(place))
+        }
+        (28, Some(bundle)) => (store(read, bundle, place), Subject::Processor(place)),
+        (29, Some(bundle)) => (waits(read, bundle), Subject::Processor(place)),
+        (30, Some(bundle)) => {
+            let told = format!("the claim is {}, the latest clock {place}", bundle.claim());
+            (told, Subject::Other)
+        }
+        _ => (format!("place {place}"), Subject::Other),
+    }
+}
+
+/// What a task that found no processor needs.
+fn store_of_task(read: &Read, task: usize) -> String {
+    let links = read.sheet.links().iter().filter(|link| usize::from(link.target) == task);
+    let bytes: u64 = links.map(|link| u64::from(link.bytes)).sum();
+    let store = read.sheet.tasks()[task].store;
+    let limit = read.sheet.limit();
+    let name = read.about.task(task);
+    format!("task {name}: store {store}, its messages up to {bytes}; a processor has {limit}")
+}
+
+/// Where a command stands: its programme, and its position in it.
+type Stand = [usize; 2];
+
+/// Wherever this command stands in the whole bundle.
+fn stands(bundle: &Bundle, command: Command) -> Vec<Stand> {
+    let programmes = bundle.programmes().iter().enumerate();
+    programmes
+        .flat_map(|(k, programme)| {
+            let positions = programme.iter().enumerate().filter(|&(_, other)| *other == command);
+            positions.map(move |(position, _)| [k, position]).collect::<Vec<_>>()
+        })
+        .collect()
+}
+
+fn told(&[k, position]: &Stand) -> String {
+    format!("processor {k}, command {position}")
+}
+
+fn all_told(stands: &[Stand]) -> String {
+    stands.iter().map(told).collect::<Vec<_>>().join("; ")
+}
+
+/// Where a task is run.
+fn runs(read: &Read, bundle: &Bundle, task: usize) -> String {
+    let stands = stands(bundle, Command::Run(task as u8));
+    let name = read.about.task(task);
+    match stands.len() {
+        0 => format!("task {name} is not run"),
+        count => format!("task {name} is run {}: {}", counted(count, "time"), all_told(&stands)),
+    }
+}
+
+/// What is wrong with a link's message: the send is looked at first, then the receive, then the
+/// order inside one processor.
+fn message(read: &Read, bundle: &Bundle, link: usize) -> String {
+    let ends = read.sheet.links()[link];
+    let run = |task| stands(bundle, Command::Run(task)).first().copied().unwrap_or([0, 0]);
+    let (source, target) = (run(ends.source), run(ends.target));
+    let [from, to] = [ends.source, ends.target].map(|task| read.about.task(task.into()));
+    let sends = stands(bundle, Command::Send(link as u16));
+    let receives = stands(bundle, Command::Receive(link as u16));
+    let home = source[0];
+    if home == target[0] {
+        let both = format!("both tasks run on processor {home}, so that no message is needed");
+        return match (&sends[..], &receives[..]) {
+            ([], []) => format!(
+                "on processor {home} {from} runs at command {}, behind {to} at command {}",
+                source[1], target[1]
+            ),
+            ([], _) => format!("{both}; it is received at {}", all_told(&receives)),
+            _ => format!("{both}; it is sent at {}", all_told(&sends)),
+        };
+    }
+    let apart = format!("{from} runs at {}, {to} at {}", told(&source), told(&target));
+    match (&sends[..], &receives[..]) {
+        ([], _) => format!("it is not sent; {apart}"),
+        ([_, _, ..], _) => format!("it is sent more than once: {}", all_told(&sends)),
+        ([send], _) if send[0] != home || send[1] < source[1] => {
+            format!("it is sent at {}, not behind {from} on its processor; {apart}", told(send))
+        }
+        (_, []) => format!("it is not received; {apart}"),
+        (_, [_, _, ..]) => format!("it is received more than once: {}", all_told(&receives)),
+        (_, [receive]) => {
+            format!(
+                "it is received at {}, not before {to} on its processor; {apart}",
+                told(receive)
+            )
+        }
+    }
+}
+
+/// What a programme needs of the store.
+fn store(read: &Read, bundle: &Bundle, processor: usize) -> String {
+    let (mut tasks, mut messages) = (0, 0);
+    for command in &bundle.programmes()[processor] {
+        match *command {
+            Command::Run(task) => tasks += u64::from(read.sheet.tasks()[usize::from(task)].store),
+            Command::Receive(link) => {
+                messages += u64::from(read.sheet.links()[usize::from(link)].bytes)
+            }
+            Command::Send(_) => (),
+        }
+    }
+    let (all, limit) = (tasks + messages, read.sheet.limit());
+    format!(
+        "processor {processor}: needs {all} (tasks {tasks}, received messages {messages}); \
+         the limit is {limit}"
+    )
+}
+
+/// Who waits for whom when nobody can step.
+fn waits(read: &Read, bundle: &Bundle) -> String {
+    let mut work = read.work.clone();
+    let Ok(mut machine) = work.start(&read.sheet, bundle) else {
+        return "the machine does not start".into();
+    };
+    machine.run_out();
+    let tell = |wait: &Wait| {
+        format!(
+            "processor {} waits at command {} for {}, which processor {} sends at command {}",
+            wait.processor,
+            wait.position,
+            read.link(wait.link.into()),
+            wait.sender,
+            wait.send
+        )
+    };
+    machine.circle().iter().map(tell).collect::<Vec<_>>().join("; ")
+}
