@@ -1,0 +1,52 @@
+//! `check`: whether a bundle is accepted.
+
+use super::{verdict, Command};
+use crate::answer::{Answer, Fault};
+use crate::arguments::Arguments;
+use crate::session::{Session, SheetFile};
+use std::path::PathBuf;
+use zeldrupa::Bundle;
+
+pub const COMMAND: Command = Command {
+    name: "check",
+    usage: "SHEET [BUNDLE]",
+    files: 1..=2,
+    options: &[],
+    brief: "check a bundle: accepted, or refused and why",
+    full: "\
+Checks a bundle for a sheet. An accepted bundle runs to its claimed time in every order of steps,
+within the store; that is proved. The answer names the claim and how many processors run a task, or
+the refusal's number and place, what it means, where it is and what to do.",
+    answer,
+};
+
+fn answer(session: &mut Session, arguments: &Arguments) -> Result<Answer, Fault> {
+    verdict(checked(session, arguments))
+}
+
+fn checked(session: &mut Session, arguments: &Arguments) -> Result<Answer, Fault> {
+    let sheet = session.sheet(&arguments.files[0])?;
+    let bundle = needed_bundle(session, &sheet, &arguments.files, &COMMAND)?;
+    session.check(&sheet, &bundle)?;
+    Ok(Answer::text(accepted(&bundle.bundle)))
+}
+
+/// The bundle that a command was given, in a file of its own or in the sheet's text.
+pub fn needed_bundle(
+    session: &mut Session,
+    sheet: &SheetFile,
+    files: &[PathBuf],
+    command: &Command,
+) -> Result<crate::session::BundleFile, Fault> {
+    let bundle = session.given_bundle(sheet, files.get(1).map(PathBuf::as_path))?;
+    bundle.ok_or_else(|| command.misused("needs a bundle: this sheet has no programmes"))
+}
+
+/// The line of an accepted bundle.
+pub fn accepted(bundle: &Bundle) -> String {
+    let runs = |programme: &&Vec<zeldrupa::Command>| {
+        programme.iter().any(|command| matches!(command, zeldrupa::Command::Run(_)))
+    };
+    let processors = bundle.programmes().iter().filter(runs).count();
+    format!("ACCEPTED claim {} processors {processors}\n", bundle.claim())
+}
