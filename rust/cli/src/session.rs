@@ -135,6 +135,15 @@ impl Session {
         }
     }
 
+    /// The same for a text that goes by numbers alone.
+    pub fn no_sheet(&mut self, path: &Path, text: &BundleText) -> Result<SheetFile, Fault> {
+        let problems = text.needs_sheet();
+        match problems.is_empty() {
+            true => Ok(self.any_sheet()),
+            false => Err(in_fault(path, &problems)),
+        }
+    }
+
     /// The bundle of a command that may leave it out where the sheet's text has the programmes.
     pub fn given_bundle(
         &mut self,
@@ -243,8 +252,23 @@ fn refused(refusal: Refusal, about: About, file: &str, lines: &[usize]) -> Fault
             format!("{file}:{line}: {}", place.map_or(&explained.place[..], |(_, told)| told))
         }
     };
+    let lines: Vec<String> =
+        explained.commands.iter().filter_map(|&stand| line_of(&about, lines, stand)).collect();
+    if !lines.is_empty() {
+        explained.place += &format!("\nlines: {}", lines.join(", "));
+    }
     let (number, place) = (refusal.number(), refusal.place());
     Fault::Refused(format!("REFUSED {number} {place}\n{explained}\n"))
+}
+
+/// The line of a command of a programme, in a bundle that came as text.
+fn line_of(about: &About, lines: &[usize], [k, position]: [usize; 2]) -> Option<String> {
+    let mut work = WorkArea::new();
+    let sheet = work.read_sheet(about.sheet).ok()?;
+    let bundle = work.read_bundle(&sheet, about.bundle).ok()?;
+    // A line for each command before it, and for each processor up to its own.
+    let before: usize = bundle.programmes()[..k].iter().map(Vec::len).sum();
+    lines.get(before + k + 1 + position).map(usize::to_string)
 }
 
 /// The problems of a text, a line each.

@@ -29,9 +29,27 @@ pub fn aligned(rows: &[Vec<String>]) -> String {
     text
 }
 
-/// How many characters a text has.
+/// How many columns of a terminal a text takes.
 pub fn width(text: &str) -> usize {
-    text.chars().count()
+    text.chars().map(columns).sum()
+}
+
+/// How many columns of a terminal a character takes: none for marks that go over the one before, two
+/// for the wide characters of East Asia and for pictures.
+pub fn columns(c: char) -> usize {
+    match c as u32 {
+        0x300..=0x36F | 0x200B..=0x200F | 0xFE00..=0xFE0F => 0,
+        0x1100..=0x115F
+        | 0x2E80..=0xA4CF
+        | 0xAC00..=0xD7A3
+        | 0xF900..=0xFAFF
+        | 0xFE30..=0xFE6F
+        | 0xFF00..=0xFF60
+        | 0xFFE0..=0xFFE6
+        | 0x1F300..=0x1FAFF
+        | 0x20000..=0x3FFFD => 2,
+        _ => 1,
+    }
 }
 
 fn is_number(cell: &str) -> bool {

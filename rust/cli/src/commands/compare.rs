@@ -31,10 +31,8 @@ struct Planned {
 fn answer(session: &mut Session, arguments: &Arguments) -> Result<Answer, Fault> {
     let one = planned(session, &arguments.files[0])?;
     let other = planned(session, &arguments.files[1])?;
-    let mut text = aligned(&[
-        vec!["claim".into(), change(one.claim, other.claim)],
-        vec!["processors".into(), change(one.processors as u32, other.processors as u32)],
-    ]);
+    let processors = change(one.processors as u32, other.processors as u32);
+    let mut text = format!("claim {}\nprocessors {processors}\n", change(one.claim, other.claim));
 
     let by_name = one.of.names.any() && other.of.names.any();
     let same = |from: &Planned, task: usize, to: &Planned| match by_name {

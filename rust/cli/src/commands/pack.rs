@@ -3,6 +3,7 @@
 use super::Command;
 use crate::answer::{Answer, Fault};
 use crate::arguments::Arguments;
+use crate::files;
 use crate::session::{Content, Session};
 use crate::text::{Claim, Text};
 
@@ -30,35 +31,34 @@ fn answer(session: &mut Session, arguments: &Arguments) -> Result<Answer, Fault>
     let Content::Text(Text { sheet, bundle }) = session.content(path)? else {
         return Err(COMMAND.misused(&format!("takes a text; {} is none", path.display())));
     };
-    let only = arguments.text("--only");
-    let (sheet, bundle) = match only.as_deref() {
+    let packed = match arguments.text("--only").as_deref() {
         None if sheet.is_some() && bundle.is_some() => {
             return Err(COMMAND.misused("needs --only: this text has a sheet and a bundle"));
         }
-        None | Some("sheet" | "bundle") => (sheet, bundle),
+        None => (sheet, bundle, true),
+        Some("sheet") => (sheet, None, true),
+        Some("bundle") => (sheet, bundle, false),
         Some(other) => {
             return Err(COMMAND.misused(&format!("takes --only sheet or bundle, not {other}")));
         }
     };
-    let packs_sheet = only.as_deref() == Some("sheet") || bundle.is_none();
-    let bytes = match (sheet, bundle) {
-        (Some(sheet), _) if packs_sheet => {
-            session.sheet_of_text(path, sheet, None)?.sheet.bytes().to_vec()
-        }
-        (sheet, Some(text)) if !packs_sheet => {
+    let bytes = match packed {
+        (sheet, Some(text), _) => {
             let of = match (arguments.file("--sheet"), sheet) {
                 (Some(named), _) => session.sheet(&named)?,
                 (None, Some(sheet)) => session.sheet_of_text(path, sheet, None)?,
-                (None, None) => session.any_sheet(),
+                (None, None) => session.no_sheet(path, &text)?,
             };
-            let shown = crate::files::shown(path);
-            let bundle = session.bundle_of_text(&of, &shown, &text)?;
+            let bundle = session.bundle_of_text(&of, &files::shown(path), &text)?;
             if text.claim == Claim::Auto {
                 session.check(&of, &bundle)?;
             }
             bundle.bundle.bytes().to_vec()
         }
-        _ => return Err(COMMAND.misused("has nothing of that kind to pack in this text")),
+        (Some(sheet), None, true) => {
+            session.sheet_of_text(path, sheet, None)?.sheet.bytes().to_vec()
+        }
+        _ => return Err(COMMAND.misused("finds nothing of that kind in this text")),
     };
     Ok(Answer::to(Some(file), bytes))
 }

@@ -55,7 +55,8 @@ fn answer(session: &mut Session, arguments: &Arguments) -> Result<Answer, Fault>
         }
         Order::Random(mut random) => {
             while able(&machine) {
-                log.choose(&mut machine, random.pick(&unfinished(&machine)));
+                let choice = random.pick(&unfinished(&machine));
+                log.choose(&mut machine, choice);
             }
             log.stuck(&mut machine);
         }

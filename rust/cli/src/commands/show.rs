@@ -3,6 +3,7 @@
 use super::Command;
 use crate::answer::{Answer, Fault};
 use crate::arguments::Arguments;
+use crate::files;
 use crate::session::{Content, Session};
 use crate::text::{bundle_text, sheet_text, Text};
 
@@ -26,7 +27,7 @@ fn answer(session: &mut Session, arguments: &Arguments) -> Result<Answer, Fault>
         let bundle = session.bundle(&of, path)?.bundle;
         return Ok(Answer::text(bundle_text(&bundle, Some((&of.sheet, &of.names)))));
     }
-    let shown = crate::files::shown(path);
+    let shown = files::shown(path);
     let text = match session.content(path)? {
         Content::Bytes(bytes) if is_bundle(&bytes) => {
             let of = session.any_sheet();
@@ -47,8 +48,8 @@ fn answer(session: &mut Session, arguments: &Arguments) -> Result<Answer, Fault>
             text
         }
         Content::Text(Text { bundle, .. }) => {
-            let of = session.any_sheet();
             let text = bundle.expect("a text has a sheet or a bundle");
+            let of = session.no_sheet(path, &text)?;
             bundle_text(&session.bundle_of_text(&of, &shown, &text)?.bundle, None)
         }
     };

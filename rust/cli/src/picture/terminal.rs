@@ -1,10 +1,27 @@
 //! The picture with characters.
 
 use super::{circle, ticks, Message, Picture};
+use crate::table::columns;
 use zeldrupa::Command;
 
 /// The most lines that messages take between two rows; more share the last.
 const MOST_LANES: usize = 6;
+
+/// A place that the wide character before it covers.
+const COVERED: char = '\0';
+
+/// A text in places of one column each; marks that take none are left out.
+fn cells(text: &str) -> Vec<char> {
+    let mut cells = Vec::new();
+    for c in text.chars() {
+        match columns(c) {
+            0 => (),
+            1 => cells.push(c),
+            _ => cells.extend([c, COVERED]),
+        }
+    }
+    cells
+}
 
 /// The whole picture, at most so many characters wide.
 pub fn draw(picture: &Picture, width: usize) -> String {
@@ -20,7 +37,7 @@ pub fn draw(picture: &Picture, width: usize) -> String {
         text += &drawing.claim();
     }
     for line in &drawing.canvas {
-        text += line.iter().collect::<String>().trim_end();
+        text += line.iter().filter(|&&c| c != COVERED).collect::<String>().trim_end();
         text.push('\n');
     }
     text += &drawing.axis();
@@ -127,7 +144,11 @@ impl<'a> Drawing<'a> {
                 row[start..end].fill('=');
                 (row[start], row[end - 1]) = ('[', ']');
                 let room = width - 2;
-                let name: Vec<char> = name.chars().take(room).collect();
+                let mut name = cells(name);
+                name.truncate(room);
+                if name.last().is_some_and(|&last| columns(last) == 2) {
+                    name.pop();
+                }
                 let from = start + 1 + (room - name.len()) / 2;
                 row[from..from + name.len()].copy_from_slice(&name);
             }
@@ -177,7 +198,7 @@ impl<'a> Drawing<'a> {
     }
 
     fn write(&mut self, y: usize, x: usize, text: &str) {
-        for (cell, c) in self.canvas[y][x..].iter_mut().zip(text.chars()) {
+        for (cell, c) in self.canvas[y][x..].iter_mut().zip(cells(text)) {
             *cell = c;
         }
     }

@@ -127,7 +127,8 @@ impl BundleLines {
         if !self.begun {
             return None;
         }
-        if self.claim.is_none() {
+        // A claim that is in fault was told already.
+        if self.claim.is_none() && problems.is_empty() {
             let told = "expected \"claim ..\" or \"claim auto\" behind this line";
             problems.push(Problem { line: last, column: 1, told: told.into() });
         }
@@ -136,6 +137,28 @@ impl BundleLines {
 }
 
 impl BundleText {
+    /// What cannot be told without the sheet: names, links by their ends, and the latest clock.
+    pub fn needs_sheet(&self) -> Vec<Problem> {
+        let mut problems = Vec::new();
+        for line in self.programmes.iter().flatten() {
+            match line {
+                CommandLine::Run(task @ Placed { what: Task::Name(_), .. }) => {
+                    problems.push(task.problem("a name needs the sheet: give --sheet".into()));
+                }
+                CommandLine::Message(_, LinkWord::Ends([source, _])) => {
+                    let told = "a link by its tasks needs the sheet: give --sheet, or its number";
+                    problems.push(source.problem(told.into()));
+                }
+                _ => (),
+            }
+        }
+        if let (Claim::Auto, Some(&line)) = (self.claim, self.lines.last()) {
+            let told = "claim auto needs the sheet: give --sheet".into();
+            problems.push(Problem { line, column: 1, told });
+        }
+        problems
+    }
+
     /// The programmes with the sheet's numbers.
     pub fn programmes(
         &self,

@@ -26,14 +26,18 @@ pub struct Text {
 /// The first word of each line says what it is.
 const WORDS: [&str; 8] = ["board", "task", "link", "processor", "run", "send", "receive", "claim"];
 
-/// Whether a file is meant as text: it begins as one, and has no zero byte, which every sheet and
-/// bundle has.
+/// Whether a file is meant as text: it begins as one, and has no control bytes but tabs and the ends
+/// of lines. Sheets and bundles have some: a number of processors, zeros.
 pub fn is_text(bytes: &[u8]) -> bool {
-    let begins = match bytes.first() {
-        Some(first) => first.is_ascii_lowercase() || b"# \t\r\n\xEF".contains(first),
-        None => false,
+    let begins = match bytes {
+        // A lone command, not the beginning of a word.
+        [b'M' | b'T' | b'E' | b'Q' | b'P' | b'R' | b'S' | b'V' | b'Z', rest @ ..] => {
+            rest.first().is_some_and(u8::is_ascii_alphabetic)
+        }
+        [first, ..] => first.is_ascii() || *first == 0xEF,
+        [] => false,
     };
-    begins && !bytes.contains(&0)
+    begins && bytes.iter().all(|&byte| byte >= b' ' || b"\t\r\n".contains(&byte))
 }
 
 impl Text {

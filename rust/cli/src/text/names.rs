@@ -39,7 +39,7 @@ impl Names {
     }
 
     /// How many tasks there are.
-    pub fn len(&self) -> usize {
+    fn len(&self) -> usize {
         self.names.len()
     }
 

@@ -74,11 +74,6 @@ impl SheetLines {
         if self.is_empty() {
             return None;
         }
-        let Some((board, processors, limit)) = self.board else {
-            let told = "expected \"board processors .. store ..\" somewhere in this text";
-            problems.push(Problem { line: last, column: 1, told: told.into() });
-            return None;
-        };
         let mut links = Vec::new();
         for link in &self.links {
             match link.ends.each_ref().map(|end| self.names.find(end)) {
@@ -90,6 +85,14 @@ impl SheetLines {
                 [Err(problem), _] | [_, Err(problem)] => problems.push(problem),
             }
         }
+        let Some((board, processors, limit)) = self.board else {
+            // A board that is in fault was told already.
+            if problems.is_empty() {
+                let told = "expected \"board processors .. store ..\" in this text";
+                problems.push(Problem { line: last, column: 1, told: told.into() });
+            }
+            return None;
+        };
         let lines = [board].into_iter().chain(self.tasks.iter().map(|&(line, _)| line));
         Some(SheetText {
             processors,

@@ -307,24 +307,30 @@ pub fn meant<'a>(name: &str, names: impl Iterator<Item = &'a str>) -> String {
     }
     let near = names
         .filter(|other| other.chars().count().abs_diff(length) <= 2)
-        .map(|other| (distance(name, other), other))
+        .map(|other| (distance(&name.to_lowercase(), &other.to_lowercase()), other))
         .filter(|&(distance, other)| distance <= 2 && distance < other.chars().count())
         .min();
     near.map_or(String::new(), |(_, other)| format!("; did you mean \"{other}\"?"))
 }
 
-/// How many characters have to be set, left out or added to make one text of the other.
+/// How many characters have to be set, left out, added or exchanged with the next to make one text
+/// of the other.
 fn distance(one: &str, other: &str) -> usize {
-    let other: Vec<char> = other.chars().collect();
-    let mut row: Vec<usize> = (0..=other.len()).collect();
-    for (i, c) in one.chars().enumerate() {
-        let mut diagonal = row[0];
-        row[0] = i + 1;
-        for (j, d) in other.iter().enumerate() {
-            let set = diagonal + usize::from(c != *d);
-            diagonal = row[j + 1];
-            row[j + 1] = set.min(row[j] + 1).min(diagonal + 1);
+    let [one, other] = [one, other].map(|text| text.chars().collect::<Vec<char>>());
+    let mut table = vec![vec![0; other.len() + 1]; one.len() + 1];
+    for i in 0..=one.len() {
+        for j in 0..=other.len() {
+            table[i][j] = match (i, j) {
+                (0, length) | (length, 0) => length,
+                _ => {
+                    let set = table[i - 1][j - 1] + usize::from(one[i - 1] != other[j - 1]);
+                    set.min(table[i - 1][j] + 1).min(table[i][j - 1] + 1)
+                }
+            };
+            if i > 1 && j > 1 && one[i - 1] == other[j - 2] && one[i - 2] == other[j - 1] {
+                table[i][j] = table[i][j].min(table[i - 2][j - 2] + 1);
+            }
         }
     }
-    row[other.len()]
+    table[one.len()][other.len()]
 }

@@ -47,6 +47,8 @@ pub struct Explanation {
     pub remedy: &'static str,
     /// What it points to.
     pub subject: Subject,
+    /// The commands of programmes that the place speaks of: programme and position.
+    pub commands: Vec<[usize; 2]>,
 }
 
 impl Display for Explanation {
@@ -73,15 +75,18 @@ impl Refusal {
     /// ```
     pub fn explain(self, about: About) -> Explanation {
         let kind = kind(self.number);
-        let (place, subject) = match kind.map_or(Counts::Lent, |kind| kind.counts) {
-            Counts::SheetBytes => form::sheet(self, about.sheet),
-            Counts::BundleBytes => form::bundle(self, &about),
-            Counts::Tasks if self.number == 10 => form::circle(self, &about),
-            Counts::Lent => (format!("{} elements are needed", self.place), Subject::Other),
-            _ => Read::new(about).map_or_else(
-                || (format!("place {}", self.place), Subject::Other),
-                |read| programmes::place(self, &read),
-            ),
+        let without = |(place, subject)| (place, subject, Vec::new());
+        let (place, subject, commands) = match kind.map_or(Counts::Lent, |kind| kind.counts) {
+            Counts::SheetBytes => without(form::sheet(self, &about)),
+            Counts::BundleBytes => without(form::bundle(self, &about)),
+            Counts::Tasks if self.number == 10 => without(form::circle(self, &about)),
+            Counts::Lent => {
+                without((format!("{} elements are needed", self.place), Subject::Other))
+            }
+            _ => match Read::new(about) {
+                Some(read) => programmes::place(self, &read),
+                None => without((format!("place {}", self.place), Subject::Other)),
+            },
         };
         Explanation {
             word: self.word(),
@@ -89,6 +94,7 @@ impl Refusal {
             place,
             remedy: kind.map_or("", |kind| kind.remedy),
             subject,
+            commands,
         }
     }
 }

@@ -6,37 +6,37 @@ use super::Refusal;
 use std::collections::VecDeque;
 
 /// Where a sheet's bytes are in fault, and what stands there.
-pub(super) fn sheet(refusal: Refusal, bytes: &[u8]) -> (String, Subject) {
+pub(super) fn sheet(refusal: Refusal, about: &About) -> (String, Subject) {
+    let bytes = about.sheet;
     let commands = seen::commands(&seen::SHEET, bytes);
     let (index, told) = at_offset(refusal, &commands, bytes.len(), |before, command| {
         let number = before.iter().filter(|other| other.byte == command.byte).count();
         let what = match command.byte {
-            TASK | LINK => format!("{} {number}", command.name.unwrap_or_default()),
+            TASK => format!("task {}", about.task(number)),
+            LINK => format!("link {number}"),
             _ => command.name.unwrap_or_default().to_string(),
         };
-        let [tasks, links] = counts(bytes);
+        let [from, to] = [0, 1].map(|end| about.task(command.operand(end) as usize));
         let detail = match (refusal.number, command.byte) {
+            (3, _) if before.is_empty() => ": before the board".into(),
             (3, BOARD) => ": a second board".into(),
-            (3, TASK) if links > 0 => ": behind a link".into(),
-            (3, _) => ": before the board".into(),
+            (3, _) => ": behind a link".into(),
             (6, BOARD) => format!(": processors {}", command.operand(0)),
             (6, _) => format!(": work {}", command.operand(0)),
-            (7, _) => format!(": {}; the sheet has {}", ends(command), counted(tasks, "task")),
+            (7, _) => {
+                format!(": {from} -> {to}; the sheet has {}", counted(counts(bytes)[0], "task"))
+            }
             (8, _) => {
-                let same = |other: &&Seen| other.byte == LINK && ends(other) == ends(command);
-                let first = before.iter().find(same).map_or(0, |first| first.offset);
-                format!(": {}, as at byte {first}", ends(command))
+                let mut links = before.iter().filter(|other| other.byte == LINK);
+                let same = |other: &Seen| other.operands[..2] == command.operands[..2];
+                let first = links.position(same).unwrap_or(0);
+                format!(": {from} -> {to}, as link {first}")
             }
             _ => String::new(),
         };
         what + &detail
     });
     (told, Subject::SheetCommand(index))
-}
-
-/// The tasks at the ends of a link.
-fn ends(link: &Seen) -> String {
-    format!("{} -> {}", link.operand(0), link.operand(1))
 }
 
 /// Where a bundle's bytes are in fault, and what stands there.

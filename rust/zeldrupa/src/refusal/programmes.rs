@@ -4,24 +4,32 @@ use super::explanation::{counted, Read, Subject};
 use super::Refusal;
 use crate::{Bundle, Command, Wait};
 
-/// Where it is, and what stands there.
-pub(super) fn place(refusal: Refusal, read: &Read) -> (String, Subject) {
+/// Where a command stands: its programme, and its position in it.
+pub(super) type Stand = [usize; 2];
+
+/// Where it is and what stands there, and the commands that this speaks of.
+pub(super) fn place(refusal: Refusal, read: &Read) -> (String, Subject, Vec<Stand>) {
     let place = refusal.place as usize;
-    let bundle = read.bundle.as_ref();
-    match (refusal.number, bundle) {
-        (11, _) => (store_of_task(read, place), Subject::Task(place)),
-        (26, Some(bundle)) => (runs(read, bundle, place), Subject::Task(place)),
-        (27, Some(bundle)) => {
-            let told = format!("{}: {}", read.link(place), message(read, bundle, place));
-            (told, Subject::Link(place))
+    match (refusal.number, read.bundle.as_ref()) {
+        (11, _) => (store_of_task(read, place), Subject::Task(place), Vec::new()),
+        (26, Some(bundle)) => {
+            let (told, stands) = runs(read, bundle, place);
+            (told, Subject::Task(place), stands)
         }
-        (28, Some(bundle)) => (store(read, bundle, place), Subject::Processor(place)),
-        (29, Some(bundle)) => (waits(read, bundle), Subject::Processor(place)),
+        (27, Some(bundle)) => {
+            let (told, stands) = message(read, bundle, place);
+            (format!("{}: {told}", read.link(place)), Subject::Link(place), stands)
+        }
+        (28, Some(bundle)) => (store(read, bundle, place), Subject::Processor(place), Vec::new()),
+        (29, Some(bundle)) => {
+            let (told, stands) = waits(read, bundle);
+            (told, Subject::Processor(place), stands)
+        }
         (30, Some(bundle)) => {
             let told = format!("the claim is {}, the latest clock {place}", bundle.claim());
-            (told, Subject::Other)
+            (told, Subject::Other, Vec::new())
         }
-        _ => (format!("place {place}"), Subject::Other),
+        _ => (format!("place {place}"), Subject::Other, Vec::new()),
     }
 }
 
@@ -34,9 +42,6 @@ fn store_of_task(read: &Read, task: usize) -> String {
     let name = read.about.task(task);
     format!("task {name}: store {store}, its messages up to {bytes}; a processor has {limit}")
 }
-
-/// Where a command stands: its programme, and its position in it.
-type Stand = [usize; 2];
 
 /// Wherever this command stands in the whole bundle.
 fn stands(bundle: &Bundle, command: Command) -> Vec<Stand> {
@@ -58,50 +63,60 @@ fn all_told(stands: &[Stand]) -> String {
 }
 
 /// Where a task is run.
-fn runs(read: &Read, bundle: &Bundle, task: usize) -> String {
+fn runs(read: &Read, bundle: &Bundle, task: usize) -> (String, Vec<Stand>) {
     let stands = stands(bundle, Command::Run(task as u8));
     let name = read.about.task(task);
-    match stands.len() {
+    let told = match stands.len() {
         0 => format!("task {name} is not run"),
         count => format!("task {name} is run {}: {}", counted(count, "time"), all_told(&stands)),
-    }
+    };
+    (told, stands)
 }
 
 /// What is wrong with a link's message: the send is looked at first, then the receive, then the
 /// order inside one processor.
-fn message(read: &Read, bundle: &Bundle, link: usize) -> String {
+fn message(read: &Read, bundle: &Bundle, link: usize) -> (String, Vec<Stand>) {
     let ends = read.sheet.links()[link];
     let run = |task| stands(bundle, Command::Run(task)).first().copied().unwrap_or([0, 0]);
     let (source, target) = (run(ends.source), run(ends.target));
-    let [from, to] = [ends.source, ends.target].map(|task| read.about.task(task.into()));
+    let [from, to] =
+        [ends.source, ends.target].map(|task| format!("task {}", read.about.task(task.into())));
     let sends = stands(bundle, Command::Send(link as u16));
     let receives = stands(bundle, Command::Receive(link as u16));
     let home = source[0];
     if home == target[0] {
         let both = format!("both tasks run on processor {home}, so that no message is needed");
         return match (&sends[..], &receives[..]) {
-            ([], []) => format!(
-                "on processor {home} {from} runs at command {}, behind {to} at command {}",
-                source[1], target[1]
-            ),
-            ([], _) => format!("{both}; it is received at {}", all_told(&receives)),
-            _ => format!("{both}; it is sent at {}", all_told(&sends)),
+            ([], []) => {
+                let [behind, before] = [source[1], target[1]];
+                let told = format!(
+                    "{from} runs at processor {home}, command {behind}, behind {to} at command \
+                     {before}"
+                );
+                (told, vec![source, target])
+            }
+            ([], _) => (format!("{both}; it is received at {}", all_told(&receives)), receives),
+            _ => (format!("{both}; it is sent at {}", all_told(&sends)), sends),
         };
     }
     let apart = format!("{from} runs at {}, {to} at {}", told(&source), told(&target));
+    let runs = vec![source, target];
     match (&sends[..], &receives[..]) {
-        ([], _) => format!("it is not sent; {apart}"),
-        ([_, _, ..], _) => format!("it is sent more than once: {}", all_told(&sends)),
+        ([], _) => (format!("it is not sent; {apart}"), runs),
+        ([_, _, ..], _) => (format!("it is sent more than once: {}", all_told(&sends)), sends),
         ([send], _) if send[0] != home || send[1] < source[1] => {
-            format!("it is sent at {}, not behind {from} on its processor; {apart}", told(send))
+            let at = told(send);
+            let told = format!("it is sent at {at}, not behind {from} on its processor; {apart}");
+            (told, [sends, runs].concat())
         }
-        (_, []) => format!("it is not received; {apart}"),
-        (_, [_, _, ..]) => format!("it is received more than once: {}", all_told(&receives)),
+        (_, []) => (format!("it is not received; {apart}"), runs),
+        (_, [_, _, ..]) => {
+            (format!("it is received more than once: {}", all_told(&receives)), receives)
+        }
         (_, [receive]) => {
-            format!(
-                "it is received at {}, not before {to} on its processor; {apart}",
-                told(receive)
-            )
+            let at = told(receive);
+            let told = format!("it is received at {at}, not before {to} on its processor; {apart}");
+            (told, [receives, runs].concat())
         }
     }
 }
@@ -126,12 +141,13 @@ fn store(read: &Read, bundle: &Bundle, processor: usize) -> String {
 }
 
 /// Who waits for whom when nobody can step.
-fn waits(read: &Read, bundle: &Bundle) -> String {
+fn waits(read: &Read, bundle: &Bundle) -> (String, Vec<Stand>) {
     let mut work = read.work.clone();
     let Ok(mut machine) = work.start(&read.sheet, bundle) else {
-        return "the machine does not start".into();
+        return ("the machine does not start".into(), Vec::new());
     };
     machine.run_out();
+    let circle = machine.circle();
     let tell = |wait: &Wait| {
         format!(
             "processor {} waits at command {} for {}, which processor {} sends at command {}",
@@ -142,5 +158,7 @@ fn waits(read: &Read, bundle: &Bundle) -> String {
             wait.send
         )
     };
-    machine.circle().iter().map(tell).collect::<Vec<_>>().join("; ")
+    let told = circle.iter().map(tell).collect::<Vec<_>>().join("; ");
+    let ends = |wait: &Wait| [[wait.processor, wait.position], [wait.sender, wait.send]];
+    (told, circle.iter().flat_map(ends).collect())
 }
