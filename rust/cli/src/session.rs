@@ -273,14 +273,10 @@ fn line_of(about: &About, lines: &[usize], [k, position]: [usize; 2]) -> Option<
 
 /// The problems of a text, a line each.
 fn in_fault(path: &Path, problems: &[Problem]) -> Fault {
-    const MOST: usize = 20;
     let file = files::shown(path);
     let mut told = String::new();
-    for Problem { line, column, told: problem } in problems.iter().take(MOST) {
+    for Problem { line, column, told: problem } in problems {
         told += &format!("{file}:{line}:{column}: {problem}\n");
-    }
-    if problems.len() > MOST {
-        told += &format!("{file}: and {} more\n", problems.len() - MOST);
     }
     Fault::Text(told)
 }

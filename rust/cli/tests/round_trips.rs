@@ -68,7 +68,7 @@ fn trip(work: &mut WorkArea, random: &mut Random, sheet: &Sheet, bundles: &[Bund
 fn made_up_sheets_and_bundles_come_back() {
     let mut random = Random::new(20_260);
     let mut work = WorkArea::new();
-    for number in 0..3000 {
+    for number in 0..2000 {
         let made = match number % 40 {
             0 => sheets::largest(&mut random),
             _ => sheets::valid(&mut random),

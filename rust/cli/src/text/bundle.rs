@@ -1,7 +1,7 @@
 //! The bundle in a text: `processor`, `run`, `send`, `receive` and `claim`.
 
 use super::names::Names;
-use super::words::{Line, Placed, Problem, Task};
+use super::words::{Line, Placed, Problem, Task, MOST_PROBLEMS};
 use std::collections::HashMap;
 use zeldrupa::{Command, Sheet};
 
@@ -180,6 +180,7 @@ impl BundleText {
             for line in programme {
                 match lookup.command(line) {
                     Ok(command) => commands.push(command),
+                    Err(_) if problems.len() >= MOST_PROBLEMS => return Err(problems),
                     Err(problem) => problems.push(problem),
                 }
             }

@@ -14,7 +14,7 @@ pub use writing::{bundle_text, link_shown, sheet_text};
 
 use bundle::BundleLines;
 use sheet::SheetLines;
-use words::Line;
+use words::{Line, MOST_PROBLEMS};
 
 /// What a text holds: a sheet, a bundle, or both.
 #[derive(Debug)]
@@ -27,7 +27,7 @@ pub struct Text {
 const WORDS: [&str; 8] = ["board", "task", "link", "processor", "run", "send", "receive", "claim"];
 
 /// Whether a file is meant as text: it begins as one, and has no control bytes but tabs and the ends
-/// of lines. Sheets and bundles have some: a number of processors, zeros.
+/// of lines. No sheet and no bundle does: the number behind its first byte is no letter.
 pub fn is_text(bytes: &[u8]) -> bool {
     let begins = match bytes {
         // A lone command, not the beginning of a word.
@@ -41,7 +41,7 @@ pub fn is_text(bytes: &[u8]) -> bool {
 }
 
 impl Text {
-    /// Reads a text, or gives all its problems, a line at most one.
+    /// Reads a text, or gives its first problems, one for a line.
     pub fn read(bytes: &[u8]) -> Result<Text, Vec<Problem>> {
         let text = match std::str::from_utf8(bytes) {
             Ok(text) => text.strip_prefix('\u{FEFF}').unwrap_or(text),
@@ -54,6 +54,9 @@ impl Text {
             last = number;
             if let Err(problem) = read_line(&mut sheet, &mut bundle, number, line) {
                 problems.push(problem);
+            }
+            if problems.len() >= MOST_PROBLEMS {
+                return Err(problems);
             }
         }
         if sheet.is_empty() && bundle.is_empty() && problems.is_empty() {

@@ -56,7 +56,7 @@ impl Names {
                 Err(task.problem(format!("no task {number}; the sheet has {} tasks", self.len())))
             }
             Task::Name(name) => self.numbers.get(name).copied().ok_or_else(|| {
-                let meant = meant(name, self.numbers.keys().map(String::as_str));
+                let meant = meant(name, self.names.iter().flatten().map(String::as_str));
                 task.problem(format!("no task {}{meant}", quoted_short(name)))
             }),
         }

@@ -1,7 +1,7 @@
 //! The sheet in a text: `board`, `task` and `link`.
 
 use super::names::Names;
-use super::words::{Line, Placed, Problem, Task as TaskWord};
+use super::words::{Line, Placed, Problem, Task as TaskWord, MOST_PROBLEMS};
 use zeldrupa::{Link, Task};
 
 const U8: u32 = u8::MAX as u32;
@@ -76,6 +76,9 @@ impl SheetLines {
         }
         let mut links = Vec::new();
         for link in &self.links {
+            if problems.len() >= MOST_PROBLEMS {
+                break;
+            }
             match link.ends.each_ref().map(|end| self.names.find(end)) {
                 [Ok(source), Ok(target)] => {
                     // More tasks than a byte can number are refused before any link is looked at.

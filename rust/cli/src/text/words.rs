@@ -8,6 +8,9 @@ pub struct Problem {
     pub told: String,
 }
 
+/// So many problems are looked for; whoever has more does not read on.
+pub const MOST_PROBLEMS: usize = 20;
+
 /// Something that stands in a text, with its place.
 #[derive(Clone, Debug)]
 pub struct Placed<T> {

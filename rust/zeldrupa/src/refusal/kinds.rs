@@ -196,3 +196,26 @@ pub(crate) static KINDS: [Kind; 23] = [
         remedy: "Claim that time (in a text: claim auto).",
     },
 ];
+
+#[cfg(test)]
+mod tests {
+    use super::KINDS;
+
+    /// docs/FORMAT.md has a row for each refusal, with the same words.
+    #[test]
+    fn the_page_has_every_refusal() {
+        let path = concat!(env!("CARGO_MANIFEST_DIR"), "/../../docs/FORMAT.md");
+        let page = std::fs::read_to_string(path).unwrap();
+        for kind in &KINDS {
+            let row = format!("| {} | {} | {} |", kind.number, kind.word, kind.cause);
+            let row = page.lines().find(|line| line.starts_with(&row));
+            let row = row.unwrap_or_else(|| panic!("no row for {}", kind.number));
+            assert!(row.ends_with(&format!("| {} |", kind.remedy)), "{row}");
+        }
+        let rows = page.lines().filter(|line| {
+            let number = line.strip_prefix("| ").and_then(|line| line.split(' ').next());
+            number.is_some_and(|number| number.parse::<u8>().is_ok())
+        });
+        assert_eq!(rows.count(), KINDS.len());
+    }
+}
