@@ -44,6 +44,31 @@ fn runs_print_what_is_stored() {
     }
 }
 
+/// A page's blocks that begin with a command show what it prints.
+#[test]
+fn pages_show_what_is_printed() {
+    for page in ["README.md", "docs/FITTER.md", "examples/buoy/README.md"] {
+        let text = fs::read_to_string(folder("../..").join(page)).unwrap();
+        let scratch = Scratch::new();
+        let blocks = text.split("```text\n").skip(1).filter_map(|rest| rest.split_once("\n```"));
+        let blocks = blocks.filter(|(block, _)| block.starts_with("$ zeldrupa"));
+        let mut count = 0;
+        for (block, _) in blocks {
+            let commands = block.lines().filter_map(|line| line.strip_prefix("$ "));
+            let mut shown = String::new();
+            for command in commands {
+                let words: Vec<&str> = command.split_whitespace().skip(1).collect();
+                let output = scratch.run(&words, None);
+                let printed = [output.stdout, output.stderr].concat();
+                shown += &format!("$ {command}\n{}", String::from_utf8(printed).unwrap());
+            }
+            assert_eq!(block, shown.trim_end(), "{page}");
+            count += 1;
+        }
+        assert!(count > 0, "{page}");
+    }
+}
+
 /// No command prints a line that ends with a space, and every command has a transcript.
 #[test]
 fn transcripts_are_tidy_and_whole() {

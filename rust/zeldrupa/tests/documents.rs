@@ -76,3 +76,20 @@ fn the_longest_files_are_as_long_as_is_said() {
         assert!(page.contains(&format!("| {told} | `ZELDRUPA_LONGEST_{what}` |")), "{told}");
     }
 }
+
+/// What docs/NOTATION.md copies from the definitions and the code stands there, line by line.
+#[test]
+fn the_copied_definitions_are_there() {
+    let page = file("docs/NOTATION.md");
+    let sources = [
+        "zeldrupa/src/lib.rt",
+        "zeldrupa/specs/Promises.antt",
+        "checker/specs/Checker.antt",
+        "folds/specs/Answers.antt",
+    ];
+    let sources = sources.map(|name| file(&format!("crates/{name}"))).concat();
+    let blocks = page.split("```text\n").skip(1).filter_map(|rest| rest.split_once("```"));
+    for line in blocks.flat_map(|(block, _)| block.lines()).filter(|line| !line.is_empty()) {
+        assert!(sources.lines().any(|source| source == line), "{line}");
+    }
+}
