@@ -39,10 +39,11 @@ pub fn draw(picture: &Picture) -> String {
     text += &format!("<rect width=\"{width:.0}\" height=\"{height:.0}\" fill=\"#ffffff\"/>\n");
     text += &label(14.0, 26.0, "start", 16, &picture.title());
     text += &drawing.axis();
+    // Below the rows, so that no line crosses a name.
+    text += &drawing.messages();
     for processor in 0..picture.trace.processors {
         text += &drawing.row(processor);
     }
-    text += &drawing.messages();
     text += &drawing.claim();
     text += &drawing.legend(chart - 24.0);
     text += &circle;
@@ -129,7 +130,9 @@ impl<'a> Drawing<'a> {
                         let told = format!("waits for {link}, {times}");
                         text += &bar([x, y + 8.0], [end - x, BAR - 16.0], fill, &told);
                     }
-                    text += &receipt(end, middle, &format!("receives {link} at {}", event.finish));
+                    // Without a wait it stands at the lower edge, where it hides no name.
+                    let at = if event.waited() > 0 { middle } else { y + BAR - 7.0 };
+                    text += &receipt(end, at, &format!("receives {link} at {}", event.finish));
                 }
                 Command::Send(_) => (),
             }
@@ -179,8 +182,10 @@ impl<'a> Drawing<'a> {
 
     /// The messages as arrows between rows.
     fn messages(&self) -> String {
+        let messages = self.picture.messages();
+        let opacity = if messages.len() > 80 { 0.4 } else { 0.9 };
         let mut text = String::new();
-        for message in self.picture.messages() {
+        for message in messages {
             let down = message.to > message.from;
             let (from, to) = (self.y(message.from), self.y(message.to));
             let (from, to) = if down { (from + BAR, to) } else { (from, to + BAR) };
@@ -196,7 +201,7 @@ impl<'a> Drawing<'a> {
             let there = self.x(message.there.min(self.picture.span()));
             text += &format!(
                 "<path d=\"M{:.1} {from:.1} L{there:.1} {to:.1}\" stroke=\"#35618f\" \
-                 stroke-width=\"1.3\" stroke-opacity=\"0.8\" fill=\"none\" \
+                 stroke-width=\"1.3\" opacity=\"{opacity}\" fill=\"none\" \
                  marker-end=\"url(#tip)\"><title>{}</title></path>\n",
                 self.x(message.sent),
                 escaped(&told)

@@ -4,7 +4,7 @@ use super::{circle, ticks, Message, Picture};
 use crate::table::columns;
 use zeldrupa::Command;
 
-/// The most lines that messages take between two rows; more share the last.
+/// The most lines that messages may take between two rows.
 const MOST_LANES: usize = 6;
 
 /// A place that the wide character before it covers.
@@ -26,8 +26,12 @@ fn cells(text: &str) -> Vec<char> {
 /// The whole picture, at most so many characters wide.
 pub fn draw(picture: &Picture, width: usize) -> String {
     let mut drawing = Drawing::new(picture, width);
-    let messages = picture.messages();
-    drawing.lay_out(&messages);
+    let mut messages = picture.messages();
+    let dense = !drawing.lay_out(&messages);
+    if dense {
+        messages.clear();
+        drawing.lay_out(&messages);
+    }
     drawing.rows();
     for (number, message) in messages.iter().enumerate() {
         drawing.message(number, message);
@@ -41,6 +45,9 @@ pub fn draw(picture: &Picture, width: usize) -> String {
         text.push('\n');
     }
     text += &drawing.axis();
+    if dense {
+        text += "The messages are too many for characters; -o FILE.svg draws them.\n";
+    }
     if !picture.trace.circle.is_empty() {
         text += &format!("\nEach waits for a message of the next:\n\n{}", circle::lines(picture));
     }
@@ -71,8 +78,9 @@ impl<'a> Drawing<'a> {
         self.left + ((time * self.plot as u64 + u64::from(span) / 2) / u64::from(span)) as usize
     }
 
-    /// Gives each message a line next to its receiver's row, and each row its own.
-    fn lay_out(&mut self, messages: &[Message]) {
+    /// Gives each message a line next to its receiver's row, and each row its own; false if some gap
+    /// between rows would need more lines than it may have.
+    fn lay_out(&mut self, messages: &[Message]) -> bool {
         let processors = self.picture.trace.processors;
         // Of each gap between rows, the stretches of its lanes.
         let mut gaps: Vec<Vec<Vec<[usize; 2]>>> = vec![Vec::new(); processors.saturating_sub(1)];
@@ -85,26 +93,29 @@ impl<'a> Drawing<'a> {
                 lane.iter().all(|other| other[1] + 1 < stretch[0] || stretch[1] + 1 < other[0])
             };
             let lanes = &mut gaps[gap];
-            let lane = lanes.iter().position(free).unwrap_or_else(|| {
-                if lanes.len() < MOST_LANES {
-                    lanes.push(Vec::new());
-                }
-                lanes.len() - 1
-            });
+            let lane = lanes.iter().position(free).unwrap_or(lanes.len());
+            if lane == lanes.len() {
+                lanes.push(Vec::new());
+            }
             lanes[lane].push(stretch);
             chosen.push((gap, lane));
         }
-        let mut line = 0;
-        let mut starts = Vec::new();
+        let (mut line, mut starts) = (0, Vec::new());
+        self.rows.clear();
         for processor in 0..processors {
             self.rows.push(line);
-            // A line for the tips above and below the lanes.
             let lanes = gaps.get(processor).map_or(0, Vec::len);
             starts.push(line + 2);
-            line += if processor + 1 == processors { 1 } else { lanes + 3 };
+            line += match lanes {
+                _ if processor + 1 == processors => 1,
+                // A line for what passes by, or for the tips above and below the lanes.
+                0 => 1 + usize::from(!messages.is_empty()),
+                lanes => lanes + 3,
+            };
         }
         self.canvas = vec![vec![' '; self.left + self.plot + 1]; line];
         self.lanes = chosen.iter().map(|&(gap, lane)| starts[gap] + lane).collect();
+        gaps.iter().all(|lanes| lanes.len() <= MOST_LANES)
     }
 
     /// Each processor's tasks and waits.
