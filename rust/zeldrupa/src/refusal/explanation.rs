@@ -76,17 +76,17 @@ impl Refusal {
     pub fn explain(self, about: About) -> Explanation {
         let kind = kind(self.number);
         let without = |(place, subject)| (place, subject, Vec::new());
-        let (place, subject, commands) = match kind.map_or(Counts::Lent, |kind| kind.counts) {
-            Counts::SheetBytes => without(form::sheet(self, &about)),
-            Counts::BundleBytes => without(form::bundle(self, &about)),
-            Counts::Tasks if self.number == 10 => without(form::circle(self, &about)),
-            Counts::Lent => {
+        let counts = kind.map_or(Counts::Lent, |kind| kind.counts);
+        let (place, subject, commands) = match (counts, Read::new(about)) {
+            (Counts::SheetBytes, _) => without(form::sheet(self, &about)),
+            (Counts::BundleBytes, _) => without(form::bundle(self, &about)),
+            // A sheet that cannot be read and is refused by a task has a circle.
+            (Counts::Tasks, None) => without(form::circle(self, &about)),
+            (Counts::Lent, _) => {
                 without((format!("{} elements are needed", self.place), Subject::Other))
             }
-            _ => match Read::new(about) {
-                Some(read) => programmes::place(self, &read),
-                None => without((format!("place {}", self.place), Subject::Other)),
-            },
+            (_, Some(read)) => programmes::place(self, counts, &read),
+            (_, None) => without((format!("place {}", self.place), Subject::Other)),
         };
         Explanation {
             word: self.word(),
@@ -105,6 +105,9 @@ impl About<'_> {
         self.names.get(task).cloned().unwrap_or_else(|| task.to_string())
     }
 }
+
+/// Where a refusal is in words, what it points to, and the commands that it speaks of.
+pub(super) type Place = (String, Subject, Vec<[usize; 2]>);
 
 /// A sheet that can be read, and its bundle, if that can be.
 pub(super) struct Read<'a> {
@@ -143,4 +146,29 @@ pub(super) fn counts(sheet: &[u8]) -> [usize; 2] {
     let commands = seen::commands(&seen::SHEET, sheet);
     [seen::TASK, seen::LINK]
         .map(|byte| commands.iter().filter(|command| command.byte == byte).count())
+}
+
+#[cfg(test)]
+mod tests {
+    use super::{About, Refusal};
+
+    /// Whatever is lent with a refusal, there are words and no panic.
+    #[test]
+    fn any_refusal_is_told_of_any_bytes() {
+        let k1 = include_bytes!("../../../../examples/k1.sheet");
+        let plan = include_bytes!("../../../../examples/k1.bundle");
+        let stuck = include_bytes!("../../../../examples/k6.bundle");
+        let sheets = (0..=k1.len()).map(|end| &k1[..end]);
+        for sheet in sheets.chain([&b"\x51"[..], b"\x45\0", b"?", b"\x4D\x01\0\0\0\0\x45\x07"]) {
+            for bundle in [&plan[..], &stuck[..], &plan[..9], &plan[..1], b"", b"\x5A", b"?"] {
+                for number in 0..=40 {
+                    for place in [0, 1, 2, 3, 4, 6, 26, 47, 48, 255, 256, u64::MAX] {
+                        let explained =
+                            Refusal { number, place }.explain(About { sheet, bundle, names: &[] });
+                        assert!(!explained.place.is_empty());
+                    }
+                }
+            }
+        }
+    }
 }

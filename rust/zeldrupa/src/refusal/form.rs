@@ -28,7 +28,7 @@ pub(super) fn sheet(refusal: Refusal, about: &About) -> (String, Subject) {
             }
             (8, _) => {
                 let mut links = before.iter().filter(|other| other.byte == LINK);
-                let same = |other: &Seen| other.operands[..2] == command.operands[..2];
+                let same = |other: &Seen| other.operands.get(..2) == command.operands.get(..2);
                 let first = links.position(same).unwrap_or(0);
                 format!(": {from} -> {to}, as link {first}")
             }
@@ -99,7 +99,9 @@ fn at_offset(
 
 /// The task of 10, and a shortest circle through it.
 pub(super) fn circle(refusal: Refusal, about: &About) -> (String, Subject) {
-    let first = refusal.place as usize;
+    let Some(first) = usize::try_from(refusal.place).ok().filter(|&task| task < 256) else {
+        return (format!("place {}", refusal.place), Subject::Other);
+    };
     let links: Vec<[usize; 2]> = seen::commands(&seen::SHEET, about.sheet)
         .iter()
         .filter(|command| command.byte == LINK)

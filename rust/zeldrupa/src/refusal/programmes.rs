@@ -1,31 +1,44 @@
 //! The places of refusals of what the programmes do: runs, messages, store, circles and claims.
 
-use super::explanation::{counted, Read, Subject};
+use super::explanation::{counted, Place, Read, Subject};
+use super::kinds::Counts;
 use super::Refusal;
-use crate::{Bundle, Command, Wait};
+use crate::{Bundle, Command, Machine, Wait};
 
 /// Where a command stands: its programme, and its position in it.
-pub(super) type Stand = [usize; 2];
+type Stand = [usize; 2];
 
 /// Where it is and what stands there, and the commands that this speaks of.
-pub(super) fn place(refusal: Refusal, read: &Read) -> (String, Subject, Vec<Stand>) {
-    let place = refusal.place as usize;
-    match (refusal.number, read.bundle.as_ref()) {
-        (11, _) => (store_of_task(read, place), Subject::Task(place), Vec::new()),
-        (26, Some(bundle)) => {
+pub(super) fn place(refusal: Refusal, counts: Counts, read: &Read) -> Place {
+    let place = usize::try_from(refusal.place).unwrap_or(usize::MAX);
+    let programmes = read.bundle.as_ref().map_or(0, |bundle| bundle.programmes().len());
+    let known = match counts {
+        Counts::Tasks => place < read.sheet.tasks().len(),
+        Counts::Links => place < read.sheet.links().len(),
+        Counts::Processors => place < programmes,
+        _ => true,
+    };
+    match (counts, read.bundle.as_ref()) {
+        // Something else was lent than what was refused.
+        _ if !known => (format!("place {place}"), Subject::Other, Vec::new()),
+        (Counts::Tasks, None) => (store_of_task(read, place), Subject::Task(place), Vec::new()),
+        (Counts::Tasks, Some(bundle)) => {
             let (told, stands) = runs(read, bundle, place);
             (told, Subject::Task(place), stands)
         }
-        (27, Some(bundle)) => {
+        (Counts::Links, Some(bundle)) => {
             let (told, stands) = message(read, bundle, place);
             (format!("{}: {told}", read.link(place)), Subject::Link(place), stands)
         }
-        (28, Some(bundle)) => (store(read, bundle, place), Subject::Processor(place), Vec::new()),
-        (29, Some(bundle)) => {
-            let (told, stands) = waits(read, bundle);
+        (Counts::Processors, Some(bundle)) => {
+            // Only a machine that starts can get stuck.
+            let (told, stands) = match read.work.clone().start(&read.sheet, bundle) {
+                Ok(machine) => waits(read, machine),
+                Err(_) => (store(read, bundle, place), Vec::new()),
+            };
             (told, Subject::Processor(place), stands)
         }
-        (30, Some(bundle)) => {
+        (Counts::Time, Some(bundle)) => {
             let told = format!("the claim is {}, the latest clock {place}", bundle.claim());
             (told, Subject::Other, Vec::new())
         }
@@ -141,13 +154,12 @@ fn store(read: &Read, bundle: &Bundle, processor: usize) -> String {
 }
 
 /// Who waits for whom when nobody can step.
-fn waits(read: &Read, bundle: &Bundle) -> (String, Vec<Stand>) {
-    let mut work = read.work.clone();
-    let Ok(mut machine) = work.start(&read.sheet, bundle) else {
-        return ("the machine does not start".into(), Vec::new());
-    };
+fn waits(read: &Read, mut machine: Machine) -> (String, Vec<Stand>) {
     machine.run_out();
     let circle = machine.circle();
+    if circle.is_empty() {
+        return ("this bundle does not get stuck".into(), Vec::new());
+    }
     let tell = |wait: &Wait| {
         format!(
             "processor {} waits at command {} for {}, which processor {} sends at command {}",
