@@ -7,6 +7,7 @@ mod arguments;
 mod commands;
 mod files;
 mod picture;
+mod refusing;
 mod session;
 mod table;
 pub mod text;

@@ -2,9 +2,10 @@
 
 use crate::answer::Fault;
 use crate::files;
+use crate::refusing::{in_fault, refused};
 use crate::text::{is_text, BundleText, Claim, Names, Problem, SheetText, Text};
 use std::path::Path;
-use zeldrupa::{About, Bundle, Command, Link, Machine, Refusal, Sheet, Subject, Task, WorkArea};
+use zeldrupa::{bundle_values, About, Bundle, Link, Machine, Refusal, Sheet, Task, WorkArea};
 
 /// The work area, and what has been read so far.
 pub struct Session {
@@ -86,7 +87,14 @@ impl Session {
         let SheetText { processors, limit, names, tasks, links, lines } = text;
         let sheet = self.work.write_sheet(processors, limit, &tasks, &links);
         let sheet = sheet.map_err(|refusal| {
-            let bytes = values_as_bytes(processors, limit, &tasks, &links);
+            // What the values would be as bytes: the refusal's place is an offset in them.
+            let values = inputs::sheets::Sheet {
+                processors,
+                limit,
+                tasks: tasks.iter().flat_map(|task| task.values()).collect(),
+                links: links.iter().flat_map(|link| link.values()).collect(),
+            };
+            let bytes = values.encode();
             let about = About { sheet: &bytes, names: &names.all_shown(), bundle: &[] };
             refused(refusal, about, &file, &lines)
         })?;
@@ -169,7 +177,8 @@ impl Session {
         let programmes = programmes.map_err(|all| in_fault(Path::new(file), &all))?;
         let mut write = |claim| {
             self.work.write_bundle(&of.sheet, &programmes, claim).map_err(|refusal| {
-                let bytes = commands_as_bytes(&programmes);
+                let commands = bundle_values(&programmes);
+                let bytes = inputs::bundles::Bundle { commands, claim }.encode();
                 of.refused(refusal, &bytes, file, &text.lines)
             })
         };
@@ -232,75 +241,4 @@ impl BundleFile {
     pub fn refused(&self, of: &SheetFile, refusal: Refusal) -> Fault {
         of.refused(refusal, self.bundle.bytes(), &self.file, &self.lines)
     }
-}
-
-/// A refusal explained, with the file and, of a text, the line.
-fn refused(refusal: Refusal, about: About, file: &str, lines: &[usize]) -> Fault {
-    let mut explained = refusal.explain(about);
-    let line = match explained.subject {
-        Subject::SheetCommand(command) | Subject::BundleCommand(command) => lines.get(command),
-        // Tasks stand behind the board; a bundle's text has no line of its own for a task.
-        Subject::Task(task) if about.bundle.is_empty() => lines.get(task + 1),
-        _ => None,
-    };
-    explained.place = match line {
-        None => format!("{file}: {}", explained.place),
-        Some(line) => {
-            // Whoever wrote lines has no use for the offset.
-            let place =
-                explained.place.strip_prefix("byte ").and_then(|rest| rest.split_once(": "));
-            format!("{file}:{line}: {}", place.map_or(&explained.place[..], |(_, told)| told))
-        }
-    };
-    let lines: Vec<String> =
-        explained.commands.iter().filter_map(|&stand| line_of(&about, lines, stand)).collect();
-    if !lines.is_empty() {
-        explained.place += &format!("\nlines: {}", lines.join(", "));
-    }
-    let (number, place) = (refusal.number(), refusal.place());
-    Fault::Refused(format!("REFUSED {number} {place}\n{explained}\n"))
-}
-
-/// The line of a command of a programme, in a bundle that came as text.
-fn line_of(about: &About, lines: &[usize], [k, position]: [usize; 2]) -> Option<String> {
-    let mut work = WorkArea::new();
-    let sheet = work.read_sheet(about.sheet).ok()?;
-    let bundle = work.read_bundle(&sheet, about.bundle).ok()?;
-    // A line for each command before it, and for each processor up to its own.
-    let before: usize = bundle.programmes()[..k].iter().map(Vec::len).sum();
-    lines.get(before + k + 1 + position).map(usize::to_string)
-}
-
-/// The problems of a text, a line each.
-fn in_fault(path: &Path, problems: &[Problem]) -> Fault {
-    let file = files::shown(path);
-    let mut told = String::new();
-    for Problem { line, column, told: problem } in problems {
-        told += &format!("{file}:{line}:{column}: {problem}\n");
-    }
-    Fault::Text(told)
-}
-
-/// The bytes of values that were refused, for the explanation.
-fn values_as_bytes(processors: u8, limit: u32, tasks: &[Task], links: &[Link]) -> Vec<u8> {
-    let tasks = tasks.iter().flat_map(|task| [task.work, task.store]);
-    let links = links
-        .iter()
-        .flat_map(|link| [link.source.into(), link.target.into(), link.cost, link.bytes]);
-    let (tasks, links) = (tasks.collect(), links.collect());
-    inputs::sheets::Sheet { processors, limit, tasks, links }.encode()
-}
-
-/// The same of commands.
-fn commands_as_bytes(programmes: &[Vec<Command>]) -> Vec<u8> {
-    let mut commands = Vec::new();
-    for (number, programme) in (0..).zip(programmes) {
-        commands.extend([0x50, number]);
-        commands.extend(programme.iter().flat_map(|command| match *command {
-            Command::Run(task) => [0x52, task.into()],
-            Command::Send(link) => [0x53, link],
-            Command::Receive(link) => [0x56, link],
-        }));
-    }
-    inputs::bundles::Bundle { commands, claim: 0 }.encode()
 }

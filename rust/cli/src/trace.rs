@@ -26,19 +26,20 @@ impl Event {
     }
 }
 
-/// Does the next command of a processor, if it can step.
-pub fn step(machine: &mut Machine, processor: usize) -> Option<Event> {
-    let (command, before) = (machine.next(processor)?, machine.processor(processor)?);
-    if !machine.step(processor as u64) {
+/// Chooses a processor; what it did, if the machine stepped.
+pub fn step(machine: &mut Machine, choice: u64) -> Option<Event> {
+    let processor = usize::try_from(choice).unwrap_or(usize::MAX);
+    let (command, before) = (machine.next(processor), machine.processor(processor));
+    if !machine.step(choice) {
         return None;
     }
+    let (command, start) = (command?, before?.clock);
     let after = machine.processor(processor)?;
     let stamp = match command {
         Command::Run(_) => None,
         Command::Send(link) | Command::Receive(link) => machine.stamp(link.into()),
     };
-    let (start, finish, store) = (before.clock, after.clock, after.store);
-    Some(Event { processor, command, start, finish, store, stamp })
+    Some(Event { processor, command, start, finish: after.clock, store: after.store, stamp })
 }
 
 /// A machine that ran until nobody could step.
@@ -62,7 +63,7 @@ impl Trace {
         loop {
             let before = events.len();
             for processor in 0..processors {
-                while let Some(event) = step(&mut machine, processor) {
+                while let Some(event) = step(&mut machine, processor as u64) {
                     events.push(event);
                 }
             }

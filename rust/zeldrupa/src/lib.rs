@@ -45,7 +45,7 @@ mod work_area;
 #[doc = include_str!("../../../README.md")]
 struct Readme;
 
-pub use bundle::{Bundle, Command};
+pub use bundle::{bundle_values, Bundle, Command};
 pub use machine::{Machine, Processor, Wait};
 pub use refusal::{About, Explanation, Refusal, Subject};
 pub use sheet::{Link, Sheet, Task};

@@ -101,10 +101,9 @@ struct Log<'a> {
 impl Log<'_> {
     /// Makes a choice and says what came of it.
     fn choose(&mut self, machine: &mut Machine, choice: u64) {
-        let k = usize::try_from(choice).unwrap_or(usize::MAX);
-        let told = match step(machine, k) {
+        let told = match step(machine, choice) {
             Some(event) => self.done(&event),
-            None => self.not_done(machine, k),
+            None => self.not_done(machine, usize::try_from(choice).unwrap_or(usize::MAX)),
         };
         self.choices += 1;
         self.text += &format!("{:>4}  processor {choice}: {told}\n", self.choices);
