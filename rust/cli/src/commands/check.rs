@@ -3,9 +3,9 @@
 use super::{verdict, Command};
 use crate::answer::{Answer, Fault};
 use crate::arguments::Arguments;
-use crate::session::{Session, SheetFile};
+use crate::session::{BundleFile, Session, SheetFile};
 use std::path::PathBuf;
-use zeldrupa::Bundle;
+use zeldrupa::{Bundle, Command as Step};
 
 pub const COMMAND: Command = Command {
     name: "check",
@@ -37,16 +37,18 @@ pub fn needed_bundle(
     sheet: &SheetFile,
     files: &[PathBuf],
     command: &Command,
-) -> Result<crate::session::BundleFile, Fault> {
+) -> Result<BundleFile, Fault> {
     let bundle = session.given_bundle(sheet, files.get(1).map(PathBuf::as_path))?;
     bundle.ok_or_else(|| command.misused("needs a bundle: this sheet has no programmes"))
 }
 
 /// The line of an accepted bundle.
 pub fn accepted(bundle: &Bundle) -> String {
-    let runs = |programme: &&Vec<zeldrupa::Command>| {
-        programme.iter().any(|command| matches!(command, zeldrupa::Command::Run(_)))
-    };
-    let processors = bundle.programmes().iter().filter(runs).count();
-    format!("ACCEPTED claim {} processors {processors}\n", bundle.claim())
+    format!("ACCEPTED claim {} processors {}\n", bundle.claim(), working(bundle))
+}
+
+/// How many processors run a task.
+pub fn working(bundle: &Bundle) -> usize {
+    let runs = |programme: &&Vec<Step>| programme.iter().any(|step| matches!(step, Step::Run(_)));
+    bundle.programmes().iter().filter(runs).count()
 }

@@ -1,6 +1,6 @@
 //! `compare`: the plans of two sheets.
 
-use super::Command;
+use super::{working, Command};
 use crate::answer::{Answer, Fault};
 use crate::arguments::Arguments;
 use crate::session::{Session, SheetFile};
@@ -73,7 +73,7 @@ fn planned(session: &mut Session, path: &std::path::Path) -> Result<Planned, Fau
     let bundle = session.plan(&of)?;
     let machine = session.work.start(&of.sheet, &bundle).expect("a plan is accepted");
     let runs = Trace::of(machine).runs();
-    let (claim, processors) = (bundle.claim(), bundle.programmes().len());
+    let (claim, processors) = (bundle.claim(), working(&bundle));
     Ok(Planned { of, claim, processors, runs })
 }
 

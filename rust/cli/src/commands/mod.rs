@@ -15,6 +15,8 @@ use crate::arguments::Arguments;
 use crate::session::Session;
 use std::ops::RangeInclusive;
 
+pub use check::working;
+
 /// A command.
 pub struct Command {
     pub name: &'static str,

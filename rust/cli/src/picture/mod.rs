@@ -4,6 +4,7 @@ mod circle;
 pub mod svg;
 pub mod terminal;
 
+use crate::commands::working;
 use crate::session::{BundleFile, SheetFile};
 use crate::text::link_shown;
 use crate::trace::Trace;
@@ -48,7 +49,7 @@ impl Picture<'_> {
     /// The line above the picture.
     fn title(&self) -> String {
         let file = &self.bundle.file;
-        let processors = self.trace.processors;
+        let processors = working(&self.bundle.bundle);
         let claim = self.claim();
         let latest = self.trace.latest;
         if !self.trace.circle.is_empty() {
