@@ -6,9 +6,9 @@ mod answer;
 mod arguments;
 mod commands;
 mod files;
+mod loader;
 mod picture;
 mod refusing;
-mod session;
 mod table;
 pub mod text;
 mod trace;
@@ -16,7 +16,7 @@ mod trace;
 use answer::{Answer, Fault};
 use arguments::Arguments;
 use commands::{Command, COMMANDS};
-use session::Session;
+use loader::Loader;
 use std::ffi::OsString;
 use std::io::{stderr, stdout, Write};
 
@@ -54,7 +54,7 @@ fn answer(arguments: Vec<OsString>) -> Result<Answer, Fault> {
             let command = named(name)?;
             match Arguments::read(command, rest)? {
                 None => Ok(Answer::text(command.help())),
-                Some(arguments) => (command.answer)(&mut Session::new(), &arguments),
+                Some(arguments) => (command.answer)(&mut Loader::new(), &arguments),
             }
         }
     }

@@ -3,7 +3,7 @@
 use super::{verdict, Command};
 use crate::answer::{Answer, Fault};
 use crate::arguments::Arguments;
-use crate::session::{BundleFile, Session, SheetFile};
+use crate::loader::{BundleFile, Loader, SheetFile};
 use std::path::PathBuf;
 use zeldrupa::{Bundle, Command as Step};
 
@@ -20,25 +20,25 @@ the refusal's number and place, what it means, where it is and what to do.",
     answer,
 };
 
-fn answer(session: &mut Session, arguments: &Arguments) -> Result<Answer, Fault> {
-    verdict(checked(session, arguments))
+fn answer(loader: &mut Loader, arguments: &Arguments) -> Result<Answer, Fault> {
+    verdict(checked(loader, arguments))
 }
 
-fn checked(session: &mut Session, arguments: &Arguments) -> Result<Answer, Fault> {
-    let sheet = session.sheet(&arguments.files[0])?;
-    let bundle = needed_bundle(session, &sheet, &arguments.files, &COMMAND)?;
-    session.check(&sheet, &bundle)?;
+fn checked(loader: &mut Loader, arguments: &Arguments) -> Result<Answer, Fault> {
+    let sheet = loader.sheet(&arguments.files[0])?;
+    let bundle = needed_bundle(loader, &sheet, &arguments.files, &COMMAND)?;
+    loader.check(&sheet, &bundle)?;
     Ok(Answer::text(accepted(&bundle.bundle)))
 }
 
 /// The bundle that a command was given, in a file of its own or in the sheet's text.
 pub fn needed_bundle(
-    session: &mut Session,
+    loader: &mut Loader,
     sheet: &SheetFile,
     files: &[PathBuf],
     command: &Command,
 ) -> Result<BundleFile, Fault> {
-    let bundle = session.given_bundle(sheet, files.get(1).map(PathBuf::as_path))?;
+    let bundle = loader.given_bundle(sheet, files.get(1).map(PathBuf::as_path))?;
     bundle.ok_or_else(|| command.misused("needs a bundle: this sheet has no programmes"))
 }
 

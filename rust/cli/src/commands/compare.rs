@@ -3,7 +3,7 @@
 use super::{working, Command};
 use crate::answer::{Answer, Fault};
 use crate::arguments::Arguments;
-use crate::session::{Session, SheetFile};
+use crate::loader::{Loader, SheetFile};
 use crate::table::aligned;
 use crate::trace::{Ran, Trace};
 
@@ -28,9 +28,9 @@ struct Planned {
     runs: Vec<Ran>,
 }
 
-fn answer(session: &mut Session, arguments: &Arguments) -> Result<Answer, Fault> {
-    let one = planned(session, &arguments.files[0])?;
-    let other = planned(session, &arguments.files[1])?;
+fn answer(loader: &mut Loader, arguments: &Arguments) -> Result<Answer, Fault> {
+    let one = planned(loader, &arguments.files[0])?;
+    let other = planned(loader, &arguments.files[1])?;
     let processors = change(one.processors as u32, other.processors as u32);
     let mut text = format!("claim {}\nprocessors {processors}\n", change(one.claim, other.claim));
 
@@ -68,10 +68,10 @@ fn answer(session: &mut Session, arguments: &Arguments) -> Result<Answer, Fault>
     Ok(Answer::text(text + &alone))
 }
 
-fn planned(session: &mut Session, path: &std::path::Path) -> Result<Planned, Fault> {
-    let of = session.sheet(path)?;
-    let bundle = session.plan(&of)?;
-    let machine = session.work.start(&of.sheet, &bundle).expect("a plan is accepted");
+fn planned(loader: &mut Loader, path: &std::path::Path) -> Result<Planned, Fault> {
+    let of = loader.sheet(path)?;
+    let bundle = loader.plan(&of)?;
+    let machine = loader.work.start(&of.sheet, &bundle).expect("a plan is accepted");
     let runs = Trace::of(machine).runs();
     let (claim, processors) = (bundle.claim(), working(&bundle));
     Ok(Planned { of, claim, processors, runs })

@@ -3,8 +3,8 @@
 use super::Command;
 use crate::answer::{Answer, Fault};
 use crate::arguments::Arguments;
+use crate::loader::{BundleFile, Loader};
 use crate::picture::{svg, terminal, Picture};
-use crate::session::{BundleFile, Session};
 use std::path::PathBuf;
 
 pub const COMMAND: Command = Command {
@@ -24,7 +24,7 @@ other; the refusal is told on standard error, and the exit status is 1.",
     answer,
 };
 
-fn answer(session: &mut Session, arguments: &Arguments) -> Result<Answer, Fault> {
+fn answer(loader: &mut Loader, arguments: &Arguments) -> Result<Answer, Fault> {
     let width = match arguments.text("--width") {
         None => 100,
         Some(width) => match width.parse() {
@@ -32,14 +32,14 @@ fn answer(session: &mut Session, arguments: &Arguments) -> Result<Answer, Fault>
             _ => return Err(COMMAND.misused("takes a width of 40 to 1000")),
         },
     };
-    let of = session.sheet(&arguments.files[0])?;
-    let bundle = match session.given_bundle(&of, arguments.files.get(1).map(PathBuf::as_path))? {
+    let of = loader.sheet(&arguments.files[0])?;
+    let bundle = match loader.given_bundle(&of, arguments.files.get(1).map(PathBuf::as_path))? {
         Some(bundle) => bundle,
-        None => BundleFile::planned(&of.file, session.plan(&of)?),
+        None => BundleFile::planned(&of.file, loader.plan(&of)?),
     };
     // What does not even start has no picture; what gets stuck or claims wrongly has one.
-    let trace = crate::trace::Trace::of(session.start(&of, &bundle)?);
-    let refusal = session.check(&of, &bundle).err();
+    let trace = crate::trace::Trace::of(loader.start(&of, &bundle)?);
+    let refusal = loader.check(&of, &bundle).err();
     let picture = Picture { of: &of, bundle: &bundle, trace: &trace };
     let bytes = match arguments.value("-o") {
         Some(_) => svg::draw(&picture),

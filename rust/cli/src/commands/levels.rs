@@ -3,7 +3,7 @@
 use super::Command;
 use crate::answer::{Answer, Fault};
 use crate::arguments::Arguments;
-use crate::session::Session;
+use crate::loader::Loader;
 use crate::table::aligned;
 
 pub const COMMAND: Command = Command {
@@ -18,9 +18,9 @@ without successors, its own work included. Among ready tasks a higher level tend
     answer,
 };
 
-fn answer(session: &mut Session, arguments: &Arguments) -> Result<Answer, Fault> {
-    let of = session.sheet(&arguments.files[0])?;
-    let levels = session.work.levels(&of.sheet).expect("the sheet was read");
+fn answer(loader: &mut Loader, arguments: &Arguments) -> Result<Answer, Fault> {
+    let of = loader.sheet(&arguments.files[0])?;
+    let levels = loader.work.levels(&of.sheet).expect("the sheet was read");
     let mut rows = vec![["task", "work", "level"].map(str::to_string).into()];
     for (task, (values, level)) in of.sheet.tasks().iter().zip(levels).enumerate() {
         rows.push(vec![of.names.shown(task), values.work.to_string(), level.to_string()]);

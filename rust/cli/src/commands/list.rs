@@ -4,7 +4,7 @@ use super::check::{accepted, needed_bundle};
 use super::Command;
 use crate::answer::{Answer, Fault};
 use crate::arguments::Arguments;
-use crate::session::Session;
+use crate::loader::Loader;
 use crate::table::aligned;
 use crate::trace::Trace;
 
@@ -21,11 +21,11 @@ processor: when it ends, how long it worked and waited in all, and its highest s
     answer,
 };
 
-fn answer(session: &mut Session, arguments: &Arguments) -> Result<Answer, Fault> {
-    let sheet = session.sheet(&arguments.files[0])?;
-    let bundle = needed_bundle(session, &sheet, &arguments.files, &COMMAND)?;
-    session.check(&sheet, &bundle)?;
-    let trace = Trace::of(session.start(&sheet, &bundle)?);
+fn answer(loader: &mut Loader, arguments: &Arguments) -> Result<Answer, Fault> {
+    let sheet = loader.sheet(&arguments.files[0])?;
+    let bundle = needed_bundle(loader, &sheet, &arguments.files, &COMMAND)?;
+    loader.check(&sheet, &bundle)?;
+    let trace = Trace::of(loader.start(&sheet, &bundle)?);
 
     let mut text = accepted(&bundle.bundle);
     let mut tasks =

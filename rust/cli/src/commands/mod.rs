@@ -12,7 +12,7 @@ mod show;
 
 use crate::answer::{Answer, Fault};
 use crate::arguments::Arguments;
-use crate::session::Session;
+use crate::loader::Loader;
 use std::ops::RangeInclusive;
 
 pub use check::working;
@@ -29,7 +29,7 @@ pub struct Command {
     /// What it does, in a line and in full.
     brief: &'static str,
     full: &'static str,
-    pub answer: fn(&mut Session, &Arguments) -> Result<Answer, Fault>,
+    pub answer: fn(&mut Loader, &Arguments) -> Result<Answer, Fault>,
 }
 
 pub static COMMANDS: [Command; 9] = [

@@ -4,7 +4,7 @@ use super::Command;
 use crate::answer::{Answer, Fault};
 use crate::arguments::Arguments;
 use crate::files;
-use crate::session::{Content, Session};
+use crate::loader::{Content, Loader};
 use crate::text::{Claim, Text};
 
 pub const COMMAND: Command = Command {
@@ -23,12 +23,12 @@ of the machine, so the bundle has to run to its end.",
     answer,
 };
 
-fn answer(session: &mut Session, arguments: &Arguments) -> Result<Answer, Fault> {
+fn answer(loader: &mut Loader, arguments: &Arguments) -> Result<Answer, Fault> {
     let Some(file) = arguments.file("-o") else {
         return Err(COMMAND.misused("needs -o FILE, or `-o -` for standard output"));
     };
     let path = &arguments.files[0];
-    let Content::Text(Text { sheet, bundle }) = session.content(path)? else {
+    let Content::Text(Text { sheet, bundle }) = loader.content(path)? else {
         return Err(COMMAND.misused(&format!("takes a text; {} is none", path.display())));
     };
     let packed = match arguments.text("--only").as_deref() {
@@ -45,18 +45,18 @@ fn answer(session: &mut Session, arguments: &Arguments) -> Result<Answer, Fault>
     let bytes = match packed {
         (sheet, Some(text), _) => {
             let of = match (arguments.file("--sheet"), sheet) {
-                (Some(named), _) => session.sheet(&named)?,
-                (None, Some(sheet)) => session.sheet_of_text(path, sheet, None)?,
-                (None, None) => session.no_sheet(path, &text)?,
+                (Some(named), _) => loader.sheet(&named)?,
+                (None, Some(sheet)) => loader.sheet_of_text(path, sheet, None)?,
+                (None, None) => loader.no_sheet(path, &text)?,
             };
-            let bundle = session.bundle_of_text(&of, &files::shown(path), &text)?;
+            let bundle = loader.bundle_of_text(&of, &files::shown(path), &text)?;
             if text.claim == Claim::Auto {
-                session.check(&of, &bundle)?;
+                loader.check(&of, &bundle)?;
             }
             bundle.bundle.bytes().to_vec()
         }
         (Some(sheet), None, true) => {
-            session.sheet_of_text(path, sheet, None)?.sheet.bytes().to_vec()
+            loader.sheet_of_text(path, sheet, None)?.sheet.bytes().to_vec()
         }
         _ => return Err(COMMAND.misused("finds nothing of that kind in this text")),
     };

@@ -3,7 +3,7 @@
 use super::{verdict, Command};
 use crate::answer::{Answer, Fault};
 use crate::arguments::Arguments;
-use crate::session::{Session, SheetFile};
+use crate::loader::{Loader, SheetFile};
 
 pub const COMMAND: Command = Command {
     name: "plan",
@@ -17,21 +17,21 @@ processor, its start and its finish; with -o the bundle is written instead.",
     answer,
 };
 
-fn answer(session: &mut Session, arguments: &Arguments) -> Result<Answer, Fault> {
-    let sheet = session.sheet(&arguments.files[0]);
+fn answer(loader: &mut Loader, arguments: &Arguments) -> Result<Answer, Fault> {
+    let sheet = loader.sheet(&arguments.files[0]);
     match arguments.file("-o") {
         Some(file) => {
-            let bundle = session.plan(&sheet?)?;
+            let bundle = loader.plan(&sheet?)?;
             Ok(Answer::to(Some(file), bundle.bytes().to_vec()))
         }
-        None => verdict(sheet.and_then(|sheet| listing(session, &sheet))),
+        None => verdict(sheet.and_then(|sheet| listing(loader, &sheet))),
     }
 }
 
 /// The library's listing, with the names of the tasks for their numbers.
-fn listing(session: &mut Session, of: &SheetFile) -> Result<Answer, Fault> {
-    session.plan(of)?;
-    let listing = session.work.listing(&of.sheet);
+fn listing(loader: &mut Loader, of: &SheetFile) -> Result<Answer, Fault> {
+    loader.plan(of)?;
+    let listing = loader.work.listing(&of.sheet);
     let mut lines = listing.lines();
     let mut text = format!("{}\n", lines.next().unwrap_or_default());
     for (task, line) in lines.enumerate() {

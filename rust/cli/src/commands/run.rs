@@ -4,7 +4,7 @@ use super::check::needed_bundle;
 use super::Command;
 use crate::answer::{Answer, Fault};
 use crate::arguments::Arguments;
-use crate::session::{Session, SheetFile};
+use crate::loader::{Loader, SheetFile};
 use crate::table::aligned;
 use crate::text::link_shown;
 use crate::trace::{step, Event};
@@ -27,7 +27,7 @@ it. Without options the processors take turns until nobody can step.",
     answer,
 };
 
-fn answer(session: &mut Session, arguments: &Arguments) -> Result<Answer, Fault> {
+fn answer(loader: &mut Loader, arguments: &Arguments) -> Result<Answer, Fault> {
     let order = match (arguments.text("--order"), arguments.text("--random")) {
         (Some(_), Some(_)) => {
             return Err(COMMAND.misused("takes either --order or --random"));
@@ -39,9 +39,9 @@ fn answer(session: &mut Session, arguments: &Arguments) -> Result<Answer, Fault>
         }
         (None, None) => Order::Turns,
     };
-    let sheet = session.sheet(&arguments.files[0])?;
-    let bundle = needed_bundle(session, &sheet, &arguments.files, &COMMAND)?;
-    let mut machine = session.start(&sheet, &bundle)?;
+    let sheet = loader.sheet(&arguments.files[0])?;
+    let bundle = needed_bundle(loader, &sheet, &arguments.files, &COMMAND)?;
+    let mut machine = loader.start(&sheet, &bundle)?;
     let mut log = Log { of: &sheet, text: String::new(), choices: 0 };
     match order {
         Order::Given(choices) => {

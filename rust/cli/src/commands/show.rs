@@ -4,7 +4,7 @@ use super::Command;
 use crate::answer::{Answer, Fault};
 use crate::arguments::Arguments;
 use crate::files;
-use crate::session::{Content, Session};
+use crate::loader::{Content, Loader};
 use crate::text::{bundle_text, sheet_text, Text};
 
 pub const COMMAND: Command = Command {
@@ -20,37 +20,37 @@ their numbers.",
     answer,
 };
 
-fn answer(session: &mut Session, arguments: &Arguments) -> Result<Answer, Fault> {
+fn answer(loader: &mut Loader, arguments: &Arguments) -> Result<Answer, Fault> {
     let path = &arguments.files[0];
     if let Some(sheet) = arguments.file("--sheet") {
-        let of = session.sheet(&sheet)?;
-        let bundle = session.bundle(&of, path)?.bundle;
+        let of = loader.sheet(&sheet)?;
+        let bundle = loader.bundle(&of, path)?.bundle;
         return Ok(Answer::text(bundle_text(&bundle, Some((&of.sheet, &of.names)))));
     }
     let shown = files::shown(path);
-    let text = match session.content(path)? {
+    let text = match loader.content(path)? {
         Content::Bytes(bytes) if is_bundle(&bytes) => {
-            let of = session.any_sheet();
-            let bundle = session.bundle_of_bytes(&of, &shown, &bytes)?;
+            let of = loader.any_sheet();
+            let bundle = loader.bundle_of_bytes(&of, &shown, &bytes)?;
             bundle_text(&bundle.bundle, None)
         }
         Content::Bytes(bytes) => {
-            let of = session.sheet_of_bytes(path, &bytes)?;
+            let of = loader.sheet_of_bytes(path, &bytes)?;
             sheet_text(&of.sheet, &of.names)
         }
         Content::Text(Text { sheet: Some(sheet), bundle }) => {
-            let of = session.sheet_of_text(path, sheet, None)?;
+            let of = loader.sheet_of_text(path, sheet, None)?;
             let mut text = sheet_text(&of.sheet, &of.names);
             if let Some(bundle) = bundle {
-                let bundle = session.bundle_of_text(&of, &shown, &bundle)?.bundle;
+                let bundle = loader.bundle_of_text(&of, &shown, &bundle)?.bundle;
                 text += &format!("\n{}", bundle_text(&bundle, Some((&of.sheet, &of.names))));
             }
             text
         }
         Content::Text(Text { bundle, .. }) => {
             let text = bundle.expect("a text has a sheet or a bundle");
-            let of = session.no_sheet(path, &text)?;
-            bundle_text(&session.bundle_of_text(&of, &shown, &text)?.bundle, None)
+            let of = loader.no_sheet(path, &text)?;
+            bundle_text(&loader.bundle_of_text(&of, &shown, &text)?.bundle, None)
         }
     };
     Ok(Answer::text(text))

@@ -5,7 +5,7 @@ pub mod svg;
 pub mod terminal;
 
 use crate::commands::working;
-use crate::session::{BundleFile, SheetFile};
+use crate::loader::{BundleFile, SheetFile};
 use crate::text::link_shown;
 use crate::trace::Trace;
 use zeldrupa::{Command, Wait};

@@ -8,7 +8,7 @@ use std::path::Path;
 use zeldrupa::{bundle_values, About, Bundle, Link, Machine, Refusal, Sheet, Task, WorkArea};
 
 /// The work area, and what has been read so far.
-pub struct Session {
+pub struct Loader {
     pub work: WorkArea,
     input_taken: bool,
 }
@@ -37,9 +37,9 @@ pub enum Content {
     Bytes(Vec<u8>),
 }
 
-impl Session {
+impl Loader {
     pub fn new() -> Self {
-        Session { work: WorkArea::new(), input_taken: false }
+        Loader { work: WorkArea::new(), input_taken: false }
     }
 
     /// The content of a file in either form.
