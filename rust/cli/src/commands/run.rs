@@ -119,7 +119,7 @@ impl Log<'_> {
         let link = |link: u16| link_shown(&self.of.sheet, &self.of.names, link.into());
         match event.command {
             Step::Run(task) => {
-                let name = self.of.names.shown(task.into());
+                let name = self.of.names.told(task.into());
                 format!("runs {name} from {start} to {finish}, store {store}")
             }
             Step::Send(number) => {
@@ -156,7 +156,7 @@ fn state(machine: &Machine, of: &SheetFile) -> String {
         let link = |link: u16| link_shown(&of.sheet, &of.names, link.into());
         let next = match machine.next(k) {
             None => "done".into(),
-            Some(Step::Run(task)) => format!("run {}", of.names.shown(task.into())),
+            Some(Step::Run(task)) => format!("run {}", of.names.told(task.into())),
             Some(Step::Send(number)) => format!("send {}", link(number)),
             Some(Step::Receive(number)) => format!("receive {}", link(number)),
         };

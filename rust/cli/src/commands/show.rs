@@ -16,7 +16,7 @@ pub const COMMAND: Command = Command {
     full: "\
 Shows a sheet or a bundle as text, which `pack` turns into the same bytes again. Tasks have names
 where the sheet came as text, and their numbers elsewhere; without its sheet a bundle's links have
-their numbers.",
+their numbers. A plan as text: zeldrupa plan SHEET -o - | zeldrupa show - --sheet SHEET",
     answer,
 };
 

@@ -7,13 +7,14 @@ use std::collections::HashMap;
 #[derive(Clone, Debug, Default)]
 pub struct Names {
     names: Vec<Option<String>>,
-    numbers: HashMap<String, usize>,
+    /// Of each name its task, and the line that it stands in.
+    known: HashMap<String, (usize, usize)>,
 }
 
 impl Names {
     /// So many tasks without names.
     pub fn none(tasks: usize) -> Self {
-        Names { names: vec![None; tasks], numbers: HashMap::new() }
+        Names { names: vec![None; tasks], ..Names::default() }
     }
 
     /// Adds the next task. A number has to be its own, and a name a new one.
@@ -26,11 +27,13 @@ impl Names {
                     task.problem(format!("this is task {next}, not {number}: tasks count from 0"))
                 )
             }
-            Task::Name(name) if self.numbers.contains_key(name) => {
-                return Err(task.problem(format!("a second task {}", quoted_short(name))))
-            }
             Task::Name(name) => {
-                self.numbers.insert(name.clone(), next);
+                if let Some((_, line)) = self.known.get(name) {
+                    let name = quoted_short(name);
+                    let told = format!("a second task {name}; the first is in line {line}");
+                    return Err(task.problem(told));
+                }
+                self.known.insert(name.clone(), (next, task.line));
                 Some(name.clone())
             }
         };
@@ -45,7 +48,7 @@ impl Names {
 
     /// Whether any task has a name.
     pub fn any(&self) -> bool {
-        !self.numbers.is_empty()
+        !self.known.is_empty()
     }
 
     /// The number of a task that a text names.
@@ -55,7 +58,7 @@ impl Names {
             Task::Number(number) => {
                 Err(task.problem(format!("no task {number}; the sheet has {} tasks", self.len())))
             }
-            Task::Name(name) => self.numbers.get(name).copied().ok_or_else(|| {
+            Task::Name(name) => self.number(name).ok_or_else(|| {
                 let meant = meant(name, self.names.iter().flatten().map(String::as_str));
                 task.problem(format!("no task {}{meant}", quoted_short(name)))
             }),
@@ -64,7 +67,7 @@ impl Names {
 
     /// The number of the task of this name.
     pub fn number(&self, name: &str) -> Option<usize> {
-        self.numbers.get(name).copied()
+        self.known.get(name).map(|&(task, _)| task)
     }
 
     /// A task's own name.
@@ -78,6 +81,14 @@ impl Names {
             None => task.to_string(),
             Some(name) if is_bare(name) => name.to_string(),
             Some(name) => format!("\"{}\"", name.replace('\\', "\\\\").replace('"', "\\\"")),
+        }
+    }
+
+    /// A task in a sentence.
+    pub fn told(&self, task: usize) -> String {
+        match self.name(task) {
+            None => format!("task {task}"),
+            Some(_) => self.shown(task),
         }
     }
 
