@@ -124,10 +124,10 @@ fn examples_are_well_formed() {
 #[test]
 fn stored_pictures_are_those_that_are_drawn() {
     let scratch = Scratch::new();
-    for picture in ["buoy", "buoy-hand", "buoy-stuck"] {
-        let bundle = format!("{picture}.txt");
-        let files = if picture == "buoy" { vec!["buoy.txt"] } else { vec!["buoy.txt", &bundle] };
-        let drawn = scratch.run(&[&["gantt", "-o", "-"], &files[..]].concat(), None).stdout;
+    for (bundle, picture) in
+        [("buoy.bundle", "buoy"), ("buoy-hand.txt", "buoy-hand"), ("buoy-stuck.txt", "buoy-stuck")]
+    {
+        let drawn = scratch.run(&["gantt", "buoy.txt", bundle, "-o", "-"], None).stdout;
         let stored = fs::read(scratch.path(&format!("{picture}.svg"))).unwrap();
         assert!(drawn == stored, "{picture}.svg");
     }
