@@ -1,7 +1,7 @@
 //! The bundle in a text: `processor`, `run`, `send`, `receive` and `claim`.
 
+use super::line::{Line, Placed, Problem, Task, MOST_PROBLEMS};
 use super::names::Names;
-use super::words::{Line, Placed, Problem, Task, MOST_PROBLEMS};
 use std::collections::HashMap;
 use zeldrupa::{Command, Sheet};
 

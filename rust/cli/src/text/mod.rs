@@ -1,20 +1,23 @@
 //! The text form of sheets and bundles: one thing a line, `#` before a comment, names for tasks.
 
 mod bundle;
+mod line;
 mod names;
 mod sheet;
+mod spelling;
 mod words;
 mod writing;
 
 pub use bundle::{BundleText, Claim};
+pub use line::Problem;
 pub use names::Names;
 pub use sheet::SheetText;
-pub use words::{meant, Problem};
+pub use spelling::meant;
 pub use writing::{bundle_text, link_shown, sheet_text};
 
 use bundle::BundleLines;
+use line::{Line, MOST_PROBLEMS};
 use sheet::SheetLines;
-use words::{Line, MOST_PROBLEMS};
 
 /// What a text holds: a sheet, a bundle, or both.
 #[derive(Debug)]

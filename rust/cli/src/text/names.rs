@@ -1,6 +1,8 @@
 //! The names of tasks, which live in a text only; a task without one goes by its number.
 
-use super::words::{is_bare, meant, quoted_short, Placed, Problem, Task};
+use super::line::{Placed, Problem, Task};
+use super::spelling::meant;
+use super::words::{is_bare, quoted_short};
 use std::collections::HashMap;
 
 /// The names of a sheet's tasks, in number order.

@@ -1,7 +1,7 @@
 //! The sheet in a text: `board`, `task` and `link`.
 
+use super::line::{Line, Placed, Problem, Task as TaskWord, MOST_PROBLEMS};
 use super::names::Names;
-use super::words::{Line, Placed, Problem, Task as TaskWord, MOST_PROBLEMS};
 use zeldrupa::{Link, Task};
 
 const U8: u32 = u8::MAX as u32;
