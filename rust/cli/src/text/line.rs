@@ -57,45 +57,42 @@ impl Line {
         self.words.as_slice().is_empty()
     }
 
-    fn next(&mut self, expected: &str) -> Result<Placed<Word>, Problem> {
+    fn next(&mut self, expected: impl Fn() -> String) -> Result<Placed<Word>, Problem> {
         match self.words.next() {
             Some((column, what)) => Ok(Placed { line: self.number, column, what }),
             None => Err(Problem {
                 line: self.number,
                 column: self.end,
-                told: format!("expected {expected}"),
+                told: format!("expected {}", expected()),
             }),
         }
     }
 
     /// One of these words, by its number.
     pub fn one_of(&mut self, words: &[&str]) -> Result<Placed<usize>, Problem> {
-        let expected = either(words);
-        let Placed { line, column, what } = self.next(&expected)?;
-        let (found, meant) = match &what {
-            Word::Bare(text) => {
-                let found = words.iter().position(|word| word == text);
-                (found, meant(text, words.iter().copied()))
-            }
-            _ => (None, String::new()),
+        let Placed { line, column, what } = self.next(|| either(words))?;
+        let bare = match &what {
+            Word::Bare(text) => Some(text),
+            _ => None,
         };
-        let told = || format!("expected {expected}, found {}{meant}", what.shown());
-        match found {
-            Some(what) => Ok(Placed { line, column, what }),
-            None => Err(Problem { line, column, told: told() }),
+        if let Some(what) = words.iter().position(|word| bare.is_some_and(|text| text == word)) {
+            return Ok(Placed { line, column, what });
         }
+        let meant = bare.map_or(String::new(), |text| meant(text, words.iter().copied()));
+        let told = format!("expected {}, found {}{meant}", either(words), what.shown());
+        Err(Problem { line, column, told })
     }
 
     /// A decimal number up to `most`.
     pub fn number(&mut self, of: &str, most: u32) -> Result<u32, Problem> {
-        let expected = format!("a number for {of}");
-        let word = self.next(&expected)?;
+        let expected = || format!("a number for {of}");
+        let word = self.next(expected)?;
         match &word.what {
             Word::Bare(text) if text.chars().all(|c| c.is_ascii_digit()) => {
                 let number = text.parse().ok().filter(|number| *number <= most);
                 number.ok_or_else(|| word.problem(format!("{of} is at most {most}")))
             }
-            other => Err(word.problem(format!("expected {expected}, found {}", other.shown()))),
+            other => Err(word.problem(format!("expected {}, found {}", expected(), other.shown()))),
         }
     }
 
@@ -117,7 +114,7 @@ impl Line {
 
     /// A task, by its number or its name.
     pub fn task(&mut self) -> Result<Placed<Task>, Problem> {
-        let word = self.next("a task")?;
+        let word = self.next(|| "a task".into())?;
         let task = match &word.what {
             Word::Quoted(name) => checked_name(name).map(|()| Task::Name(name.clone())),
             Word::Bare(text) if text.chars().all(|c| c.is_ascii_digit()) => {
@@ -145,7 +142,7 @@ impl Line {
     }
 
     fn arrow(&mut self) -> Result<(), Problem> {
-        let word = self.next("\"->\"")?;
+        let word = self.next(|| "\"->\"".into())?;
         match word.what {
             Word::Arrow => Ok(()),
             ref other => Err(word.problem(format!("expected \"->\", found {}", other.shown()))),
