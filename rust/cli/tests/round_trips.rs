@@ -157,3 +157,56 @@ fn lines_of_a_megabyte_are_read() {
         assert!(status == 0 || all.len() < 1000, "a short message");
     }
 }
+
+/// Damaged texts are read or told with a place in them, and nothing panics.
+#[test]
+fn damaged_texts_are_told() {
+    const PIECES: [&str; 14] = [
+        "\n",
+        " ",
+        "#",
+        "\"",
+        "->",
+        "-",
+        "9",
+        "task ",
+        "run ",
+        "\\",
+        "é",
+        "\r\n",
+        "claim auto",
+        "99999999999",
+    ];
+    let (mut random, mut work) = (Random::new(11), WorkArea::new());
+    for _ in 0..3000 {
+        let made = sheets::small(&mut random);
+        let sheet = work.read_sheet(&made.encode()).unwrap();
+        let bundle = bundles::orderly(&mut random, &made).encode();
+        let bundle = work.read_bundle(&sheet, &bundle).unwrap();
+        let names = odd_names(&mut random, sheet.tasks().len());
+        let text = sheet_text(&sheet, &names) + &bundle_text(&bundle, Some((&sheet, &names)));
+        let mut letters: Vec<char> = text.chars().collect();
+        for _ in 0..random.within(1..=4) {
+            let at = random.below(letters.len() + 1);
+            let end = (at + random.below(9)).min(letters.len());
+            match random.below(8) {
+                0 => letters.truncate(at),
+                1..=4 => drop(letters.splice(at..end, random.pick(&PIECES).chars())),
+                _ => drop(letters.drain(at..end)),
+            }
+        }
+        let text: String = letters.into_iter().collect();
+        let problems = match Text::read(text.as_bytes()) {
+            Err(problems) => problems,
+            Ok(Text { bundle: Some(bundle), .. }) => {
+                bundle.programmes(&sheet, &names).err().unwrap_or_default()
+            }
+            Ok(_) => continue,
+        };
+        for problem in problems {
+            let line = text.lines().nth(problem.line - 1).unwrap_or_default();
+            assert!(problem.column <= line.chars().count() + 1, "{problem:?} in {line:?}");
+            assert!((1..300).contains(&problem.told.chars().count()), "{problem:?}");
+        }
+    }
+}
