@@ -53,6 +53,10 @@ fn put(path: &Path, bytes: &[u8]) -> io::Result<()> {
         let mut file = OpenOptions::new().write(true).open(path)?;
         return file.write_all(bytes).and_then(|()| file.flush());
     }
+    // A rename would replace what its owner has locked.
+    if there.as_ref().is_some_and(|there| there.permissions().readonly()) {
+        return Err(io::Error::new(io::ErrorKind::PermissionDenied, "it is write-protected"));
+    }
     // Through a link its file is replaced, not the link.
     let path = if there.is_some() { fs::canonicalize(path)? } else { path.to_path_buf() };
     let beside = beside(&path)?;

@@ -53,6 +53,10 @@ fn a_file_is_replaced_whole_with_its_permissions_and_through_links() {
     let mut seen = String::new();
     open.read_to_string(&mut seen).unwrap();
     assert_eq!(seen, "old");
+    // What is write-protected stays.
+    fs::set_permissions(scratch.path("old"), Permissions::from_mode(0o440)).unwrap();
+    assert_eq!(status(&scratch, &["plan", "k2.sheet", "-o", "old"]), Some(2));
+    assert_eq!(fs::read(scratch.path("old")).unwrap(), bundle);
     // A sheet may be its own output.
     assert_eq!(status(&scratch, &["pack", "buoy.txt", "-o", "buoy.txt"]), Some(0));
     assert_eq!(status(&scratch, &["plan", "buoy.txt"]), Some(0));
