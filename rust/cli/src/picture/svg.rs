@@ -23,7 +23,9 @@ pub fn draw(picture: &Picture) -> String {
     let drawing = Drawing::new(picture);
     let chart = TOP + ROW * picture.trace.processors as f64 + LEGEND;
     let (circle, circle_size) = circle::svg(picture, chart);
-    let width = (LEFT + drawing.plot + RIGHT).max(circle_size[0]);
+    let waits = (0..picture.trace.processors).filter_map(|k| drawing.vain_wait(k));
+    let right = waits.map(|(_, _, end)| end).fold(LEFT + drawing.plot, f64::max);
+    let width = (right + RIGHT).max(circle_size[0]);
     let height = chart + circle_size[1];
     let mut text = format!(
         "<svg xmlns=\"http://www.w3.org/2000/svg\" width=\"{width:.0}\" height=\"{height:.0}\" \
@@ -161,23 +163,26 @@ impl<'a> Drawing<'a> {
         text
     }
 
-    /// What a processor of a stuck bundle waits for to the end of the picture.
-    fn in_vain(&self, processor: usize) -> String {
-        let Some(wait) = self.picture.waiting(processor) else { return String::new() };
+    /// What a processor of a stuck bundle waits for, and from where to where this stands.
+    fn vain_wait(&self, processor: usize) -> Option<(String, f64, f64)> {
+        let wait = self.picture.waiting(processor)?;
         let clock = self.picture.trace.of_processor(processor).map(|event| event.finish).max();
-        let (x, y) = (self.x(clock.unwrap_or(0)), self.y(processor));
+        let start = self.x(clock.unwrap_or(0));
         let told = format!("waits for {}", self.picture.link(wait.link.into()));
-        let width = (LEFT + self.plot - x).max(8.0);
+        let end = start + told.chars().count() as f64 * CHARACTER + 24.0;
+        Some((told, start, end.max(LEFT + self.plot)))
+    }
+
+    /// The wait of a stuck bundle, to the end of the picture.
+    fn in_vain(&self, processor: usize) -> String {
+        let Some((told, x, end)) = self.vain_wait(processor) else { return String::new() };
+        let y = self.y(processor);
         let fill = "fill=\"url(#wait)\" stroke=\"#c0392b\" stroke-dasharray=\"5 3\"";
-        let bar = bar([x, y + 4.0], [width, BAR - 8.0], fill, &told);
-        // The name stands on white, so that the hatching does not cross it.
+        let hatched = bar([x, y + 4.0], [end - x, BAR - 8.0], fill, &told);
+        // The words stand on white, so that the hatching does not cross them.
         let length = told.chars().count() as f64 * CHARACTER + 8.0;
-        let box_ = format!(
-            "<rect x=\"{:.1}\" y=\"{:.1}\" width=\"{length:.1}\" height=\"18\" fill=\"#ffffff\"/>\n",
-            x + 8.0,
-            y + 11.0
-        );
-        bar + &box_ + &label(x + 12.0, y + 24.0, "start", 12, &told)
+        let ground = bar([x + 8.0, y + 11.0], [length, 18.0], "fill=\"#ffffff\"", &told);
+        hatched + &ground + &label(x + 12.0, y + 24.0, "start", 12, &told)
     }
 
     /// The messages as arrows between rows.
