@@ -12,11 +12,37 @@ ghost use Rattle.schedule.specs.Layout.{scheduleIn};
 ghost use Rattle.chains.specs.Frames.{Only};
 ghost use Rattle.chains.specs.Chains.{Chained};
 ghost use Rattle.chains.specs.declared.End.the-variants.{Target};
-ghost use Rattle.arrivals.specs.Kept.{keptLength, Single, Gathered, Counted, SurveyedTo, Surveyed, Ends, Kept};
+ghost use Rattle.arrivals.specs.Layout.{seenFrom, endsFrom, waitingFrom, turnBytesFrom, packedFrom, keptLength};
+ghost use Rattle.arrivals.specs.Kept.{Single, Gathered, Counted, SurveyedTo, Surveyed, Ends, Kept};
 ghost use Rattle.arrivals.specs.Reach.{further};
 ghost use Rattle.arrivals.specs.Steps.{countWords, upTo, Beside, Placeable, Landed, Released, Enough, GatheredTo};
 use chains::End;
 use sheet::tables;
+
+// Where each table of the planner's own words begins, and how many words these are: specs/Layout says what they hold.
+pub const BYTES: usize = 256;
+
+pub const SEEN: usize = 512;
+
+pub const ARRIVALS: usize = 768;
+
+pub const OTHERS: usize = 1024;
+
+pub const SENDERS: usize = 1280;
+
+pub const ENDS: usize = 1536;
+
+pub const STORES: usize = 1552;
+
+pub const WAITING: usize = 1568;
+
+pub const TURN_BYTES: usize = 1584;
+
+pub const TURN_LINKS: usize = 1600;
+
+pub const PACKED: usize = 1616;
+
+pub const LENGTH: usize = 2640;
 
 // The latest reach, the processor it comes from, and the latest from any other.
 pub struct Reach {
@@ -62,12 +88,12 @@ fn write_link(
     let at = reach.at;
     let most = reach.most;
     let other = reach.other;
-    kept[512 + v] = workspace::narrow(seen);
-    kept[768 + v] = workspace::narrow(most);
-    kept[1024 + v] = workspace::narrow(other);
-    kept[1280 + v] = workspace::narrow(at);
-    kept[1568 + k] = workspace::narrow(pending);
-    kept[1616 + (4 * v + k / 4)] = workspace::narrow(number);
+    kept[SEEN + v] = workspace::narrow(seen);
+    kept[ARRIVALS + v] = workspace::narrow(most);
+    kept[OTHERS + v] = workspace::narrow(other);
+    kept[SENDERS + v] = workspace::narrow(at);
+    kept[WAITING + k] = workspace::narrow(pending);
+    kept[PACKED + (4 * v + k / 4)] = workspace::narrow(number);
 }
 
 // 1 in the byte of processor k, in a word of four counts.
@@ -87,12 +113,12 @@ pub fn count_link(w: &[u32], kept: &mut [u32], t: usize, k: usize, f: usize, l: 
 {
     let v = tables::target(w, l);
     let c = tables::cost(w, l);
-    let seen = workspace::word(kept, 512 + v);
-    let most = workspace::word(kept, 768 + v);
-    let other = workspace::word(kept, 1024 + v);
-    let at = workspace::word(kept, 1280 + v);
-    let pending = workspace::word(kept, 1568 + k);
-    let number = workspace::word(kept, 1616 + (4 * v + k / 4));
+    let seen = workspace::word(kept, SEEN + v);
+    let most = workspace::word(kept, ARRIVALS + v);
+    let other = workspace::word(kept, OTHERS + v);
+    let at = workspace::word(kept, SENDERS + v);
+    let pending = workspace::word(kept, WAITING + k);
+    let number = workspace::word(kept, PACKED + (4 * v + k / 4));
     let reach = reached(
         Reach {
             at: at,
@@ -110,16 +136,16 @@ pub fn settle(w: &[u32], kept: &mut [u32], t: usize, k: usize, a: usize, f: usiz
     requires { ⌜ Kept (now w) (now kept) ⌝ }
     requires { ⌜ Placeable (sheetIn (now w)) (scheduleIn (now w)) t k × Surveyed (sheetIn (now w)) (scheduleIn (now w)) t (now kept) ⌝ }
     requires { ⌜ (f < 2147483648) × (endOf (sheetIn (now w)) (scheduleIn (now w)) k ≤ f) ⌝ }
-    ensures { λ _. ⌜ Only 1536 1568 (now (kept .entry)) (now (kept .exit)) × Ends (sheetIn (now (w .entry))) (put (scheduleIn (now (w .entry))) t k a f) (now (kept .exit)) ⌝ }
+    ensures { λ _. ⌜ Only endsFrom waitingFrom (now (kept .entry)) (now (kept .exit)) × Ends (sheetIn (now (w .entry))) (put (scheduleIn (now (w .entry))) t k a f) (now (kept .exit)) ⌝ }
 {
-    let x = workspace::word(kept, 1552 + k);
+    let x = workspace::word(kept, STORES + k);
     let y = tables::store(w, t);
-    let z = workspace::word(kept, 256 + t);
-    let v = workspace::word(kept, 1584 + k);
+    let z = workspace::word(kept, BYTES + t);
+    let v = workspace::word(kept, TURN_BYTES + k);
     let u = x + y + z;
     let r = u - v;
-    kept[1536 + k] = workspace::narrow(f);
-    kept[1552 + k] = workspace::narrow(r);
+    kept[ENDS + k] = workspace::narrow(f);
+    kept[STORES + k] = workspace::narrow(r);
 }
 
 // The links into the task of this turn wait no more.
@@ -130,9 +156,9 @@ pub fn release(kept: &mut [u32])
 {
     let mut j: usize = 0;
     while j < 16 {
-        let x = workspace::word(kept, 1568 + j);
-        let y = workspace::word(kept, 1600 + j);
-        kept[1568 + j] = workspace::narrow(x - y);
+        let x = workspace::word(kept, WAITING + j);
+        let y = workspace::word(kept, TURN_LINKS + j);
+        kept[WAITING + j] = workspace::narrow(x - y);
         j += 1;
     }
 }
@@ -142,14 +168,14 @@ fn survey_link(w: &[u32], kept: &mut [u32], t: usize, l: usize)
     requires { ⌜ Loaded (now w) × (keptLength ≤ length (now kept)) ⌝ }
     requires { ⌜ (l < linkCount (sheetIn (now w))) × (targetOf (sheetIn (now w)) l ≡ t) × (placed (scheduleIn (now w)) (sourceOf (sheetIn (now w)) l) ≡ true) ⌝ }
     requires { ⌜ SurveyedTo (sheetIn (now w)) (scheduleIn (now w)) t l (now kept) ⌝ }
-    ensures { λ _. ⌜ Only 1584 1616 (now (kept .entry)) (now (kept .exit)) × SurveyedTo (sheetIn (now (w .entry))) (scheduleIn (now (w .entry))) t (l + 1) (now (kept .exit)) ⌝ }
+    ensures { λ _. ⌜ Only turnBytesFrom packedFrom (now (kept .entry)) (now (kept .exit)) × SurveyedTo (sheetIn (now (w .entry))) (scheduleIn (now (w .entry))) t (l + 1) (now (kept .exit)) ⌝ }
 {
     let k = schedule::place(w, tables::source(w, l));
     let b = tables::size(w, l);
-    let x = workspace::word(kept, 1584 + k);
-    let y = workspace::word(kept, 1600 + k);
-    kept[1584 + k] = workspace::narrow(x + b);
-    kept[1600 + k] = workspace::narrow(y + 1);
+    let x = workspace::word(kept, TURN_BYTES + k);
+    let y = workspace::word(kept, TURN_LINKS + k);
+    kept[TURN_BYTES + k] = workspace::narrow(x + b);
+    kept[TURN_LINKS + k] = workspace::narrow(y + 1);
 }
 
 // All links into t are surveyed. The walk ends by their number, which is known before the links are.
@@ -158,7 +184,7 @@ fn survey_links(w: &[u32], kept: &mut [u32], t: usize)
     requires { ⌜ Chained Target (sheetIn (now w)) (now w) ⌝ }
     requires { ⌜ (t < taskCount (sheetIn (now w))) × (ready (sheetIn (now w)) (scheduleIn (now w)) t ≡ true) ⌝ }
     requires { ⌜ Gathered (sheetIn (now w)) (now kept) × SurveyedTo (sheetIn (now w)) (scheduleIn (now w)) t 0 (now kept) ⌝ }
-    ensures { λ _. ⌜ Only 1584 1616 (now (kept .entry)) (now (kept .exit)) × Surveyed (sheetIn (now (w .entry))) (scheduleIn (now (w .entry))) t (now (kept .exit)) ⌝ }
+    ensures { λ _. ⌜ Only turnBytesFrom packedFrom (now (kept .entry)) (now (kept .exit)) × Surveyed (sheetIn (now (w .entry))) (scheduleIn (now (w .entry))) t (now (kept .exit)) ⌝ }
 {
     let n = workspace::word(kept, t);
     let mut l = chains::first(w, End::Target, t);
@@ -174,9 +200,9 @@ fn survey_links(w: &[u32], kept: &mut [u32], t: usize)
 pub fn survey(w: &[u32], kept: &mut [u32], t: usize)
     requires { ⌜ Kept (now w) (now kept) ⌝ }
     requires { ⌜ (t < taskCount (sheetIn (now w))) × (ready (sheetIn (now w)) (scheduleIn (now w)) t ≡ true) ⌝ }
-    ensures { λ _. ⌜ Only 1584 1616 (now (kept .entry)) (now (kept .exit)) × Surveyed (sheetIn (now (w .entry))) (scheduleIn (now (w .entry))) t (now (kept .exit)) ⌝ }
+    ensures { λ _. ⌜ Only turnBytesFrom packedFrom (now (kept .entry)) (now (kept .exit)) × Surveyed (sheetIn (now (w .entry))) (scheduleIn (now (w .entry))) t (now (kept .exit)) ⌝ }
 {
-    workspace::clear_words(kept, 1584, 1616);
+    workspace::clear_words(kept, TURN_BYTES, PACKED);
     survey_links(w, kept, t);
 }
 
@@ -185,21 +211,21 @@ fn gather_one(w: &[u32], kept: &mut [u32], l: usize)
     requires { ⌜ Loaded (now w) × (keptLength ≤ length (now kept)) ⌝ }
     requires { ⌜ l < linkCount (sheetIn (now w)) ⌝ }
     requires { ⌜ GatheredTo (sheetIn (now w)) l (now kept) ⌝ }
-    ensures { λ _. ⌜ Only 0 512 (now (kept .entry)) (now (kept .exit)) × GatheredTo (sheetIn (now (w .entry))) (l + 1) (now (kept .exit)) ⌝ }
+    ensures { λ _. ⌜ Only 0 seenFrom (now (kept .entry)) (now (kept .exit)) × GatheredTo (sheetIn (now (w .entry))) (l + 1) (now (kept .exit)) ⌝ }
 {
     let t = tables::target(w, l);
     let b = tables::size(w, l);
     let x = workspace::word(kept, t);
-    let y = workspace::word(kept, 256 + t);
+    let y = workspace::word(kept, BYTES + t);
     kept[t] = workspace::narrow(x + 1);
-    kept[256 + t] = workspace::narrow(y + b);
+    kept[BYTES + t] = workspace::narrow(y + b);
 }
 
 // All links are gathered.
 pub fn gather(w: &[u32], kept: &mut [u32])
     requires { ⌜ Loaded (now w) × (keptLength ≤ length (now kept)) ⌝ }
     requires { ⌜ GatheredTo (sheetIn (now w)) 0 (now kept) ⌝ }
-    ensures { λ _. ⌜ Only 0 512 (now (kept .entry)) (now (kept .exit)) × GatheredTo (sheetIn (now (w .entry))) (linkCount (sheetIn (now (w .entry)))) (now (kept .exit)) ⌝ }
+    ensures { λ _. ⌜ Only 0 seenFrom (now (kept .entry)) (now (kept .exit)) × GatheredTo (sheetIn (now (w .entry))) (linkCount (sheetIn (now (w .entry)))) (now (kept .exit)) ⌝ }
 {
     let m = tables::links(w);
     let mut l: usize = 0;

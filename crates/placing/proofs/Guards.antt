@@ -19,6 +19,7 @@ use Rattle.sheet.specs.Tables.{sheetIn}
 use Rattle.planner.specs.Schedule.{Schedule, placed, stands, placeOf}
 use Rattle.planner.specs.Placing.{reachBy, arrival, priority, firstPartlyReady, endOf, startFrom, startOn, startWith, startAt, holdsBy, holdsPredecessor, bestStart, endsWith, delays, barredFor, barred}
 use Rattle.schedule.specs.Layout.{scheduleIn}
+use Rattle.arrivals.specs.Layout.{arrivalsFrom, othersFrom, sendersFrom}
 use Rattle.arrivals.specs.Kept.{countedBy, intoFrom, known, Kept}
 use Rattle.arrivals.proofs.Walks.{kept-arrived}
 use Rattle.words.specs.Found.{foundOf}
@@ -65,13 +66,13 @@ module _ (w own : List ℕ) (kept : Kept w own) (u : ℕ) (h : u < taskCount (sh
 
   -- where u's latest message comes from, when it is there, and when the latest from elsewhere is
   abbrev main : ℕ
-  main = getD own (1280 + u) 0
+  main = getD own (sendersFrom + u) 0
 
   abbrev latest : ℕ
-  latest = getD own (768 + u) 0
+  latest = getD own (arrivalsFrom + u) 0
 
   abbrev other : ℕ
-  other = getD own (1024 + u) 0
+  other = getD own (othersFrom + u) 0
 
   latest-is : latest ≡ arrival s σ u
   latest-is = arrival-kept (kept-arrived kept u h)

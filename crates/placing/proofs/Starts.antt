@@ -18,6 +18,7 @@ use Rattle.planner.specs.Placing.{reachBy, comes, endBy, endOf, startBy, startF
 use Rattle.planner.proofs.Ready.{ready-free, ready-source}
 use Rattle.schedule.specs.Layout.{scheduleIn}
 use Rattle.schedule.proofs.Rows.{on-long, finish-long}
+use Rattle.arrivals.specs.Layout.{bytesFrom, arrivalsFrom, othersFrom, sendersFrom, endsFrom, storesFrom, turnBytesFrom}
 use Rattle.arrivals.specs.Kept.{countedBy, into, intoOff, known, Caches}
 use Rattle.arrivals.specs.Steps.{Placeable}
 use Rattle.arrivals.proofs.Counts.{off-le, from-le-off}
@@ -65,15 +66,15 @@ module _ {s : Sheet} {σ : Schedule} {w own : List ℕ} (ranged : Ranged s) (c :
       go (yes e) = rw (eq-eqb (placeOf σ (sourceOf s l)) p e, ne-eqb (placeOf σ (sourceOf s l)) k (λ z. d (sym z ∙ e)))
       go (no e) = rw (ne-eqb (placeOf σ (sourceOf s l)) p e)
 
-  off-is : Dec (k ≡ getD own (1280 + t) 0) → offK ≡ pick (eqb k (getD own (1280 + t) 0)) (getD own (1024 + t) 0) (getD own (768 + t) 0)
-  off-is (yes e) = rw (eq-eqb k (getD own (1280 + t) 0) e) (ap (λ (p : ℕ). greatest (linkCount s) (countedBy (intoOff s σ t p) (reachBy s σ) (known s σ))) e ∙ sym (c .counted .off t t-in))
+  off-is : Dec (k ≡ getD own (sendersFrom + t) 0) → offK ≡ pick (eqb k (getD own (sendersFrom + t) 0)) (getD own (othersFrom + t) 0) (getD own (arrivalsFrom + t) 0)
+  off-is (yes e) = rw (eq-eqb k (getD own (sendersFrom + t) 0) e) (ap (λ (p : ℕ). greatest (linkCount s) (countedBy (intoOff s σ t p) (reachBy s σ) (known s σ))) e ∙ sym (c .counted .off t t-in))
   off-is (no e) =
-      let p = getD own (1280 + t) 0 in
+      let p = getD own (sendersFrom + t) 0 in
       let a = c .counted .arrived t t-in in
       let b = c .counted .main t t-in in
       let x = off-le (linkCount s) (into s t) (reachBy s σ) (known s σ) (λ l. stands σ (sourceOf s l) k) in
       let y = from-le-off (linkCount s) (into s t) (reachBy s σ) (known s σ) (λ l. stands σ (sourceOf s l) p) (λ l. stands σ (sourceOf s l) k) (apart p e) in
-      rw (ne-eqb k (getD own (1280 + t) 0) e) (omega arith)
+      rw (ne-eqb k (getD own (sendersFrom + t) 0) e) (omega arith)
 
   -- a predecessor on k is done by k's end
   done : (l : ℕ) → l < linkCount s → stands σ (sourceOf s l) k ≡ true → finishOf σ (sourceOf s l) ≤ endOf s σ k
@@ -93,12 +94,12 @@ module _ {s : Sheet} {σ : Schedule} {w own : List ℕ} (ranged : Ranged s) (c :
   unfolding startBy comes countedBy
   lower l h = lower-by (eqb (targetOf s l) t) (placed σ (sourceOf s l)) (stands σ (sourceOf s l) k) (finishOf σ (sourceOf s l)) (costOf s l)
 
-  pub start-kept : (e : ℕ) → endOf s σ k ≤ e → max e (pick (eqb k (getD own (1280 + t) 0)) (getD own (1024 + t) 0) (getD own (768 + t) 0)) ≡ startFrom s σ t k e
+  pub start-kept : (e : ℕ) → endOf s σ k ≤ e → max e (pick (eqb k (getD own (sendersFrom + t) 0)) (getD own (othersFrom + t) 0) (getD own (arrivalsFrom + t) 0)) ≡ startFrom s σ t k e
   unfolding startFrom
   start-kept e h =
       let x : greatest (linkCount s) (startBy s σ t k) ≤ max (endOf s σ k) offK = greatest-le (linkCount s) (startBy s σ t k) (max (endOf s σ k) offK) upper in
       let y : offK ≤ greatest (linkCount s) (startBy s σ t k) = greatest-mono (linkCount s) (countedBy (intoOff s σ t k) (reachBy s σ) (known s σ)) (startBy s σ t k) lower in
-      rw (← off-is (ℕ-discrete k (getD own (1280 + t) 0))) (omega arith)
+      rw (← off-is (ℕ-discrete k (getD own (sendersFrom + t) 0))) (omega arith)
 
 -- a start fits a word
 pub start-small : (w own : List ℕ) (t k : ℕ) → Choosing w own t → k < 16 → ((i : ℕ) → getD own i 0 < 4294967296) → startOn (sheetIn w) (scheduleIn w) t k < 4294967296
@@ -107,13 +108,13 @@ start-small w own t k c k-in small =
     let s = sheetIn w in
     let σ = scheduleIn w in
     let e = endOf s σ k in
-    let m = getD own (1280 + t) 0 in
+    let m = getD own (sendersFrom + t) 0 in
     omega (
       arith,
       start-kept (c .kept .ranged) (c .kept .caches) t k (c .task) e (omega arith),
       c .kept .caches .ends .ends k k-in,
-      small (1536 + k),
-      pick-less (eqb k m) (small (1024 + t)) (small (768 + t)),
+      small (endsFrom + k),
+      pick-less (eqb k m) (small (othersFrom + t)) (small (arrivalsFrom + t)),
     )
   where
     pick-less : (b : Bool) {x y n : ℕ} → x < n → y < n → pick b x y < n
@@ -121,8 +122,8 @@ start-small w own t k c k-in small =
     pick-less false h g = g
 
 -- t fits k: what is kept of k's store and of t's links, against the limit and what is on k already
-pub fits-kept : (w own : List ℕ) (t k : ℕ) → Choosing w own t → k < 16 → {x y z v m : ℕ} → x ≡ getD own (1552 + k) 0 → y ≡ storeOf (sheetIn w) t → z ≡ getD own (256 + t) 0 → m ≡ sheetIn w .limit
-    → v ≡ getD own (1584 + k) 0 → leb (x + y + z) (m + v) ≡ fits (sheetIn w) (scheduleIn w) t k
+pub fits-kept : (w own : List ℕ) (t k : ℕ) → Choosing w own t → k < 16 → {x y z v m : ℕ} → x ≡ getD own (storesFrom + k) 0 → y ≡ storeOf (sheetIn w) t → z ≡ getD own (bytesFrom + t) 0 → m ≡ sheetIn w .limit
+    → v ≡ getD own (turnBytesFrom + k) 0 → leb (x + y + z) (m + v) ≡ fits (sheetIn w) (scheduleIn w) t k
 unfolding fits
 fits-kept w own t k choosing k-in {x} {y} {z} {v} {m} ex ey ez em ev =
     let s = sheetIn w in

@@ -12,7 +12,8 @@ ghost use Rattle.planner.specs.Schedule.{placed};
 ghost use Rattle.planner.specs.Placing.{arrival, endOf, startFrom, startOn, fits, holdsPredecessor, barred, spent};
 ghost use Rattle.planner.specs.Planner.{join, idle, another, lastResort, choice};
 ghost use Rattle.schedule.specs.Layout.{scheduleIn};
-ghost use Rattle.arrivals.specs.Kept.{keptLength, Kept};
+ghost use Rattle.arrivals.specs.Layout.{arrivalsFrom, othersFrom, sendersFrom, waitingFrom, keptLength};
+ghost use Rattle.arrivals.specs.Kept.{Kept};
 ghost use Rattle.words.specs.Found.{foundOf, Below};
 ghost use Rattle.readiness.specs.Keyed.{Keyed};
 ghost use Rattle.placing.specs.Choosing.{Choosing, knownInto, dueBy, fourIn, Small, MoreDue, DuesTo, Dues, OnBoard};
@@ -28,18 +29,18 @@ fn end_of(w: &[u32], kept: &[u32], k: usize) -> usize
     requires { ⌜ k < 16 ⌝ }
     ensures { λ r. ⌜ (r ≡ endOf (sheetIn (now (w .entry))) (scheduleIn (now (w .entry))) k) × (r < 4294967296) ⌝ }
 {
-    workspace::word(kept, 1536 + k)
+    workspace::word(kept, arrivals::ENDS + k)
 }
 
 // The latest reach of t from all processors but k.
 fn reach_of(w: &[u32], kept: &[u32], t: usize, k: usize) -> usize
     requires { ⌜ Kept (now w) (now kept) ⌝ }
     requires { ⌜ t < taskCount (sheetIn (now w)) ⌝ }
-    ensures { λ r. ⌜ (r ≡ pick (eqb k (getD (now (kept .entry)) (1280 + t) 0)) (getD (now (kept .entry)) (1024 + t) 0) (getD (now (kept .entry)) (768 + t) 0)) × (r < 4294967296) ⌝ }
+    ensures { λ r. ⌜ (r ≡ pick (eqb k (getD (now (kept .entry)) (sendersFrom + t) 0)) (getD (now (kept .entry)) (othersFrom + t) 0) (getD (now (kept .entry)) (arrivalsFrom + t) 0)) × (r < 4294967296) ⌝ }
 {
-    let at = workspace::word(kept, 1280 + t);
-    let other = workspace::word(kept, 1024 + t);
-    let most = workspace::word(kept, 768 + t);
+    let at = workspace::word(kept, arrivals::SENDERS + t);
+    let other = workspace::word(kept, arrivals::OTHERS + t);
+    let most = workspace::word(kept, arrivals::ARRIVALS + t);
     if k == at { other } else { most }
 }
 
@@ -68,10 +69,10 @@ fn fits_on(w: &[u32], kept: &[u32], t: usize, k: usize) -> bool
     requires { ⌜ k < 16 ⌝ }
     ensures { λ r. ⌜ r ≡ fits (sheetIn (now (w .entry))) (scheduleIn (now (w .entry))) t k ⌝ }
 {
-    let x = workspace::word(kept, 1552 + k);
+    let x = workspace::word(kept, arrivals::STORES + k);
     let y = tables::store(w, t);
-    let z = workspace::word(kept, 256 + t);
-    let v = workspace::word(kept, 1584 + k);
+    let z = workspace::word(kept, arrivals::BYTES + t);
+    let v = workspace::word(kept, arrivals::TURN_BYTES + k);
     x + y + z <= tables::limit(w) + v
 }
 
@@ -89,9 +90,11 @@ fn known_into(w: &[u32], kept: &[u32], v: usize, from: Senders) -> usize
     ensures { λ r. ⌜ (r ≡ knownInto (sheetIn (now (w .entry))) (scheduleIn (now (w .entry))) v from) × (r < 4294967296) ⌝ }
 {
     match from {
-        Senders::One(k) => (workspace::word(kept, 1616 + (4 * v + k / 4)) >> (8 * (k % 4))) % 256,
-        Senders::All => workspace::word(kept, 512 + v),
-        Senders::Four(j) => workspace::word(kept, 1616 + (4 * v + j)),
+        Senders::One(k) => (workspace::word(kept, arrivals::PACKED + (4 * v + k / 4))
+            >> (8 * (k % 4)))
+            % 256,
+        Senders::All => workspace::word(kept, arrivals::SEEN + v),
+        Senders::Four(j) => workspace::word(kept, arrivals::PACKED + (4 * v + j)),
     }
 }
 
@@ -195,7 +198,7 @@ fn due_of(w: &[u32], kept: &[u32], t: usize, d: usize, dues: Counts, k: usize) -
 // Each successor of each task on k is placed or is a successor of t: no other link from k waits than the p that are due.
 fn is_spent(w: &[u32], kept: &[u32], t: usize, d: usize, dues: Counts, k: usize, p: usize) -> bool
     requires { ⌜ Choosing (now w) (now kept) t ⌝ }
-    requires { ⌜ Dues (sheetIn (now w)) (scheduleIn (now w)) t d dues × (k < 16) × (p ≡ getD (now kept) (1568 + k) 0) ⌝ }
+    requires { ⌜ Dues (sheetIn (now w)) (scheduleIn (now w)) t d dues × (k < 16) × (p ≡ getD (now kept) (waitingFrom + k) 0) ⌝ }
     ensures { λ r. ⌜ r ≡ spent (sheetIn (now (w .entry))) (scheduleIn (now (w .entry))) t k ⌝ }
 {
     due_of(w, kept, t, d, dues, k) == p
@@ -239,7 +242,7 @@ fn bars_for(w: &[u32], kept: &[u32], t: usize, u: usize) -> usize
     if a == 0 {
         return 16;
     }
-    let k = workspace::word(kept, 1280 + u);
+    let k = workspace::word(kept, arrivals::SENDERS + u);
     let best = start_on(w, kept, u, k);
     let finish = start_on(w, kept, t, k) + tables::work(w, t);
     if best < a {
@@ -308,7 +311,7 @@ fn idle_key(w: &[u32], kept: &[u32], t: usize, a: usize, d: usize, dues: Counts,
     ensures { λ r. ⌜ r ≡ idleKey (sheetIn (now (w .entry))) (scheduleIn (now (w .entry))) t k ⌝ }
 {
     let e = end_of(w, kept, k);
-    let p = workspace::word(kept, 1568 + k);
+    let p = workspace::word(kept, arrivals::WAITING + k);
     if are_both(e <= a, p <= d) {
         if is_spent(w, kept, t, d, dues, k, p) {
             if fits_on(w, kept, t, k) {
@@ -334,8 +337,8 @@ fn may_be_idle(kept: &[u32], n: usize, a: usize, d: usize) -> bool
     let mut found = false;
     let mut k: usize = 0;
     while k < n {
-        let e = workspace::word(kept, 1536 + k);
-        let p = workspace::word(kept, 1568 + k);
+        let e = workspace::word(kept, arrivals::ENDS + k);
+        let p = workspace::word(kept, arrivals::WAITING + k);
         found = is_either(found, are_both(e <= a, p <= d));
         k += 1;
     }

@@ -143,7 +143,7 @@ pub fn schedule(w: &mut [u32]) -> Planned
     requires { ⌜ Single (sheetIn (now w)) ⌝ }
     ensures { λ r. ⌜ (answerOf r (scheduleIn (now (w .exit))) ≡ planned (sheetIn (now (w .entry)))) × Afterwards (now (w .entry)) (now (w .exit)) ⌝ }
 {
-    let mut kept = [0u32; 2640];
+    let mut kept = [0u32; arrivals::LENGTH];
     clear(w);
     chains::chain(w, End::Source);
     arrivals::gather(w, &mut kept);
