@@ -11,8 +11,8 @@ use Rattle.folds.proofs.Laws.{sum-zeros, greatest-le}
 use Rattle.sheet.specs.Sheet.{Sheet, taskCount, linkCount, sourceOf, targetOf}
 use Rattle.planner.specs.Schedule.{Schedule, placed, stands, placeOf}
 use Rattle.planner.specs.Placing.{reachBy, endBy, endOf, storeBy, bytesBy, storeOn}
-use Rattle.arrivals.specs.Layout.{seenFrom, arrivalsFrom, othersFrom, sendersFrom, endsFrom, storesFrom, waitingFrom, packedFrom, keptLength}
-use Rattle.arrivals.specs.Kept.{countedBy, into, intoFrom, intoOff, waits, oneBy, known, Counted, Ends, Closed}
+use Rattle.arrivals.specs.Layout.{seenFrom, arrivalsFrom, sendersFrom, endsFrom, storesFrom, waitingFrom, packedFrom, keptLength}
+use Rattle.arrivals.specs.Kept.{countedBy, into, intoFrom, waits, oneBy, known, Counted, Ends, Closed}
 use Rattle.arrivals.specs.Steps.{Zero}
 use Rattle.arrivals.proofs.Fours.{four-zero}
 
@@ -63,7 +63,6 @@ module _ (s : Sheet) (σ : Schedule) (free : (u : ℕ) → placeOf σ u ≡ 16) 
           seen = λ t h. z (seenFrom + t) (omega arith) (omega arith) ∙ sym (no-sum (into s t) oneBy);
           arrived = λ t h. z (arrivalsFrom + t) (omega arith) (omega arith) ∙ sym (no-most (into s t) (reachBy s σ));
           main = λ t h. z (arrivalsFrom + t) (omega arith) (omega arith) ∙ sym (no-most (intoFrom s σ t (getD kept (sendersFrom + t) 0)) (reachBy s σ));
-          off = λ t h. z (othersFrom + t) (omega arith) (omega arith) ∙ sym (no-most (intoOff s σ t (getD kept (sendersFrom + t) 0)) (reachBy s σ));
           pending = λ k h. z (waitingFrom + k) (omega arith) (omega arith) ∙ sym (no-sum (waits s σ k) oneBy);
           packed = λ t j h g. z (packedFrom + (4 * t + j)) (omega arith) (omega arith) ∙ sym (four-zero _ (λ i p. no-sum (intoFrom s σ t (4 * j + i)) oneBy));
         }

@@ -15,8 +15,8 @@ use Rattle.sheet.specs.Sheet.{Sheet, taskCount, linkCount, sourceOf, targetOf, 
 use Rattle.sheet.specs.Tables.{Ranged}
 use Rattle.planner.specs.Schedule.{Schedule, placed, stands, placeOf, finishOf}
 use Rattle.planner.specs.Placing.{reachBy}
-use Rattle.arrivals.specs.Layout.{seenFrom, arrivalsFrom, othersFrom, sendersFrom, waitingFrom, packedFrom, keptLength}
-use Rattle.arrivals.specs.Kept.{countedBy, into, intoFrom, intoOff, waits, oneBy, fourOf, Single, Counted}
+use Rattle.arrivals.specs.Layout.{seenFrom, arrivalsFrom, sendersFrom, waitingFrom, packedFrom, keptLength}
+use Rattle.arrivals.specs.Kept.{countedBy, into, intoFrom, waits, oneBy, fourOf, Single, Counted}
 use Rattle.arrivals.specs.Reach.{further}
 use Rattle.arrivals.specs.Steps.{countWords, upTo, Beside, Landed}
 use Rattle.arrivals.specs.declared.Reach.{Reach}
@@ -101,7 +101,7 @@ module _ (s : Sheet) (σ : Schedule) (w : List ℕ) (t i k f : ℕ) (k-in : k < 
 
   module _ (few : taskCount s ≤ 256) (w′ : List ℕ) (seen y pending number : ℕ) (reach : Reach)
       (ey : y ≡ f + costOf s i) (es : seen ≡ getD w (seenFrom + v) 0 + 1)
-      (er : reach ≡ record { at = getD w (sendersFrom + v) 0; most = getD w (arrivalsFrom + v) 0; other = getD w (othersFrom + v) 0 })
+      (er : reach ≡ record { at = getD w (sendersFrom + v) 0; most = getD w (arrivalsFrom + v) 0 })
       (ep : pending ≡ getD w (waitingFrom + k) 0 + 1) (en : number ≡ getD w (packedFrom + (4 * v + k / 4)) 0 + 2 ^ (8 * (k % 4)))
       (wrote : Wrote w v k seen (further reach k y) pending number w′) where
     y-is : reachBy s σ i ≡ y
@@ -112,7 +112,7 @@ module _ (s : Sheet) (σ : Schedule) (w : List ℕ) (t i k f : ℕ) (k-in : k < 
     reaches =
         reaches-more (linkCount s) (into s v) (reachBy s σ) (λ l. placeOf σ (sourceOf s l)) c c′ i k y i-in (up-was s σ t i own (landed .on)) (up-now s σ t i own (landed .on)) (λ j h d. up-same s σ t i j d)
         this-task y-is place reach
-        (rw er record { whole = counted .arrived v v-in; main = counted .main v v-in; off = counted .off v v-in })
+        (rw er record { whole = counted .arrived v v-in; main = counted .main v v-in })
 
     seen′ : (u : ℕ) → u < taskCount s → Dec (u ≡ v) → getD w′ (seenFrom + u) 0 ≡ sum (linkCount s) (countedBy (into s u) oneBy c′)
     seen′ u h (yes e) = rw e (wrote .seen-is ∙ es ∙ ap (λ (x : ℕ). x + 1) (counted .seen v v-in) ∙ sym (summed (into s v) oneBy ∙ rw this-task))
@@ -128,13 +128,6 @@ module _ (s : Sheet) (σ : Schedule) (w : List ℕ) (t i k f : ℕ) (k-in : k < 
     main′ u h (no e) =
         rw (wrote .at-else u (omega arith) e)
         (wrote .most-else u (omega arith) e ∙ counted .main u h ∙ sym (reached (intoFrom s σ u (getD w (sendersFrom + u) 0)) (reachBy s σ) ∙ rw (other-task u e) (omega arith)))
-
-    off′ : (u : ℕ) → u < taskCount s → Dec (u ≡ v) → getD w′ (othersFrom + u) 0 ≡ greatest (linkCount s) (countedBy (intoOff s σ u (getD w′ (sendersFrom + u) 0)) (reachBy s σ) c′)
-    unfolding stands
-    off′ u h (yes e) = rw (e, wrote .at-is) (wrote .other-is ∙ reaches .off)
-    off′ u h (no e) =
-        rw (wrote .at-else u (omega arith) e)
-        (wrote .other-else u (omega arith) e ∙ counted .off u h ∙ sym (reached (intoOff s σ u (getD w (sendersFrom + u) 0)) (reachBy s σ) ∙ rw (other-task u e) (omega arith)))
 
     -- t's successor v is not placed, so that the link waits on k
     pending′ : (j : ℕ) → j < 16 → Dec (j ≡ k) → getD w′ (waitingFrom + j) 0 ≡ sum (linkCount s) (countedBy (waits s σ j) oneBy c′)
@@ -167,7 +160,6 @@ module _ (s : Sheet) (σ : Schedule) (w : List ℕ) (t i k f : ℕ) (k-in : k < 
           seen = λ u h. seen′ u h (ℕ-discrete u v);
           arrived = λ u h. arrived′ u h (ℕ-discrete u v);
           main = λ u h. main′ u h (ℕ-discrete u v);
-          off = λ u h. off′ u h (ℕ-discrete u v);
           pending = λ j h. pending′ j h (ℕ-discrete j k);
           packed = λ u j h g. packed′ u j h g (ℕ-discrete u v) (ℕ-discrete j (k / 4));
         }
@@ -175,7 +167,7 @@ module _ (s : Sheet) (σ : Schedule) (w : List ℕ) (t i k f : ℕ) (k-in : k < 
 -- as the code writes it
 pub counted-by : (s : Sheet) (σ : Schedule) (w w′ : List ℕ) (t i k f : ℕ) → keptLength ≤ length w → Ranged s → k < 16 → i < linkCount s → sourceOf s i ≡ t → Landed s σ t k f → Counted s σ (upTo s σ t i) w
     → {v seen y pending number : ℕ} {reach r : Reach} → v ≡ targetOf s i → y ≡ f + costOf s i → seen ≡ getD w (seenFrom + v) 0 + 1
-    → reach ≡ record { at = getD w (sendersFrom + v) 0; most = getD w (arrivalsFrom + v) 0; other = getD w (othersFrom + v) 0 }
+    → reach ≡ record { at = getD w (sendersFrom + v) 0; most = getD w (arrivalsFrom + v) 0 }
     → pending ≡ getD w (waitingFrom + k) 0 + 1 → number ≡ getD w (packedFrom + (4 * v + k / 4)) 0 + 2 ^ (8 * (k % 4))
     → r ≡ further reach k y → w′ ≡ countWords w v k seen r pending number → Beside w w′ × Counted s σ (upTo s σ t (i + 1)) w′
 counted-by s σ w w′ t i k f long ranged k-in i-in own landed counted {v} {seen} {y} {pending} {number} {reach} {r} ev ey es er ep en ef e =

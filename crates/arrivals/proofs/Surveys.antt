@@ -14,18 +14,23 @@ use Rattle.folds.proofs.Tests.{pick-le}
 use Rattle.folds.proofs.Loops.{sum-zero, sum-one}
 use Rattle.folds.proofs.Laws.{sum-le, sum-skip}
 use Rattle.sheet.specs.Sheet.{Sheet, taskCount, linkCount, sourceOf, targetOf, bytesOf}
+use Rattle.sheet.specs.Times.{linkTime}
 use Rattle.sheet.specs.Tables.{sheetIn, Ranged}
-use Rattle.planner.specs.Schedule.{Schedule, placed, stands, placeOf}
-use Rattle.planner.specs.Placing.{ready}
+use Rattle.planner.specs.Schedule.{Schedule, placed, stands, placeOf, finishOf}
+use Rattle.planner.specs.Placing.{ready, startOn}
 use Rattle.planner.proofs.Ready.{ready-source}
+use Rattle.schedule.specs.Layout.{scheduleIn}
 use Rattle.chains.specs.Frames.{Only}
 use Rattle.chains.specs.Chains.{headOf, nextOf, Chained}
 use Rattle.chains.specs.declared.End.the-variants.{Target}
 use Rattle.chains.proofs.Frames.{only-none, only-set, only-trans}
-use Rattle.arrivals.specs.Layout.{turnBytesFrom, turnLinksFrom, packedFrom, keptLength}
-use Rattle.arrivals.specs.Kept.{countedBy, intoFrom, oneBy, known, Gathered, SurveyedTo, Surveyed, Kept}
+use Rattle.arrivals.specs.Layout.{endsFrom, turnBytesFrom, turnLinksFrom, packedFrom, keptLength}
+use Rattle.arrivals.specs.Kept.{countedBy, intoFrom, oneBy, known, Gathered, SurveyedTo, Surveyed, Ends, Kept}
+use Rattle.arrivals.specs.Lanes.{Lanes, Steps, startPast, startTo}
 use Rattle.arrivals.specs.Steps.{Zero}
+use Rattle.arrivals.specs.declared.Starts.{Starts}
 use Rattle.arrivals.proofs.Numbered.{Walking, walk-begins, walk-ended, walk-more, walk-there}
+use Rattle.arrivals.proofs.Reaching.{starts-first, starts-next, starts-done}
 use Rattle.arrivals.proofs.Walks.{counted-frame, gathered-frame, ends-frame}
 
 pub survey-none : {s : Sheet} {σ : Schedule} (t : ℕ) {w : List ℕ} → Zero turnBytesFrom packedFrom w → SurveyedTo s σ t 0 w
@@ -115,18 +120,24 @@ survey-skip s σ t a b w h none d = record { bytes = λ k g. d .bytes k g ∙ sk
         let z : a + (b - a) ≡ b = omega arith in
         sym (sum-skip (countedBy (intoFrom s σ t k) x (known s σ)) a (b - a) (λ i p q. rw (ne-eqb (targetOf s i) t (none i p (omega arith))))) ∙ ap (λ (n : ℕ). sum n (countedBy (intoFrom s σ t k) x (known s σ))) z
 
--- the survey, at link l, after i links
-pub record Surveying (s : Sheet) (σ : Schedule) (t i l : ℕ) (kept₀ kept : List ℕ) : Type 0 where
+-- the survey, at link l, after i links, with the starts by the links below l
+pub record Surveying (s : Sheet) (σ : Schedule) (t i l : ℕ) (kept₀ kept : List ℕ) (starts : Starts) : Type 0 where
   pub only : Only turnBytesFrom packedFrom kept₀ kept
   pub walk : Walking s t i l
   pub surveyed : SurveyedTo s σ t l kept
+  pub lanes : Lanes (startTo s σ t l) starts
 
 module _ {s : Sheet} {σ : Schedule} {w kept₀ : List ℕ} (chained : Chained Target s w) (gathered : Gathered s kept₀) (t : ℕ) (t-in : t < taskCount s) where
-  pub survey-begins : {l : ℕ} → l ≡ headOf Target w t → l ≤ linkCount s → SurveyedTo s σ t 0 kept₀ → Surveying s σ t 0 l kept₀ kept₀
-  survey-begins {l} e h d =
-      record { only = only-none turnBytesFrom packedFrom kept₀; walk = walk-begins chained gathered t t-in e h; surveyed = survey-skip s σ t 0 l kept₀ (omega arith) (λ j p q. chained .head-none t t-in j (rw e at q)) d }
+  pub survey-begins : {l : ℕ} {r : Starts} → l ≡ headOf Target w t → l ≤ linkCount s → SurveyedTo s σ t 0 kept₀ → Ends s σ kept₀ → Lanes (λ k. getD kept₀ (endsFrom + k) 0) r → Surveying s σ t 0 l kept₀ kept₀ r
+  survey-begins {l} e h d ends g =
+      record {
+        only = only-none turnBytesFrom packedFrom kept₀;
+        walk = walk-begins chained gathered t t-in e h;
+        surveyed = survey-skip s σ t 0 l kept₀ (omega arith) (λ j p q. chained .head-none t t-in j (rw e at q)) d;
+        lanes = starts-first s σ t chained t-in e h ends g;
+      }
 
-  module _ {i l : ℕ} {kept : List ℕ} (g : Surveying s σ t i l kept₀ kept) where
+  module _ {i l : ℕ} {kept : List ℕ} {r : Starts} (g : Surveying s σ t i l kept₀ kept r) where
     -- there is a link more
     pub there-more : {n : ℕ} → n ≡ getD kept₀ t 0 → i < n → l < linkCount s
     there-more e h = walk-there chained gathered t t-in (g .walk) e h
@@ -134,22 +145,28 @@ module _ {s : Sheet} {σ : Schedule} {w kept₀ : List ℕ} (chained : Chained T
     pub there-link : ready s σ t ≡ true → l < linkCount s → (l < linkCount s) × (targetOf s l ≡ t) × (placed σ (sourceOf s l) ≡ true)
     there-link isReady h = (h, g .walk .own h, ready-source s σ t l isReady h (g .walk .own h))
 
-    pub survey-more : {l′ : ℕ} {kept′ : List ℕ} → Only turnBytesFrom packedFrom kept kept′ → l < linkCount s → l′ ≡ nextOf Target w l → l′ ≤ linkCount s → l < l′ → SurveyedTo s σ t (l + 1) kept′
-        → Surveying s σ t (i + 1) l′ kept₀ kept′
-    survey-more {l′} {kept′} o h e few more d =
+    pub survey-more : {l′ : ℕ} {kept′ : List ℕ} {r′ : Starts} → ready s σ t ≡ true → Only turnBytesFrom packedFrom kept kept′ → l < linkCount s → l′ ≡ nextOf Target w l → l′ ≤ linkCount s → l < l′ → SurveyedTo s σ t (l + 1) kept′
+        → Steps (startPast (placeOf σ (sourceOf s l)) (finishOf σ (sourceOf s l)) (linkTime s l)) r r′ → Surveying s σ t (i + 1) l′ kept₀ kept′ r′
+    survey-more {l′} {kept′} isReady o h e few more d step =
         record {
           only = only-trans (g .only) o;
           walk = walk-more chained gathered t t-in (g .walk) h e more few;
           surveyed = survey-skip s σ t (l + 1) l′ kept′ (omega arith) (λ j x y z. chained .next-none l h j (omega arith) (rw e at y) (z ∙ sym (g .walk .own h))) d;
+          lanes = starts-next s σ t chained t-in h (g .walk .own h) (ready-source s σ t l isReady h (g .walk .own h)) e more few step (g .lanes);
         }
 
-    pub survey-done : {n : ℕ} → n ≡ getD kept₀ t 0 → n ≤ i → Only turnBytesFrom packedFrom kept₀ kept × Surveyed s σ t kept
-    survey-done e h = (g .only, subst (λ (n : ℕ). SurveyedTo s σ t n kept) (walk-ended chained gathered t t-in (g .walk) e h) (g .surveyed))
+    pub survey-done : {n : ℕ} → n ≡ getD kept₀ t 0 → n ≤ i → Only turnBytesFrom packedFrom kept₀ kept × Surveyed s σ t kept × Lanes (startOn s σ t) r
+    survey-done e h =
+        let z = walk-ended chained gathered t t-in (g .walk) e h in
+        (g .only, subst (λ (n : ℕ). SurveyedTo s σ t n kept) z (g .surveyed), starts-done s σ t z (g .lanes))
 
 -- a survey leaves all else as it was
 module _ {w kept kept′ : List ℕ} (h : Kept w kept) (o : Only turnBytesFrom packedFrom kept kept′) where
   pub survey-gathered : Gathered (sheetIn w) kept′
   survey-gathered = gathered-frame (h .ranged .few-tasks) (λ i p q. o .low i (omega arith)) (h .caches .gathered)
+
+  pub survey-ends : Ends (sheetIn w) (scheduleIn w) kept′
+  survey-ends = ends-frame (λ i p q. o .low i (omega arith)) (h .caches .ends)
 
   pub kept-frame : Kept w kept′
   kept-frame =
@@ -166,7 +183,7 @@ module _ {w kept kept′ : List ℕ} (h : Kept w kept) (o : Only turnBytesFrom p
           inward = d .inward;
           gathered = survey-gathered;
           counted = counted-frame (h .ranged .few-tasks) (λ i p q. o .low i (omega arith)) (λ i p q. o .low i q) (λ i p. o .high i (omega arith)) (d .counted);
-          ends = ends-frame (λ i p q. o .low i (omega arith)) (d .ends);
+          ends = survey-ends;
           closed = d .closed;
         };
       }

@@ -20,7 +20,7 @@ use Rattle.planner.specs.Placing.{reachBy}
 use Rattle.schedule.specs.Layout.{scheduleIn}
 use Rattle.chains.specs.Chains.{headOf, nextOf, Chained}
 use Rattle.chains.specs.declared.End.the-variants.{Source}
-use Rattle.arrivals.specs.Layout.{bytesFrom, seenFrom, arrivalsFrom, othersFrom, sendersFrom, endsFrom, storesFrom, waitingFrom, turnBytesFrom, packedFrom, keptLength}
+use Rattle.arrivals.specs.Layout.{bytesFrom, seenFrom, arrivalsFrom, sendersFrom, endsFrom, storesFrom, waitingFrom, turnBytesFrom, packedFrom, keptLength}
 use Rattle.arrivals.specs.Kept.{countedBy, into, known, oneBy, Single, Gathered, Counted, Ends, Kept, Arrived}
 use Rattle.arrivals.specs.Steps.{upTo, Beside}
 use Rattle.arrivals.proofs.Fours.{four-cong}
@@ -33,7 +33,6 @@ counted-same {s} {σ} {c} c′ {w} e d =
       seen = λ t h. d .seen t h ∙ sum-cong (linkCount s) _ _ (λ l k. rw (e l k));
       arrived = λ t h. d .arrived t h ∙ greatest-cong (linkCount s) _ _ (λ l k. rw (e l k));
       main = λ t h. d .main t h ∙ greatest-cong (linkCount s) _ _ (λ l k. rw (e l k));
-      off = λ t h. d .off t h ∙ greatest-cong (linkCount s) _ _ (λ l k. rw (e l k));
       pending = λ j h. d .pending j h ∙ sum-cong (linkCount s) _ _ (λ l k. rw (e l k));
       packed = λ t j h g. d .packed t j h g ∙ four-cong _ _ (λ i p. sum-cong (linkCount s) _ _ (λ l k. rw (e l k)));
     }
@@ -70,7 +69,6 @@ counted-frame few f g p d =
       seen = λ t h. f (seenFrom + t) (omega arith) (omega arith) ∙ d .seen t h;
       arrived = λ t h. f (arrivalsFrom + t) (omega arith) (omega arith) ∙ d .arrived t h;
       main = λ t h. rw (f (sendersFrom + t) (omega arith) (omega arith)) (f (arrivalsFrom + t) (omega arith) (omega arith) ∙ d .main t h);
-      off = λ t h. rw (f (sendersFrom + t) (omega arith) (omega arith)) (f (othersFrom + t) (omega arith) (omega arith) ∙ d .off t h);
       pending = λ k h. g (waitingFrom + k) (omega arith) (omega arith) ∙ d .pending k h;
       packed = λ t j h l. p (packedFrom + (4 * t + j)) (omega arith) ∙ d .packed t j h l;
     }

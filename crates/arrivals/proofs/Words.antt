@@ -6,7 +6,7 @@ use mathlib.Core.List.{List}
 use native.Mathlib.Omega.{arith}
 use lib.ListN.{length, getD, set, length-set}
 use lib.Seq.{getD-set-same, getD-set-other}
-use Rattle.arrivals.specs.Layout.{seenFrom, arrivalsFrom, othersFrom, sendersFrom, waitingFrom, packedFrom, keptLength}
+use Rattle.arrivals.specs.Layout.{seenFrom, arrivalsFrom, sendersFrom, waitingFrom, packedFrom, keptLength}
 use Rattle.arrivals.specs.Steps.{countWords, Beside}
 use Rattle.arrivals.specs.declared.Reach.{Reach}
 
@@ -15,13 +15,11 @@ pub record Wrote (w : List ℕ) (v k seen : ℕ) (reach : Reach) (pending number
   pub beside : Beside w w′
   pub seen-is : getD w′ (seenFrom + v) 0 ≡ seen
   pub most-is : getD w′ (arrivalsFrom + v) 0 ≡ reach .most
-  pub other-is : getD w′ (othersFrom + v) 0 ≡ reach .other
   pub at-is : getD w′ (sendersFrom + v) 0 ≡ reach .at
   pub pending-is : getD w′ (waitingFrom + k) 0 ≡ pending
   pub number-is : getD w′ (packedFrom + (4 * v + k / 4)) 0 ≡ number
   pub seen-else : (u : ℕ) → u < 256 → u ≢ v → getD w′ (seenFrom + u) 0 ≡ getD w (seenFrom + u) 0
   pub most-else : (u : ℕ) → u < 256 → u ≢ v → getD w′ (arrivalsFrom + u) 0 ≡ getD w (arrivalsFrom + u) 0
-  pub other-else : (u : ℕ) → u < 256 → u ≢ v → getD w′ (othersFrom + u) 0 ≡ getD w (othersFrom + u) 0
   pub at-else : (u : ℕ) → u < 256 → u ≢ v → getD w′ (sendersFrom + u) 0 ≡ getD w (sendersFrom + u) 0
   pub pending-else : (j : ℕ) → j < 16 → j ≢ k → getD w′ (waitingFrom + j) 0 ≡ getD w (waitingFrom + j) 0
   pub number-else : (u j : ℕ) → j < 4 → 4 * u + j ≢ 4 * v + k / 4 → getD w′ (packedFrom + (4 * u + j)) 0 ≡ getD w (packedFrom + (4 * u + j)) 0
@@ -30,15 +28,14 @@ module _ (w : List ℕ) (v k seen : ℕ) (reach : Reach) (pending number : ℕ) 
   abbrev new : List ℕ
   new = countWords w v k seen reach pending number
 
-  away : (i : ℕ) → i ≢ seenFrom + v → i ≢ arrivalsFrom + v → i ≢ othersFrom + v → i ≢ sendersFrom + v → i ≢ waitingFrom + k → i ≢ packedFrom + (4 * v + k / 4) → getD new i 0 ≡ getD w i 0
+  away : (i : ℕ) → i ≢ seenFrom + v → i ≢ arrivalsFrom + v → i ≢ sendersFrom + v → i ≢ waitingFrom + k → i ≢ packedFrom + (4 * v + k / 4) → getD new i 0 ≡ getD w i 0
   unfolding countWords
-  away i h₁ h₂ h₃ h₄ h₅ h₆ = simp getD-set-other
+  away i h₁ h₂ h₃ h₄ h₅ = simp getD-set-other
 
   new-seen : getD new (seenFrom + v) 0 ≡ seen
   unfolding countWords
   new-seen =
       let h1 : seenFrom + v ≢ arrivalsFrom + v = omega arith in
-      let h2 : seenFrom + v ≢ othersFrom + v = omega arith in
       let h3 : seenFrom + v ≢ sendersFrom + v = omega arith in
       let h4 : seenFrom + v ≢ waitingFrom + k = omega arith in
       let h5 : seenFrom + v ≢ packedFrom + (4 * v + k / 4) = omega arith in
@@ -48,20 +45,10 @@ module _ (w : List ℕ) (v k seen : ℕ) (reach : Reach) (pending number : ℕ) 
   new-most : getD new (arrivalsFrom + v) 0 ≡ reach .most
   unfolding countWords
   new-most =
-      let h2 : arrivalsFrom + v ≢ othersFrom + v = omega arith in
       let h3 : arrivalsFrom + v ≢ sendersFrom + v = omega arith in
       let h4 : arrivalsFrom + v ≢ waitingFrom + k = omega arith in
       let h5 : arrivalsFrom + v ≢ packedFrom + (4 * v + k / 4) = omega arith in
       let l : arrivalsFrom + v < length (set w (seenFrom + v) seen) = simp length-set (omega arith) in
-      simp (getD-set-other, getD-set-same)
-
-  new-other : getD new (othersFrom + v) 0 ≡ reach .other
-  unfolding countWords
-  new-other =
-      let h3 : othersFrom + v ≢ sendersFrom + v = omega arith in
-      let h4 : othersFrom + v ≢ waitingFrom + k = omega arith in
-      let h5 : othersFrom + v ≢ packedFrom + (4 * v + k / 4) = omega arith in
-      let l : othersFrom + v < length (set (set w (seenFrom + v) seen) (arrivalsFrom + v) (reach .most)) = simp length-set (omega arith) in
       simp (getD-set-other, getD-set-same)
 
   new-at : getD new (sendersFrom + v) 0 ≡ reach .at
@@ -69,20 +56,20 @@ module _ (w : List ℕ) (v k seen : ℕ) (reach : Reach) (pending number : ℕ) 
   new-at =
       let h4 : sendersFrom + v ≢ waitingFrom + k = omega arith in
       let h5 : sendersFrom + v ≢ packedFrom + (4 * v + k / 4) = omega arith in
-      let l : sendersFrom + v < length (set (set (set w (seenFrom + v) seen) (arrivalsFrom + v) (reach .most)) (othersFrom + v) (reach .other)) = simp length-set (omega arith) in
+      let l : sendersFrom + v < length (set (set w (seenFrom + v) seen) (arrivalsFrom + v) (reach .most)) = simp length-set (omega arith) in
       simp (getD-set-other, getD-set-same)
 
   new-pending : getD new (waitingFrom + k) 0 ≡ pending
   unfolding countWords
   new-pending =
       let h5 : waitingFrom + k ≢ packedFrom + (4 * v + k / 4) = omega arith in
-      let l : waitingFrom + k < length (set (set (set (set w (seenFrom + v) seen) (arrivalsFrom + v) (reach .most)) (othersFrom + v) (reach .other)) (sendersFrom + v) (reach .at)) = simp length-set (omega arith) in
+      let l : waitingFrom + k < length (set (set (set w (seenFrom + v) seen) (arrivalsFrom + v) (reach .most)) (sendersFrom + v) (reach .at)) = simp length-set (omega arith) in
       simp (getD-set-other, getD-set-same)
 
   new-number : getD new (packedFrom + (4 * v + k / 4)) 0 ≡ number
   unfolding countWords
   new-number =
-      let l : packedFrom + (4 * v + k / 4) < length (set (set (set (set (set w (seenFrom + v) seen) (arrivalsFrom + v) (reach .most)) (othersFrom + v) (reach .other)) (sendersFrom + v) (reach .at)) (waitingFrom + k) pending) = simp length-set (omega arith) in
+      let l : packedFrom + (4 * v + k / 4) < length (set (set (set (set w (seenFrom + v) seen) (arrivalsFrom + v) (reach .most)) (sendersFrom + v) (reach .at)) (waitingFrom + k) pending) = simp length-set (omega arith) in
       simp getD-set-same
 
   pub count-wrote : Wrote w v k seen reach pending number new
@@ -92,19 +79,17 @@ module _ (w : List ℕ) (v k seen : ℕ) (reach : Reach) (pending number : ℕ) 
         beside =
             record {
               long = simp length-set;
-              low = λ i h. away i (omega arith) (omega arith) (omega arith) (omega arith) (omega arith) (omega arith);
-              mid = λ i h g. away i (omega arith) (omega arith) (omega arith) (omega arith) (omega arith) (omega arith);
+              low = λ i h. away i (omega arith) (omega arith) (omega arith) (omega arith) (omega arith);
+              mid = λ i h g. away i (omega arith) (omega arith) (omega arith) (omega arith) (omega arith);
             };
         seen-is = new-seen;
         most-is = new-most;
-        other-is = new-other;
         at-is = new-at;
         pending-is = new-pending;
         number-is = new-number;
-        seen-else = λ u h d. away (seenFrom + u) (λ q. d (omega arith)) (omega arith) (omega arith) (omega arith) (omega arith) (omega arith);
-        most-else = λ u h d. away (arrivalsFrom + u) (omega arith) (λ q. d (omega arith)) (omega arith) (omega arith) (omega arith) (omega arith);
-        other-else = λ u h d. away (othersFrom + u) (omega arith) (omega arith) (λ q. d (omega arith)) (omega arith) (omega arith) (omega arith);
-        at-else = λ u h d. away (sendersFrom + u) (omega arith) (omega arith) (omega arith) (λ q. d (omega arith)) (omega arith) (omega arith);
-        pending-else = λ j h d. away (waitingFrom + j) (omega arith) (omega arith) (omega arith) (omega arith) (λ q. d (omega arith)) (omega arith);
-        number-else = λ u j h d. away (packedFrom + (4 * u + j)) (omega arith) (omega arith) (omega arith) (omega arith) (omega arith) (λ q. d (omega arith));
+        seen-else = λ u h d. away (seenFrom + u) (λ q. d (omega arith)) (omega arith) (omega arith) (omega arith) (omega arith);
+        most-else = λ u h d. away (arrivalsFrom + u) (omega arith) (λ q. d (omega arith)) (omega arith) (omega arith) (omega arith);
+        at-else = λ u h d. away (sendersFrom + u) (omega arith) (omega arith) (λ q. d (omega arith)) (omega arith) (omega arith);
+        pending-else = λ j h d. away (waitingFrom + j) (omega arith) (omega arith) (omega arith) (λ q. d (omega arith)) (omega arith);
+        number-else = λ u j h d. away (packedFrom + (4 * u + j)) (omega arith) (omega arith) (omega arith) (omega arith) (λ q. d (omega arith));
       }

@@ -13,7 +13,7 @@ use Rattle.planner.specs.Placing.{reachBy, endOf, storeOn}
 use Rattle.schedule.specs.Layout.{scheduleIn}
 use Rattle.chains.specs.Chains.{Chained}
 use Rattle.chains.specs.declared.End.the-variants.{Source, Target}
-use Rattle.arrivals.specs.Layout.{bytesFrom, seenFrom, arrivalsFrom, othersFrom, sendersFrom, endsFrom, storesFrom, waitingFrom, turnBytesFrom, turnLinksFrom, packedFrom, keptLength}
+use Rattle.arrivals.specs.Layout.{bytesFrom, seenFrom, arrivalsFrom, sendersFrom, endsFrom, storesFrom, waitingFrom, turnBytesFrom, turnLinksFrom, packedFrom, keptLength}
 
 -- what link l gives, if it is counted (c) and of those that are asked for (q)
 unfoldable pub countedBy : (ℕ → Bool) → (ℕ → ℕ) → (ℕ → Bool) → ℕ → ℕ
@@ -26,10 +26,6 @@ into s t l = eqb (targetOf s l) t
 -- .. from a task on k
 abbrev pub intoFrom : Sheet → Schedule → ℕ → ℕ → ℕ → Bool
 intoFrom s σ t k l = both (eqb (targetOf s l) t) (stands σ (sourceOf s l) k)
-
--- .. from a task that is not on k
-abbrev pub intoOff : Sheet → Schedule → ℕ → ℕ → ℕ → Bool
-intoOff s σ t k l = both (eqb (targetOf s l) t) (not (stands σ (sourceOf s l) k))
 
 -- link l leads from a task on k to one that is not placed
 abbrev pub waits : Sheet → Schedule → ℕ → ℕ → Bool
@@ -59,7 +55,6 @@ pub record Counted (s : Sheet) (σ : Schedule) (c : ℕ → Bool) (w : List ℕ)
   pub seen : (t : ℕ) → t < taskCount s → getD w (seenFrom + t) 0 ≡ sum (linkCount s) (countedBy (into s t) oneBy c)
   pub arrived : (t : ℕ) → t < taskCount s → getD w (arrivalsFrom + t) 0 ≡ greatest (linkCount s) (countedBy (into s t) (reachBy s σ) c)
   pub main : (t : ℕ) → t < taskCount s → getD w (arrivalsFrom + t) 0 ≡ greatest (linkCount s) (countedBy (intoFrom s σ t (getD w (sendersFrom + t) 0)) (reachBy s σ) c)
-  pub off : (t : ℕ) → t < taskCount s → getD w (othersFrom + t) 0 ≡ greatest (linkCount s) (countedBy (intoOff s σ t (getD w (sendersFrom + t) 0)) (reachBy s σ) c)
   pub pending : (k : ℕ) → k < 16 → getD w (waitingFrom + k) 0 ≡ sum (linkCount s) (countedBy (waits s σ k) oneBy c)
   pub packed : (t j : ℕ) → t < taskCount s → j < 4 → getD w (packedFrom + (4 * t + j)) 0 ≡ fourOf (λ i. sum (linkCount s) (countedBy (intoFrom s σ t (4 * j + i)) oneBy c))
 

@@ -14,38 +14,34 @@ seenFrom = 512
 abbrev pub arrivalsFrom : ℕ
 arrivalsFrom = 768
 
--- .. the latest that is not from the processor from which the latest is
-abbrev pub othersFrom : ℕ
-othersFrom = 1024
-
--- .. that processor
+-- .. the processor that the latest comes from
 abbrev pub sendersFrom : ℕ
-sendersFrom = 1280
+sendersFrom = 1024
 
 -- of processor k, 16 words each: its end
 abbrev pub endsFrom : ℕ
-endsFrom = 1536
+endsFrom = 1280
 
 -- .. its store
 abbrev pub storesFrom : ℕ
-storesFrom = 1552
+storesFrom = 1296
 
 -- .. the known links from it to tasks that are not placed
 abbrev pub waitingFrom : ℕ
-waitingFrom = 1568
+waitingFrom = 1312
 
 -- .. the bytes of the links from it into the task of this turn
 abbrev pub turnBytesFrom : ℕ
-turnBytesFrom = 1584
+turnBytesFrom = 1328
 
 -- .. the number of these links
 abbrev pub turnLinksFrom : ℕ
-turnLinksFrom = 1600
+turnLinksFrom = 1344
 
 -- at 4 t + j the known links into task t from processors 4 j to 4 j + 3, a byte for each (1,024 words)
 abbrev pub packedFrom : ℕ
-packedFrom = 1616
+packedFrom = 1360
 
 -- how many words these are
 abbrev pub keptLength : ℕ
-keptLength = 2640
+keptLength = 2384

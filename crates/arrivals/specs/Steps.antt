@@ -9,14 +9,14 @@ use Rattle.folds.specs.Folds.{both, either, sum}
 use Rattle.sheet.specs.Sheet.{Sheet, taskCount, linkCount, sourceOf, targetOf, bytesOf}
 use Rattle.sheet.specs.Tables.{Ranged}
 use Rattle.planner.specs.Schedule.{Schedule, placeOf, finishOf, placed}
-use Rattle.arrivals.specs.Layout.{bytesFrom, seenFrom, arrivalsFrom, othersFrom, sendersFrom, endsFrom, waitingFrom, turnLinksFrom, packedFrom}
+use Rattle.arrivals.specs.Layout.{bytesFrom, seenFrom, arrivalsFrom, sendersFrom, endsFrom, waitingFrom, turnLinksFrom, packedFrom}
 use Rattle.arrivals.specs.Kept.{countedBy, into, oneBy, Closed}
 use Rattle.arrivals.specs.declared.Reach.{Reach}
 
 -- the words with one more link into v from k
 unfoldable pub countWords : List ℕ → ℕ → ℕ → ℕ → Reach → ℕ → ℕ → List ℕ
 countWords w v k seen reach pending number =
-    set (set (set (set (set (set w (seenFrom + v) seen) (arrivalsFrom + v) (reach .most)) (othersFrom + v) (reach .other)) (sendersFrom + v) (reach .at)) (waitingFrom + k) pending) (packedFrom + (4 * v + k / 4)) number
+    set (set (set (set (set w (seenFrom + v) seen) (arrivalsFrom + v) (reach .most)) (sendersFrom + v) (reach .at)) (waitingFrom + k) pending) (packedFrom + (4 * v + k / 4)) number
 
 -- counted are the links from placed tasks, but of those from t only the ones below i
 unfoldable pub upTo : Sheet → Schedule → ℕ → ℕ → ℕ → Bool

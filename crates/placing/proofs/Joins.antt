@@ -1,7 +1,7 @@
 -- The greatest key of step 1 is one of a processor that a link into the task comes from.
-use Prim.Native.Nat.{ℕ, _+_, _-_, _≤_, _<_, max}
+use Prim.Native.Nat.{ℕ, _+_, _≤_, _<_, max}
 use mathlib.Core.Bool.{Bool, true, false}
-use mathlib.Core.Path.{_≡_, refl, ap, sym, _∙_}
+use mathlib.Core.Path.{_≡_, refl, ap, ap₂, sym, _∙_}
 use mathlib.Core.Logic.{_≢_}
 use mathlib.Core.List.{List}
 use native.Mathlib.Omega.{arith}
@@ -10,13 +10,14 @@ use borrow.Author.Tests.{eq-eqb, ne-eqb, eqb-true}
 use lib.ListN.{getD}
 use lib.Dec.{eqb}
 use Rattle.folds.specs.Folds.{greatest}
-use Rattle.folds.proofs.Loops.{greatest-at, greatest-more, greatest-zero}
-use Rattle.folds.proofs.Laws.{any-found, any-some, greatest-le, greatest-skip, term-le-greatest}
+use Rattle.folds.proofs.Loops.{greatest-at}
+use Rattle.folds.proofs.Laws.{any-found, any-some, greatest-le, term-le-greatest}
 use Rattle.folds.proofs.Tests.{both-parts, parts-both}
 use Rattle.sheet.specs.Sheet.{Sheet, linkCount, sourceOf, targetOf}
 use Rattle.sheet.specs.Tables.{sheetIn}
 use Rattle.chains.specs.Chains.{headOf, nextOf}
 use Rattle.chains.specs.declared.End.the-variants.{Target}
+use Rattle.chains.proofs.Walks.{greatest-first, greatest-next}
 use Rattle.planner.specs.Schedule.{Schedule, stands, placeOf}
 use Rattle.planner.specs.Placing.{holdsBy, holdsPredecessor}
 use Rattle.planner.proofs.Ready.{ready-source}
@@ -94,17 +95,11 @@ module _ (w own : List ℕ) (t : ℕ) (c : Choosing w own t) where
         greatest-le (σ .opened) (joinKey s σ t) (greatest (linkCount s) (linkKey s σ t)) (λ k h. key-le k),
       )
 
-  -- from a up to b no link leads to t
-  skip : (a b : ℕ) → a ≤ b → ((i : ℕ) → a ≤ i → i < b → targetOf s i ≢ t) → greatest a (linkKey s σ t) ≡ greatest b (linkKey s σ t)
-  skip a b h none =
-      let z : a + (b - a) ≡ b = omega arith in
-      sym (greatest-skip (linkKey s σ t) a (b - a) (λ i p q. else-key i (none i p (omega arith)))) ∙ ap (λ (n : ℕ). greatest n (linkKey s σ t)) z
-
   pub join-begins : {l : ℕ} → l ≡ headOf Target w t → l ≤ linkCount s → Joining s σ t 0 l 0
   join-begins {l} e h =
       record {
         walk = walk-begins (c .kept .caches .inward) (c .kept .caches .gathered) t (c .task) e h;
-        most = sym (greatest-zero (linkKey s σ t)) ∙ skip 0 l (omega arith) (λ j p q. c .kept .caches .inward .head-none t (c .task) j (rw e at q));
+        most = sym (greatest-first (c .kept .caches .inward) t (c .task) (linkKey s σ t) (λ i m. else-key i) e h);
       }
 
   module _ {i l best : ℕ} (g : Joining s σ t i l best) where
@@ -123,8 +118,8 @@ module _ (w own : List ℕ) (t : ℕ) (c : Choosing w own t) where
         record {
           walk = walk-more (c .kept .caches .inward) (c .kept .caches .gathered) t (c .task) (g .walk) h e more f;
           most =
-              greatest-more l (linkKey s σ t) (g .most) (ev ∙ ap (joinKey s σ t) (ek ∙ ap (placeOf σ) eu) ∙ sym (own-key l (g .walk .own h))) eb
-              ∙ skip (l + 1) l′ (omega arith) (λ j x y z. c .kept .caches .inward .next-none l h j (omega arith) (rw e at y) (z ∙ sym (g .walk .own h)));
+              eb ∙ ap₂ max (g .most) (ev ∙ ap (joinKey s σ t) (ek ∙ ap (placeOf σ) eu) ∙ sym (own-key l (g .walk .own h)))
+              ∙ sym (greatest-next (c .kept .caches .inward) t (c .task) (linkKey s σ t) (λ i m. else-key i) h (g .walk .own h) e more f);
         }
 
     pub join-done : {n : ℕ} → n ≡ getD own t 0 → n ≤ i → best ≡ greatest (σ .opened) (joinKey s σ t)

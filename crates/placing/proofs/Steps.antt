@@ -35,7 +35,7 @@ module _ (s : Sheet) (σ : Schedule) (t : ℕ) where
         → may ≡ both fit early → r ≡ pick may (lowKey x k) 0 → r ≡ joinKey s σ t k
     unfolding mayJoin joinKey
     join-key-is {x} {a} {bars} h b held ex ea ef ee em er =
-        er ∙ rw held (ap₂ (λ (m : Bool) (y : ℕ). pick m (lowKey y k) 0) (em ∙ ap₂ both ef (ee ∙ ap₂ both (ap not (b .is k h)) (ap₂ ltb ex ea))) ex)
+        er ∙ rw held (ap₂ (λ (m : Bool) (y : ℕ). pick m (lowKey y k) 0) (em ∙ ap₂ both ef (ee ∙ ap₂ both (ap not (b .is k h held)) (ap₂ ltb ex ea))) ex)
 
     -- 0 where k holds no predecessor
     pub join-none : holdsPredecessor s σ t k ≡ false → joinKey s σ t k ≡ 0

@@ -28,7 +28,8 @@ use Rattle.arrivals.proofs.Walks.{counted-frame, gathered-frame, ends-frame}
 use Rattle.arrivals.proofs.Placing as placing
 use Rattle.arrivals.proofs.Settling.{enough}
 use Rattle.arrivals.proofs.Surveys.{surveyed-frame, kept-frame}
-use Rattle.readiness.specs.Keyed.{Early, Keyed, KeyedBeside}
+use Rattle.arrivals.specs.Lanes.{Early}
+use Rattle.readiness.specs.Keyed.{Keyed, KeyedBeside}
 use Rattle.readiness.proofs.Renewing.{keyed-beside}
 use Rattle.placing.specs.Choosing.{Choosing}
 use Rattle.placing.proofs.Starts.{placeable}
@@ -175,8 +176,8 @@ module _ {w own own₁ : List ℕ} {j t k a f p o : ℕ} (u : Putting w own j t 
             }
 
 -- the task is chosen for
-pub choosing : {w own : List ℕ} {j t : ℕ} → Going w j w own → t < taskCount (sheetIn w) → ready (sheetIn w) (scheduleIn w) t ≡ true → Surveyed (sheetIn w) (scheduleIn w) t own → Choosing w own t
-choosing g h r v = record { kept = g .kept; levelled = g .levelled; task = h; isReady = r; surveyed = v }
+pub choosing : {w own : List ℕ} {j t : ℕ} → Going w j w own → j < 256 → t < taskCount (sheetIn w) → ready (sheetIn w) (scheduleIn w) t ≡ true → Surveyed (sheetIn w) (scheduleIn w) t own → Choosing w own t
+choosing g turn h r v = record { kept = g .kept; levelled = g .levelled; task = h; isReady = r; surveyed = v; early = early (g .timely) (omega arith) }
 
 -- the numbers as the code finds them
 pub putting : {w own : List ℕ} {j t k a y p x o : ℕ} → Going w j w own → j < 256 → t < taskCount (sheetIn w) → k < 16 → ready (sheetIn w) (scheduleIn w) t ≡ true → Surveyed (sheetIn w) (scheduleIn w) t own
@@ -184,7 +185,7 @@ pub putting : {w own : List ℕ} {j t k a y p x o : ℕ} → Going w j w own →
 putting {w} {own} {j} {t} {k} {a} g turn h on r v ea ey ep ex eo =
     record {
       going = g;
-      can = placeable w own t k (choosing g h r v) on;
+      can = placeable w own t k (choosing g turn h r v) on;
       surveyed = v;
       turn = turn;
       late = omega (arith, end-le-start (sheetIn w) (scheduleIn w) t k);
