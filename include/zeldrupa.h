@@ -4,9 +4,9 @@
  * - A slice is a pointer and then its length in elements. The memory has to be valid, no two lent parts may
  *   overlap, and no pointer may be null. Any bytes, values and lengths are safe.
  * - A work area, and the area of a machine's state, has at least ZELDRUPA_WORK_LENGTH words. What a work area
- *   holds before does not matter; it is all zero afterwards.
+ *   holds before does not matter; it is all zero afterwards, except under 13, where it is untouched.
  * - The result is 0, or the number of a refusal, which changes no output and no state. *place receives the
- *   length of the result, or the refusal's place.
+ *   refusal's place, or with 0 what is said at each function.
  */
 #ifndef ZELDRUPA_H
 #define ZELDRUPA_H
@@ -19,7 +19,13 @@ extern "C" {
 #endif
 
 /* The fixed length of work areas and states, in words of 32 bits. */
-#define ZELDRUPA_WORK_LENGTH 4384
+#define ZELDRUPA_WORK_LENGTH 4992
+
+/* The greatest lengths in bytes: of a sheet that is read, of a bundle that is accepted, and of a listing.
+ * A longer input may be lent: it is refused. */
+#define ZELDRUPA_LONGEST_SHEET 8455
+#define ZELDRUPA_LONGEST_BUNDLE 6693
+#define ZELDRUPA_LONGEST_LISTING 7453
 
 /* The numbers of the refusals; the place is an offset where nothing else is said. */
 enum zeldrupa_refusal {
@@ -74,7 +80,7 @@ uint8_t zeldrupa_write_bundle(const uint8_t *sheet, size_t sheet_length, const u
                               size_t commands_length, uint32_t claim, uint32_t *work, size_t work_length,
                               uint8_t *out, size_t out_length, uint64_t *place);
 
-/* Checks a bundle for a sheet: 0 if it is accepted. */
+/* Checks a bundle for a sheet: 0 if it is accepted. *place is then 0. */
 uint8_t zeldrupa_check(const uint8_t *sheet, size_t sheet_length, const uint8_t *bundle, size_t bundle_length,
                        uint32_t *work, size_t work_length, uint64_t *place);
 

@@ -16,8 +16,8 @@ use Rattle.messages.specs.declared.Judged.the-variants as judged
 use Rattle.machine.specs.Machine.{State, Processor, freshState, freshProcessor, processorOf}
 use Rattle.machine.specs.Runs.{freshRun, runOf}
 use Rattle.machine.specs.Kept.{RunIs}
-use Rattle.loaded.specs.Keeps.{Keeps, ClockIs, PositionIs, StoreIs}
-use Rattle.starting.specs.Starts.{starting, startedOf, BytesIs}
+use Rattle.stepping_machine.specs.Represents.{Represents, ClockIs, PositionIs, StoreIs}
+use Rattle.stepping_machine.specs.Starts.{starting, startedOf, BytesIs}
 use Rattle.checker.specs.Checker.{check}
 use Rattle.checker.specs.Verdicts as checker
 use Rattle.checker.specs.declared.Verdict.{Verdict}
@@ -78,15 +78,15 @@ module _ (sheet bundle work mid state last : List ℕ) {j : Judged} (h : BytesIs
         long = h .long;
         state-long = h .state-long;
         untouched = h .untouched;
-        keeps = h .keeps;
+        keeps = λ enough. h .represents;
       }
 
-  pub state-ran : fixed ≤ length state → (choices final : List ℕ) (n m c t : ℕ) → j ≡ judged.Fit m c t → RunIs Keeps choices last final n
+  pub state-ran : fixed ≤ length state → (choices final : List ℕ) (n m c t : ℕ) → j ≡ judged.Fit m c t → RunIs Represents choices last final n
       → StateIs (steppedIn choices) (λ s b. runOf s b choices .state) sheet bundle work mid state final (ends.Done n)
   unfolding runOf
   state-ran long choices final n m c t e g =
       let a = started-value (starting sheet bundle) m c t (sym e ∙ h .is) in
-      let k = g .agrees (a .0) (a .1) (freshRun (a .0) (a .1)) (h .keeps long (a .0) (a .1) (a .2)) in
+      let k = g .agrees (a .0) (a .1) (freshRun (a .0) (a .1)) (h .represents (a .0) (a .1) (a .2)) in
       record {
         answer = ap ends.Done (sym (zero-add n) ∙ k .0) ∙ sym (ap (outcomeOf (steppedIn choices)) (a .2));
         long = h .long;
@@ -95,12 +95,12 @@ module _ (sheet bundle work mid state last : List ℕ) {j : Judged} (h : BytesIs
         keeps =
             λ enough s b q.
             let p = same-pair (sym (a .2) ∙ q) in
-            subst (λ (x : Sheet). Keeps x b final (runOf x b choices .state)) (p .0)
-            (subst (λ (x : Bundle). Keeps (a .0) x final (runOf (a .0) x choices .state)) (p .1) (k .1));
+            subst (λ (x : Sheet). Represents x b final (runOf x b choices .state)) (p .0)
+            (subst (λ (x : Bundle). Represents (a .0) x final (runOf (a .0) x choices .state)) (p .1) (k .1));
       }
 
 -- the numbers of a processor fit their words
-module _ {s : Sheet} {b : Bundle} {w : List ℕ} {σ : State} (y : Keeps s b w σ) (k : ℕ) where
+module _ {s : Sheet} {b : Bundle} {w : List ℕ} {σ : State} (y : Represents s b w σ) (k : ℕ) where
   nobody : 16 ≤ k → processorOf σ k ≡ freshProcessor
   unfolding processorOf
   nobody l = List·getD-eq-default (σ .processors) freshProcessor {n = k} (omega (arith, y .processors, y .programmed .few))

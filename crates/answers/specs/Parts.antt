@@ -8,8 +8,8 @@ use Rattle.sheet.specs.Sheet.{Sheet}
 use Rattle.bundle.specs.Bundle.{Bundle}
 use Rattle.machine.specs.Machine.{State}
 use Rattle.workspace.specs.Area.{fixed}
-use Rattle.loaded.specs.Keeps.{Keeps}
-use Rattle.starting.specs.Starts.{starting}
+use Rattle.stepping_machine.specs.Represents.{Represents}
+use Rattle.stepping_machine.specs.Starts.{starting}
 use Rattle.answers.specs.Values.{taskTable, linkTable, boardAfter, no-place, valueCount, commandTable, claimAfter}
 use Rattle.answers.specs.Values.{numbersOf}
 use Rattle.answers.specs.declared.ending.Outcome.{Outcome}
@@ -60,8 +60,8 @@ pub record StateIs (f : Sheet × Bundle → ℕ) (τ : Sheet → Bundle → Stat
   pub long : length work′ ≡ length work
   pub state-long : length state′ ≡ length state
   pub untouched : (n at : ℕ) → starting sheet bundle ≡ refused n at → state′ ≡ state
-  pub keeps : fixed ≤ length state → (s : Sheet) (b : Bundle) → starting sheet bundle ≡ value (s, b) → Keeps s b state′ (τ s b)
+  pub keeps : fixed ≤ length state → (s : Sheet) (b : Bundle) → starting sheet bundle ≡ value (s, b) → Represents s b state′ (τ s b)
 
 -- the numbers of processor k
 pub record NumbersIs (state : List ℕ) (k : ℕ) (x : List ℕ) : Type 0 where
-  pub is : (s : Sheet) (b : Bundle) (σ : State) → Keeps s b state σ → x ≡ numbersOf σ k
+  pub is : (s : Sheet) (b : Bundle) (σ : State) → Represents s b state σ → x ≡ numbersOf σ k

@@ -12,9 +12,10 @@ use messages::Judged;
 // The fresh state.
 pub fn start(sheet: &[u8], bundle: &[u8], work: &mut [u32], state: &mut [u32]) -> Outcome
     requires { ⌜ fixed ≤ length (now work) ⌝ }
+    requires { ⌜ fixed ≤ length (now state) ⌝ }
     ensures { λ o. ⌜ StateIs (λ x. 0) freshState (now (sheet .entry)) (now (bundle .entry)) (now (work .entry)) (now (work .exit)) (now (state .entry)) (now (state .exit)) o ⌝ }
 {
-    match starting::bytes::start(sheet, bundle, work, state) {
+    match stepping_machine::start::start(sheet, bundle, work, state) {
         Judged::Refused(r, at) => Outcome::Refused(r, at),
         Judged::Fit(_, _, _) => Outcome::Done(0),
     }
@@ -32,9 +33,9 @@ pub fn run(
     requires { ⌜ fixed ≤ length (now state) ⌝ }
     ensures { λ o. ⌜ StateIs (steppedIn (now (choices .entry))) (λ s b. runOf s b (now (choices .entry)) .state) (now (sheet .entry)) (now (bundle .entry)) (now (work .entry)) (now (work .exit)) (now (state .entry)) (now (state .exit)) o ⌝ }
 {
-    match starting::bytes::start(sheet, bundle, work, state) {
+    match stepping_machine::start::start(sheet, bundle, work, state) {
         Judged::Refused(r, at) => Outcome::Refused(r, at),
-        Judged::Fit(_, _, _) => Outcome::Done(loaded::steps::run(choices, state)),
+        Judged::Fit(_, _, _) => Outcome::Done(stepping_machine::steps::run_all(choices, state)),
     }
 }
 
@@ -42,8 +43,8 @@ pub fn run(
 pub fn numbers(state: &[u32], k: usize, processor: &mut [u32; 3])
     ensures { λ _. ⌜ NumbersIs (now (state .entry)) k (now (processor .exit)) ⌝ }
 {
-    let clock = words::narrow(loaded::asks::clock(state, k));
-    let position = words::narrow(loaded::asks::position(state, k));
-    let store = words::narrow(loaded::asks::store(state, k));
+    let clock = words::narrow(stepping_machine::asks::clock(state, k));
+    let position = words::narrow(stepping_machine::asks::position(state, k));
+    let store = words::narrow(stepping_machine::asks::store(state, k));
     *processor = [clock, position, store];
 }

@@ -18,6 +18,11 @@ use sheet::tables;
 use sheet_reader::Reading;
 use sheet_writer::unload;
 use sheet_writer::writer;
+use workspace::LEVELS;
+use workspace::LIMIT;
+use workspace::LINK_COUNT;
+use workspace::PROCESSORS;
+use workspace::TASK_COUNT;
 
 // The level words, at the front of `out`.
 fn copy_levels(w: &[u32], out: &mut [u32])
@@ -29,7 +34,7 @@ fn copy_levels(w: &[u32], out: &mut [u32])
     let n = tables::tasks(w);
     let mut t: usize = 0;
     while t < n {
-        out[t] = w[2320 + t];
+        out[t] = w[LEVELS + t];
         t += 1;
     }
 }
@@ -82,7 +87,7 @@ fn put_board(w: &[u32], board: &mut [u32; 4])
     requires { ⌜ Loaded (now w) ⌝ }
     ensures { λ _. ⌜ now (board .exit) ≡ boardOf (sheetIn (now (w .entry))) ⌝ }
 {
-    *board = [w[2], w[3], w[0], w[1]];
+    *board = [w[PROCESSORS], w[LIMIT], w[TASK_COUNT], w[LINK_COUNT]];
 }
 
 // The tables of a sheet.

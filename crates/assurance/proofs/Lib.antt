@@ -6,5 +6,7 @@ pub mod Written
 pub mod Running
 pub mod Planned
 pub mod Numbers
+pub mod Results
 pub mod Calls
 pub mod Whole
+pub mod Trips

@@ -19,9 +19,9 @@ use Rattle.bundle.specs.Format.{readBundle}
 use Rattle.bundle.proofs.Numbers.{bundle-numbered}
 use Rattle.bundle.specs.Writing.{bundleBytes}
 use Rattle.messages.specs.Messages.{at26, at27, at28}
-use Rattle.messages.specs.Admitted.{fitting as fittingStore, messaging, admitted, admittedBytes}
+use Rattle.messages.specs.Admitted.{admitted, admittedBytes}
 use Rattle.machine.specs.Runs.{settled}
-use Rattle.starting.specs.Starts.{starting}
+use Rattle.stepping_machine.specs.Starts.{starting}
 use Rattle.checker.specs.Checker.{at29, at30, closing, checked, check}
 use Rattle.planner.specs.Schedule.{Schedule}
 use Rattle.planner.specs.Placing.{barred, firstReady}
@@ -31,17 +31,17 @@ use Rattle.planner.specs.Planner.{choice, placeOn, placeTask, turn, turns, plan
 pub record Numbered {A : Type 0} (a : Answer A) : Type 0 where
   pub some : (n at : ℕ) → a ≡ refused n at → 0 < n
 
-numbered-value : {A : Type 0} (x : A) → Numbered (value x)
+pub numbered-value : {A : Type 0} (x : A) → Numbered (value x)
 numbered-value x = record { some = λ n at e. not-value (sym e) }
 
-numbered-refused : {A : Type 0} (m e : ℕ) → 0 < m → Numbered {A = A} (refused m e)
+pub numbered-refused : {A : Type 0} (m e : ℕ) → 0 < m → Numbered {A = A} (refused m e)
 numbered-refused {A} m e h = record { some = λ n at q. let p : m ≡ n = cc in omega (arith, p) }
 
 pub returned-0 : {A : Type 0} (a : Answer A) → Numbered a → 0 ≡ number a → (x : A) × (a ≡ value x)
 returned-0 (value x) h e = (x, refl)
 returned-0 (refused n at) h e = absurd (omega (arith, h .some n at refl))
 
-numbered-then : {A B : Type 0} (a : Answer A) (f : A → Answer B) → Numbered a → ((x : A) → Numbered (f x)) → Numbered (andThen a f)
+pub numbered-then : {A B : Type 0} (a : Answer A) (f : A → Answer B) → Numbered a → ((x : A) → Numbered (f x)) → Numbered (andThen a f)
 numbered-then (value x) f h g = g x
 numbered-then (refused n at) f h g = numbered-refused n at (h .some n at refl)
 
@@ -49,7 +49,7 @@ numbered-unless : {A : Type 0} (n : ℕ) (o : Option ℕ) (a : Answer A) → 0 <
 numbered-unless n none a h g = g
 numbered-unless n (some at) a h g = numbered-refused n at h
 
-numbered-pick : {A : Type 0} (t : Bool) (a b : Answer A) → Numbered a → Numbered b → Numbered (pick t a b)
+pub numbered-pick : {A : Type 0} (t : Bool) (a b : Answer A) → Numbered a → Numbered b → Numbered (pick t a b)
 numbered-pick true a b h g = h
 numbered-pick false a b h g = g
 
@@ -59,14 +59,14 @@ numbered-long n lent a h = numbered-pick (ltb lent n) (refused 13 n) a (numbered
 pub numbered-fitting : (lent : ℕ) (r : List ℕ) → Numbered (fitting lent r)
 numbered-fitting lent r = numbered-pick (ltb lent (length r)) (refused 12 (length r)) (value r) (numbered-refused 12 (length r) (omega arith)) (numbered-value r)
 
-numbered-sheet : (b : List ℕ) → Numbered (readSheet b)
+pub numbered-sheet : (b : List ℕ) → Numbered (readSheet b)
 unfolding readSheet
 numbered-sheet b =
     numbered-then (readForm b) (λ s. unless 10 (circle s) (value s)) (record { some = λ n at e. form-numbered b n at e .0 })
     (λ s. numbered-unless 10 (circle s) (value s) (omega arith) (numbered-value s))
 
 module _ (s : Sheet) where
-  numbered-bundle : (b : List ℕ) → Numbered (readBundle s b)
+  pub numbered-bundle : (b : List ℕ) → Numbered (readBundle s b)
   numbered-bundle b = record { some = λ n at e. omega (arith, bundle-numbered s b n at e .0) }
 
   numbered-checked : (b : Bundle) → Numbered (checked s b)
@@ -78,7 +78,7 @@ module _ (s : Sheet) where
       (numbered-unless 29 (at29 b (settled s b)) _ (omega arith) (numbered-unless 30 (at30 b (settled s b)) _ (omega arith) (numbered-value b)))))
 
   numbered-admitted : (b : Bundle) → Numbered (admitted s b)
-  unfolding admitted messaging fittingStore
+  unfolding admitted
   numbered-admitted b =
       numbered-unless 26 (at26 s b) _ (omega arith) (numbered-unless 27 (at27 s b) _ (omega arith) (numbered-unless 28 (at28 s b) _ (omega arith) (numbered-value b)))
 

@@ -19,7 +19,7 @@ use Rattle.graph.proofs.Proper.{Proper}
 use Rattle.bundle.specs.Bundle.{Command, run, Bundle, programmeCount, programmeOf}
 use Rattle.bundle.specs.Fits.{Fits}
 use Rattle.messages.specs.Counting.{weigh, each}
-use Rattle.machine.specs.Machine.{State, freshState, processorOf, stampOf, moved}
+use Rattle.machine.specs.Machine.{State, freshState, processorOf, stampOf, stated, moved}
 use Rattle.machine.specs.Runs.{leftOf, left, clockOf, latest}
 use Rattle.machine.proofs.Runs.{Leads, here, leads-on, fresh-processor}
 use Rattle.checker.specs.Checker.{checked}
@@ -93,7 +93,8 @@ module _ (s : Sheet) (proper : Proper s) (φ : Schedule) (b : Bundle) where
         (r .0, did-at s b refl (starts s proper fair p φ same) (r .1), r .2)
 
     ran : (o : State) × Did s b k m o tail end × (o .stamps ≡ m .stamps)
-    ran = let r = received in (moved s (r .0) k (run t) 0, did-at s b refl (omega arith) (did-one s b (run t) 0 (r .1) refl), r .2)
+    unfolding stated
+    ran = let r = received in (moved s (r .0) k (run t) (stated s b k (run t)) 0, did-at s b refl (omega arith) (did-one s b (run t) 0 (r .1) refl), r .2)
 
     sent : (o : State) × Did s b k m o (blocks s φ k ts) end × Sent s b (takesAway s φ k t) (linkCount s) end m o
     unfolding sendOf stampOf

@@ -1,16 +1,11 @@
 -- Demand 3, of the functions of the interface.
 use Prim.Native.Nat.{ℕ, _≤_}
 use native.Mathlib.Omega.{arith}
-use native.Mathlib.Decide.{decLt}
-use mathlib.Core.Path.{_≡_, sym, ap, ap₂, _∙_, subst}
-use mathlib.Core.Bool.{Bool, true, false}
-use mathlib.Core.List.{List, _++_}
-use lib.ListN.{length, take, drop}
-use lib.Seq.{take-append-seam}
-use lib.Dec.{ltb}
-use Rattle.folds.specs.Folds.{pick}
-use Rattle.folds.specs.Answers.{Answer, value, refused, andThen, longEnough, fitting, number, placeOr, written}
-use Rattle.folds.proofs.Tests.{not-value, andThen-value}
+use mathlib.Core.Path.{_≡_, refl, sym, ap, ap₂, _∙_, subst}
+use mathlib.Core.List.{List, [], _++_}
+use lib.ListN.{length, take}
+use Rattle.folds.specs.Answers.{Answer, value, andThen, unless, longEnough, fitting, number, placeOr}
+use Rattle.folds.proofs.Tests.{andThen-value, unless-value, value-same}
 use Rattle.numbers.specs.Number.{Bytes}
 use Rattle.workspace.specs.Area.{fixed}
 use Rattle.sheet.specs.Sheet.{Sheet}
@@ -20,32 +15,25 @@ use Rattle.bundle.specs.Bundle.{Bundle}
 use Rattle.bundle.specs.Format.{readBundle}
 use Rattle.bundle.specs.Writing.{bundleBytes}
 use Rattle.bundle.proofs.Backs.{read-back}
-use Rattle.machine.specs.Runs.{runOf}
+use Rattle.messages.specs.Messages.{at26, at27, at28}
+use Rattle.messages.specs.Admitted.{admitted, admittedBytes}
+use Rattle.machine.specs.Runs.{runFrom, runOf}
 use Rattle.checker.specs.Checker.{checked, check}
 use Rattle.checker.proofs.Accepted.{accepted, passes}
 use Rattle.planner.specs.Placing.{barred}
 use Rattle.planner.specs.Planner.{bundleOf, planned, plan}
-use Rattle.starting.specs.Starts.{starting}
+use Rattle.stepping_machine.specs.Represents.{Represents}
+use Rattle.stepping_machine.specs.Starts.{starting}
 use Rattle.zeldrupa.specs.Promises.{checkAnswer, GivesCheck, planAnswer, GivesPlan}
 use Rattle.answers.specs.Values.{steppedIn}
 use Rattle.zeldrupa.specs.Stepping.{startAnswer}
-use Rattle.zeldrupa.proofs.Gives.{short, enough}
-use Rattle.assurance.specs.Demand.{Holds, Demand}
+use Rattle.zeldrupa.proofs.Gives.{enough}
+use Rattle.assurance.specs.Demand.{Holds, Read, Begun, started, ran, Stepped, Agrees, About, Demand}
 use Rattle.assurance.proofs.Numbers.{returned-0, numbered-long, numbered-check, numbered-starting, numbered-plan, numbered-given}
+use Rattle.assurance.proofs.Results.{long-value, fitting-value, gave}
 use Rattle.assurance.proofs.Calls.{agreed}
 use Rattle.assurance.proofs.Holding.{holding, passing}
 use Rattle.assurance.proofs.Planned.{plan-accepted}
-
--- a long enough area, and a long enough output
-long-value : {A : Type 0} (n : ℕ) (a : Answer A) (x : A) → longEnough fixed n a ≡ value x → (fixed ≤ n) × (a ≡ value x)
-long-value n a x e = elim (decLt n fixed) [ yes l ↦ not-value (sym (short a n l) ∙ e) | no l ↦ (omega arith, sym (enough a n (omega arith)) ∙ e) ]
-
-fitting-value : (n : ℕ) (r x : List ℕ) → fitting n r ≡ value x → r ≡ x
-fitting-value n r x e = split (ltb n (length r)) e
-  where
-    split : (t : Bool) → pick t (refused 12 (length r)) (value r) ≡ value x → r ≡ x
-    split true e = not-value e
-    split false e = cc
 
 check-is : (sheet out : List ℕ) (s : Sheet) (b : Bundle) → readSheet sheet ≡ value s → readBundle s out ≡ value b → check sheet out ≡ checked s b
 unfolding check
@@ -93,39 +81,122 @@ start-value sheet bundle work state e =
     (v .0 .0, v .0 .1, v .1, y .1, y .0)
 
 plan-value : (sheet work work′ out out′ : List ℕ) (n : ℕ) → GivesPlan sheet work work′ out out′ n 0 → plan sheet ≡ value (take n out′)
-unfolding planAnswer written
+unfolding planAnswer
 plan-value sheet work work′ out out′ n g =
-    let v = returned-0 (planAnswer sheet (length work) (length out)) (numbered-long fixed (length work) (andThen (plan sheet) (fitting (length out))) (numbered-given (length out) (plan sheet) (numbered-plan sheet))) (g .ends .returns) in
-    let x = long-value (length work) (andThen (plan sheet) (fitting (length out))) (v .0) (v .1) in
-    let q = andThen-value (plan sheet) (fitting (length out)) (v .0) (x .1) in
-    let same = fitting-value (length out) (q .0) (v .0) (q .2) in
-    let long : n ≡ length (v .0) = g .ends .place ∙ ap (placeOr length) (v .1) in
-    let front : out′ ≡ v .0 ++ drop (length (v .0)) out = g .output ∙ ap (written out) (v .1) in
-    q .1 ∙ ap value (same ∙ sym (ap₂ take long front ∙ take-append-seam (v .0) (drop (length (v .0)) out)))
+    let a = andThen (plan sheet) (fitting (length out)) in
+    let v = gave g (numbered-long fixed (length work) a (numbered-given (length out) (plan sheet) (numbered-plan sheet))) refl .0 in
+    let q = andThen-value (plan sheet) (fitting (length out)) (take n out′) (long-value (length work) a (take n out′) v .1) in
+    q .1 ∙ ap value (fitting-value (length out) (q .0) (take n out′) (q .2))
+
+-- a bundle that is accepted is one that the machine starts on
+starts-checked : (s : Sheet) (b x : Bundle) → checked s b ≡ value x → admitted s b ≡ value b
+unfolding checked admitted
+starts-checked s b x e =
+    let p = unless-value 26 (at26 s b) _ x e in
+    let q = unless-value 27 (at27 s b) _ x (p .1) in
+    let r = unless-value 28 (at28 s b) _ x (q .1) in
+    rw (p .0, q .0, r .0)
+
+-- what a started machine holds: 0 was returned, and its words keep the state after the choices that were made
+begun-keeps : {sheet bundle work work′ state state′ made : List ℕ} {p r : ℕ} → Begun sheet bundle work work′ state state′ made p r → (s : Sheet) (b : Bundle)
+    → startAnswer sheet bundle (length work) (length state) ≡ value (s, b)
+    → (r ≡ 0) × (p ≡ runOf s b made .stepped) × (length state′ ≡ length state) × Represents s b state′ (runOf s b made .state)
+unfolding runOf runFrom
+begun-keeps (started g) s b e = (g .returns ∙ ap number e, g .place ∙ ap (placeOr (λ x. 0)) e, g .long, g .keeps s b e)
+begun-keeps (ran {choices} g) s b e = (g .returns ∙ ap number e, g .place ∙ ap (placeOr (steppedIn choices)) e, g .long, g .keeps s b e)
+
+begun-returns : {sheet bundle work work′ state state′ made : List ℕ} {p r : ℕ} → Begun sheet bundle work work′ state state′ made p r → r ≡ number (startAnswer sheet bundle (length work) (length state))
+begun-returns (started g) = g .returns
+begun-returns (ran g) = g .returns
+
+start-read : (sheet bundle : List ℕ) (s : Sheet) (b : Bundle) → starting sheet bundle ≡ value (s, b) → (readSheet sheet ≡ value s) × (readBundle s bundle ≡ value b)
+unfolding starting admittedBytes admitted
+start-read sheet bundle s b e =
+    let p = andThen-value (readSheet sheet) _ (s, b) e in
+    let q = andThen-value (admittedBytes (p .0) bundle) (λ b. value (p .0, b)) (s, b) (p .2) in
+    let r = andThen-value (readBundle (p .0) bundle) (admitted (p .0)) (q .0) (q .1) in
+    let u = unless-value 26 (at26 (p .0) (r .0)) _ (q .0) (r .2) in
+    let v = unless-value 27 (at27 (p .0) (r .0)) _ (q .0) (u .1) in
+    let w = unless-value 28 (at28 (p .0) (r .0)) _ (q .0) (v .1) in
+    let pair : _≡_ {A = Sheet × Bundle} (p .0, q .0) (s, b) = value-same (q .2) in
+    let es : p .0 ≡ s = ap (λ (z : Sheet × Bundle). z .0) pair in
+    let eb : r .0 ≡ b = value-same (w .1) ∙ ap (λ (z : Sheet × Bundle). z .1) pair in
+    (p .1 ∙ ap value es, subst (λ (y : Sheet). readBundle y bundle ≡ value b) es (r .1 ∙ ap value eb))
+
+-- the start's answer on a bundle that is accepted
+start-accepted : (sheet bundle : List ℕ) (s : Sheet) (b : Bundle) (work state : ℕ) → fixed ≤ work → fixed ≤ state → readSheet sheet ≡ value s → readBundle s bundle ≡ value b
+    → check sheet bundle ≡ value b → startAnswer sheet bundle work state ≡ value (s, b)
+unfolding startAnswer starting admittedBytes
+start-accepted sheet bundle s b work state l m e f c =
+    enough (longEnough fixed state (starting sheet bundle)) work l ∙ enough (starting sheet bundle) state m
+    ∙ rw (e, f, starts-checked s b b (sym (check-is sheet bundle s b e f) ∙ c))
+
+-- one sheet and one bundle are read
+one-read : {sheet bundle : List ℕ} (x y : Read sheet bundle) → (x .s ≡ y .s) × (x .b ≡ y .b)
+one-read {sheet} {bundle} x y =
+    let e : x .s ≡ y .s = value-same (sym (x .sheet-is) ∙ y .sheet-is) in
+    (e, value-same (sym (x .bundle-is) ∙ ap (λ (z : Sheet). readBundle z bundle) e ∙ y .bundle-is))
+
+check-read : (sheet bundle area area′ : List ℕ) (q : ℕ) → GivesCheck sheet bundle area area′ q 0 → (x : Read sheet bundle) × (check sheet bundle ≡ value (x .b)) × ((ks : List ℕ) → Holds (x .s) (x .b) (runOf (x .s) (x .b) ks))
+check-read sheet bundle area area′ q g =
+    let v = check-value sheet bundle area area′ q g in
+    let c = check-promised sheet bundle (v .0) (v .1) in
+    (record { s = c .0; b = v .0; sheet-is = c .1; bundle-is = c .2 }, v .1, c .3)
+
+module _ {sheet bundle : List ℕ} (x : Read sheet bundle) where
+  checked-here : (area area′ : List ℕ) (q : ℕ) → GivesCheck sheet bundle area area′ q 0 → (check sheet bundle ≡ value (x .b)) × ((ks : List ℕ) → Holds (x .s) (x .b) (runOf (x .s) (x .b) ks))
+  checked-here area area′ q g =
+      let v = check-read sheet bundle area area′ q g in
+      let e = one-read (v .0) x in
+      (v .1 ∙ ap value (e .1), subst (λ (t : Sheet). (ks : List ℕ) → Holds t (x .b) (runOf t (x .b) ks)) (e .0) (subst (λ (c : Bundle). (ks : List ℕ) → Holds (v .0 .s) c (runOf (v .0 .s) c ks)) (e .1) (v .2)))
+
+  begun-agrees : {work work′ state state′ made : List ℕ} {p r : ℕ} → fixed ≤ length state → startAnswer sheet bundle (length work) (length state) ≡ value (x .s, x .b)
+      → Begun sheet bundle work work′ state state′ made p r
+      → (r ≡ 0) × (p ≡ runOf (x .s) (x .b) made .stepped) × ((ks ps last : List ℕ) → Stepped ks ps state′ last → Agrees (x .s) (x .b) made ks ps last)
+  begun-agrees {made = made} l e g =
+      let k = begun-keeps g (x .s) (x .b) e in
+      (k .0, k .1, λ ks ps last c. agreed (x .s) (x .b) made (omega (arith, k .2)) (k .3) c)
+
+  about : About x
+  about =
+      record {
+        promised = λ area area′ q g. checked-here area area′ q g .1;
+        accepted =
+            λ area area′ q c work work′ state state′ made p r l m g.
+            let h = checked-here area area′ q c in
+            let a = begun-agrees m (start-accepted sheet bundle (x .s) (x .b) (length work) (length state) l m (x .sheet-is) (x .bundle-is) (h .0)) g in
+            (a .0, λ ks ps last z. (h .1 (made ++ ks), a .2 ks ps last z));
+        exactly =
+            λ area area′ q r l g h. (
+              λ z. checked-here area area′ q (subst (GivesCheck sheet bundle area area′ q) z g) .1,
+              λ z. check-returns sheet bundle area area′ q r (x .b) l g (check-is sheet bundle (x .s) (x .b) (x .sheet-is) (x .bundle-is) ∙ accepted (x .s) (x .b) (passing (x .s) (x .b) h z)),
+            );
+        planned =
+            λ work work′ out out′ n y g e area area′ q r l c.
+            let v = plan-checked sheet bundle y (plan-value sheet work work′ out out′ n g ∙ ap value e) in
+            check-returns sheet bundle area area′ q r (v .0) l c (v .1);
+        agrees =
+            λ work work′ state state′ made p g.
+            let v = start-value sheet bundle (length work) (length state) (begun-returns g) in
+            let y = start-read sheet bundle (v .0) (v .1) (v .3) in
+            let e = one-read (record { s = v .0; b = v .1; sheet-is = y .0; bundle-is = y .1 }) x in
+            let a = begun-agrees (v .4) (v .2 ∙ ap₂ (λ (t : Sheet) (c : Bundle). value (t, c)) (e .0) (e .1)) g in
+            (a .1, a .2);
+      }
 
 pub demand : Demand
 demand =
     record {
-      promised =
-          λ sheet bundle work work′ p g.
-          let v = check-value sheet bundle work work′ p g in
-          let c = check-promised sheet bundle (v .0) (v .1) in
-          (c .0, v .0, c .1, c .2, c .3);
-      exactly =
-          λ sheet bundle work work′ p r l g s b e f h. (
-            λ z. let v = check-value sheet bundle work work′ p (subst (GivesCheck sheet bundle work work′ p) z g) in holding s b (passes s b (v .0) (sym (check-is sheet bundle s b e f) ∙ v .1) .0),
-            λ z. check-returns sheet bundle work work′ p r b l g (check-is sheet bundle s b e f ∙ accepted s b (passing s b h z)),
-          );
+      checked = λ sheet bundle area area′ q g. check-read sheet bundle area area′ q g .0;
       planned =
-          λ sheet work work′ out out′ n y g area area′ p r l c.
+          λ sheet work work′ out out′ n y g.
           let v = plan-checked sheet (take n out′) y (plan-value sheet work work′ out out′ n g) in
-          check-returns sheet (take n out′) area area′ p r (v .0) l c (v .1);
-      agrees =
-          λ sheet bundle work work′ state state′ p g.
-          let v = start-value sheet bundle (length work) (length state) (g .returns) in
-          (v .0, v .1, v .3, λ ks ps last c. agreed (v .0) (v .1) (omega (arith, g .long, v .4)) (g .keeps (v .0) (v .1) (v .2)) c);
-      runs =
-          λ sheet bundle choices work work′ state state′ p g.
-          let v = start-value sheet bundle (length work) (length state) (g .returns) in
-          (v .0, v .1, v .3, g .place ∙ ap (placeOr (steppedIn choices)) (v .2), g .keeps (v .0) (v .1) (v .2));
+          let c = check-promised sheet (take n out′) (v .0) (v .1) in
+          record { s = c .0; b = v .0; sheet-is = c .1; bundle-is = c .2 };
+      begun =
+          λ sheet bundle work work′ state state′ made p g.
+          let v = start-value sheet bundle (length work) (length state) (begun-returns g) in
+          let y = start-read sheet bundle (v .0) (v .1) (v .3) in
+          record { s = v .0; b = v .1; sheet-is = y .0; bundle-is = y .1 };
+      whole = about;
     }

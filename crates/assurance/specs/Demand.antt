@@ -1,12 +1,13 @@
--- Demand 3, of the functions of the interface: what holds after every list of choices of a processor, that the checker accepts just the bundles for which it
--- does, that it accepts every plan, and that the public machine agrees. `Gives..` is what a call of the function of that name promises, word for word.
+-- Demand 3, of the functions of the interface, as one statement about the bytes of a sheet and a bundle: what holds after every list of choices of a processor,
+-- that the checker accepts just the bundles for which it does, that it accepts every plan, and that the public machine agrees. `Gives..` is what a call of the
+-- function of that name promises, word for word.
 use Prim.Native.Nat.{ℕ, _+_, _≤_, _<_}
 use mathlib.Core.Bool.{true}
 use mathlib.Core.Option.{some}
 use mathlib.Core.Path.{_≡_}
 use mathlib.Core.Logic.{_↔_}
-use mathlib.Core.List.{List, [], _∷_, map}
-use lib.ListN.{length, take, getElem?}
+use mathlib.Core.List.{List, [], _∷_, _++_, map}
+use lib.ListN.{length, take, drop, getElem?}
 use Rattle.folds.specs.Folds.{bit}
 use Rattle.folds.specs.Answers.{value}
 use Rattle.numbers.specs.Number.{Bytes}
@@ -18,9 +19,8 @@ use Rattle.bundle.specs.Format.{readBundle}
 use Rattle.messages.specs.Counting.{weigh, whole, each, is, need}
 use Rattle.messages.specs.Messages.{Published}
 use Rattle.machine.specs.Machine.{processorOf, stampOf, canStep}
-use Rattle.machine.specs.Runs.{Run, freshRun, runOf, answers, doneOf, done, left, latest}
-use Rattle.loaded.specs.Keeps.{Keeps}
-use Rattle.starting.specs.Starts.{starting}
+use Rattle.machine.specs.Runs.{Run, runOf, answers, doneOf, done, left, latest}
+use Rattle.stepping_machine.specs.Represents.{Represents}
 use Rattle.zeldrupa.specs.Promises.{GivesCheck, GivesPlan}
 use Rattle.answers.specs.Values.{numbersOf}
 use Rattle.zeldrupa.specs.Stepping.{GivesStart, GivesRun, GivesStep, GivesLeft, GivesProcessor, stampNumber, GivesStamp}
@@ -46,41 +46,64 @@ pub record Holds (s : Sheet) (b : Bundle) (r : Run) : Type 0 where
   -- once no command is left every task has run just once, and "the latest clock" is the claim
   pub finish : left b (r .state) each ≡ 0 → ((t : ℕ) → t < taskCount s → done b (r .state) (is (run t)) ≡ 1) × (latest (r .state) ≡ b .claim)
 
--- calls of zeldrupa_step with these choices, each lent the words that the last one left, and the places that they gave
+-- the bytes of a sheet and of a bundle for it, neither refused by the readers
+pub record Read (sheet bundle : List ℕ) : Type 0 where
+  pub s : Sheet
+  pub b : Bundle
+  pub sheet-is : readSheet sheet ≡ value s
+  pub bundle-is : readBundle s bundle ≡ value b
+
+-- a machine is started on these bytes, and the choices `made` are behind it: a call of zeldrupa_start, or of zeldrupa_run, that returned r and set the place to p
+pub data Begun (sheet bundle work work′ state state′ : List ℕ) : List ℕ → ℕ → ℕ → Type 0 where
+  started : {p r : ℕ} → GivesStart sheet bundle work work′ state state′ p r → Begun sheet bundle work work′ state state′ [] p r
+  ran : {choices : List ℕ} {p r : ℕ} → GivesRun choices sheet bundle work work′ state state′ p r → Begun sheet bundle work work′ state state′ choices p r
+
+-- calls of zeldrupa_step, each lent the words that the last one left: the choices that they made, and the places that they gave. "A call refused with 13 is no
+-- choice": it was lent too few of the words.
 pub data Stepped : List ℕ → List ℕ → List ℕ → List ℕ → Type 0 where
   nothing : {state : List ℕ} → Stepped [] [] state state
-  stepped : {k p r : ℕ} {ks ps state next last : List ℕ} → GivesStep state next k p r → Stepped ks ps next last → Stepped (k ∷ ks) (p ∷ ps) state last
+  stepped : {k p : ℕ} {ks ps state next last : List ℕ} → GivesStep state next k p 0 → Stepped ks ps next last → Stepped (k ∷ ks) (p ∷ ps) state last
+  refused : (n : ℕ) {k p : ℕ} {ks ps state part last : List ℕ} → GivesStep (take n state) part k p 13 → Stepped ks ps (part ++ drop n state) last → Stepped ks ps state last
 
--- the words `last`, after calls with the choices ks that gave the places ps, hold what the definition has after these choices
-pub record Agrees (s : Sheet) (b : Bundle) (ks ps last : List ℕ) : Type 0 where
+-- the words `last`, behind the choices `made` and calls with the choices ks that gave the places ps, hold what the definition has after these choices
+pub record Agrees (s : Sheet) (b : Bundle) (made ks ps last : List ℕ) : Type 0 where
   -- "has given the definition's answers": 1 for each choice that stepped, 0 for each that could not
-  pub answered : ps ≡ map bit (answers s b (freshRun s b) ks)
+  pub answered : ps ≡ map bit (answers s b (runOf s b made) ks)
   -- "and holds its positions, clocks, stores and stamps"
-  pub keeps : Keeps s b last (runOf s b ks .state)
-  pub left : (p r : ℕ) → GivesLeft last p r → p ≡ left b (runOf s b ks .state) each
-  pub processor : (k p r : ℕ) (x x′ : List ℕ) → GivesProcessor last k x x′ p r → x′ ≡ numbersOf (runOf s b ks .state) k
-  pub stamp : (l p r : ℕ) → GivesStamp last l p r → p ≡ stampNumber (stampOf (runOf s b ks .state) l)
+  pub keeps : Represents s b last (runOf s b (made ++ ks) .state)
+  pub left : (p r : ℕ) → GivesLeft last p r → p ≡ left b (runOf s b (made ++ ks) .state) each
+  pub processor : (k p r : ℕ) (x x′ : List ℕ) → GivesProcessor last k x x′ p r → x′ ≡ numbersOf (runOf s b (made ++ ks) .state) k
+  pub stamp : (l p r : ℕ) → GivesStamp last l p r → p ≡ stampNumber (stampOf (runOf s b (made ++ ks) .state) l)
+  -- a call refused with 13 changes nothing
+  pub unchanged : (n k p : ℕ) (part : List ℕ) → GivesStep (take n last) part k p 13 → part ++ drop n last ≡ last
+
+-- what is said of one sheet and one bundle
+pub record About {sheet bundle : List ℕ} (x : Read sheet bundle) : Type 0 where
+  -- if zeldrupa_check accepts the bundle, all of `Holds` is true after "a list of choices, of any length and any numbers, from the fresh state"
+  pub promised :
+      (area area′ : List ℕ) (q : ℕ) → GivesCheck sheet bundle area area′ q 0 → (ks : List ℕ) → Holds (x .s) (x .b) (runOf (x .s) (x .b) ks)
+  -- and a start or a run on the same bytes, with areas long enough, returns 0; after every list of calls behind it the machine agrees with the run of its choices
+  pub accepted :
+      (area area′ : List ℕ) (q : ℕ) → GivesCheck sheet bundle area area′ q 0 →
+      (work work′ state state′ made : List ℕ) (p r : ℕ) → fixed ≤ length work → fixed ≤ length state → Begun sheet bundle work work′ state state′ made p r →
+      (r ≡ 0) × ((ks ps last : List ℕ) → Stepped ks ps state′ last → Holds (x .s) (x .b) (runOf (x .s) (x .b) (made ++ ks)) × Agrees (x .s) (x .b) made ks ps last)
+  -- it accepts a bundle with "the published messages" exactly when all this holds for every list
+  pub exactly :
+      (area area′ : List ℕ) (q r : ℕ) → fixed ≤ length area → GivesCheck sheet bundle area area′ q r → Published (x .s) (x .b) →
+      (r ≡ 0) ↔ ((ks : List ℕ) → Holds (x .s) (x .b) (runOf (x .s) (x .b) ks))
+  -- it accepts the bundle that zeldrupa_plan writes
+  pub planned :
+      (work work′ out out′ : List ℕ) (n : ℕ) → Bytes sheet → GivesPlan sheet work work′ out out′ n 0 → take n out′ ≡ bundle →
+      (area area′ : List ℕ) (q r : ℕ) → fixed ≤ length area → GivesCheck sheet bundle area area′ q r → r ≡ 0
+  -- the public machine, once started, agrees, also on a bundle that zeldrupa_check refuses with 29 or 30; a run says how many of its choices stepped
+  pub agrees :
+      (work work′ state state′ made : List ℕ) (p : ℕ) → Begun sheet bundle work work′ state state′ made p 0 →
+      (p ≡ runOf (x .s) (x .b) made .stepped) × ((ks ps last : List ℕ) → Stepped ks ps state′ last → Agrees (x .s) (x .b) made ks ps last)
 
 pub record Demand : Type 0 where
-  -- what a bundle promises that zeldrupa_check accepts, after "a list of choices, of any length and any numbers, from the fresh state"
-  pub promised :
-      (sheet bundle work work′ : List ℕ) (p : ℕ) → GivesCheck sheet bundle work work′ p 0 →
-      (s : Sheet) × (b : Bundle) × (readSheet sheet ≡ value s) × (readBundle s bundle ≡ value b) × ((ks : List ℕ) → Holds s b (runOf s b ks))
-  -- which bundles with "the published form and messages" it accepts
-  pub exactly :
-      (sheet bundle work work′ : List ℕ) (p r : ℕ) → fixed ≤ length work → GivesCheck sheet bundle work work′ p r →
-      (s : Sheet) (b : Bundle) → readSheet sheet ≡ value s → readBundle s bundle ≡ value b → Published s b →
-      (r ≡ 0) ↔ ((ks : List ℕ) → Holds s b (runOf s b ks))
-  -- it accepts every bundle that zeldrupa_plan writes
-  pub planned :
-      (sheet work work′ out out′ : List ℕ) (n : ℕ) → Bytes sheet → GivesPlan sheet work work′ out out′ n 0 →
-      (area area′ : List ℕ) (p r : ℕ) → fixed ≤ length area → GivesCheck sheet (take n out′) area area′ p r → r ≡ 0
-  -- zeldrupa_start and any list of calls of zeldrupa_step give what the definition gives, and so does zeldrupa_run
-  pub agrees :
-      (sheet bundle work work′ state state′ : List ℕ) (p : ℕ) → GivesStart sheet bundle work work′ state state′ p 0 →
-      (s : Sheet) × (b : Bundle) × (starting sheet bundle ≡ value (s, b)) ×
-      ((ks ps last : List ℕ) → Stepped ks ps state′ last → Agrees s b ks ps last)
-  pub runs :
-      (sheet bundle choices work work′ state state′ : List ℕ) (p : ℕ) → GivesRun choices sheet bundle work work′ state state′ p 0 →
-      (s : Sheet) × (b : Bundle) × (starting sheet bundle ≡ value (s, b)) ×
-      (p ≡ runOf s b choices .stepped) × Keeps s b state′ (runOf s b choices .state)
+  -- what zeldrupa_check accepts, zeldrupa_plan writes, or zeldrupa_start and zeldrupa_run start, was read
+  pub checked : (sheet bundle area area′ : List ℕ) (q : ℕ) → GivesCheck sheet bundle area area′ q 0 → Read sheet bundle
+  pub planned : (sheet work work′ out out′ : List ℕ) (n : ℕ) → Bytes sheet → GivesPlan sheet work work′ out out′ n 0 → Read sheet (take n out′)
+  pub begun : (sheet bundle work work′ state state′ made : List ℕ) (p : ℕ) → Begun sheet bundle work work′ state state′ made p 0 → Read sheet bundle
+  -- and of what was read all of this is true
+  pub whole : {sheet bundle : List ℕ} (x : Read sheet bundle) → About x

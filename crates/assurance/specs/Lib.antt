@@ -1,3 +1,4 @@
 -- The definitions of `assurance`.
 pub mod Trials
 pub mod Demand
+pub mod RoundTrips

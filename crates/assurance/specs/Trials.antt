@@ -1,6 +1,7 @@
 -- The starred trial sheets of document 01, K1 to K8, as one statement about the definitions, which compute them.
 use Prim.Native.Nat.{ℕ}
-use mathlib.Core.Bool.{Bool, false}
+use mathlib.Core.Bool.{Bool, true, false}
+use mathlib.Core.Option.{Option, none, some}
 use mathlib.Core.Path.{_≡_, refl}
 use mathlib.Core.List.{List, [], _∷_}
 use Rattle.folds.specs.Folds.{all, any, sum, greatest, first, leading, least, listed, gather}
@@ -18,10 +19,10 @@ use Rattle.sheet.specs.Format as sheets
 use Rattle.bundle.specs.Writing.{bundleBytes}
 use Rattle.messages.specs.Counting.{weigh, wholeOf, whole, is}
 use Rattle.messages.specs.Messages.{notOnce, holds, home, before, insideOk, acrossOk, wrongMessage, overStore, at26, at27, at28}
-use Rattle.machine.specs.Machine.{processorOf, stampOf, next, step, canStep}
+use Rattle.machine.specs.Machine.{processorOf, stampOf, next, stated, stepIn, step, canStep}
 use Rattle.machine.specs.Runs.{clockOf, latest, settle, settled}
 use Rattle.checker.specs.Checker.{unfinished, at29, at30, closing, checked, check}
-use Rattle.planner.specs.Schedule.{Schedule, placeOf, startOf, finishOf, placed, stands}
+use Rattle.planner.specs.Schedule.{Schedule, empty, placeOf, startOf, finishOf, placed, stands}
 use Rattle.planner.specs.Placing.{comes, lacks, satisfied, ready, partlyReady, arrivalBy, arrival, priority, ahead, firstReady, firstPartlyReady, endBy, endOf, startBy, startFrom, startOn, storeBy, bytesBy, storeOn, fits, holdsBy, holdsPredecessor, startWith, bestStart, endsWith, delays, barred, followsBy, follows, spentBy, spent}
 use Rattle.planner.specs.Planner.{mayJoin, join, mayTake, idle, another, lastResort, choice, turn, turns, plannedBy, planned, brings, takesAway, receiveOf, sendOf, blockOf, blocks, programme, claimOf, bundleOf, plan}
 use Rattle.listing.specs.Listing.{decimalWithin, decimal, planLine, taskLine, refusalLine, scheduleLines, listing}
@@ -56,12 +57,30 @@ listingK =
     0x32 ∷ 0x20 ∷ 0x31 ∷ 0x20 ∷ 0x33 ∷ 0x20 ∷ 0x35 ∷ 0x0A ∷
     0x33 ∷ 0x20 ∷ 0x30 ∷ 0x20 ∷ 0x30 ∷ 0x20 ∷ 0x32 ∷ 0x0A ∷ []
 
--- the claim of a schedule
-abbrev claimed : Sheet → Answer Schedule → Answer ℕ
-claimed s a = andThen a (λ σ. value (claimOf s σ))
+-- the bytes of K1's graph on p processors of store limit m, with work w for task 2
+abbrev pub bytesK : ℕ → ℕ → ℕ → List ℕ
+bytesK p m w = sheetBytes (sheetK p m w)
 
-abbrev unguarded : Schedule → ℕ → ℕ → Bool
-unguarded σ t k = false
+-- from the bytes of a sheet: its levels, its schedule, and the claim of that schedule; the schedule is made with a guard
+abbrev levels : List ℕ → Answer (List ℕ)
+levels b = andThen (readSheet b) (λ s. value (listed (taskCount s) (level s)))
+
+abbrev scheduleBy : (Sheet → Schedule → ℕ → ℕ → Bool) → List ℕ → Answer Schedule
+scheduleBy guard b = andThen (readSheet b) (λ s. plannedBy s (guard s))
+
+abbrev claimBy : (Sheet → Schedule → ℕ → ℕ → Bool) → List ℕ → Answer ℕ
+claimBy guard b = andThen (readSheet b) (λ s. andThen (plannedBy s (guard s)) (λ σ. value (claimOf s σ)))
+
+abbrev barredNext : Sheet → Schedule → Option ℕ → ℕ → Bool
+barredNext s σ none k = false
+barredNext s σ (some t) k = barred s σ t k
+
+-- after the first turn: the task of the second, and whether the guard bars it from processor k
+abbrev second : List ℕ → ℕ → Answer (Option ℕ × Bool)
+second b k = andThen (readSheet b) (λ s. andThen (turn s (barred s) (empty s)) (λ σ. value (firstReady s σ, barredNext s σ (firstReady s σ) k)))
+
+abbrev unguarded : Sheet → Schedule → ℕ → ℕ → Bool
+unguarded s σ t k = false
 
 abbrev pub k5 : Sheet
 k5 = record { processors = 2; limit = 6; tasks = task 1 3 ∷ task 1 3 ∷ task 1 2 ∷ task 1 2 ∷ task 1 2 ∷ []; links = [] }
@@ -81,17 +100,22 @@ k8 ls = record { processors = 2; limit = 0; tasks = task 1 0 ∷ task 1 0 ∷ ta
 
 pub record Trials : Type 0 where
   pub k1-read : readSheet (sheetBytes k1) ≡ value k1
-  pub k1-levels : level k1 0 ∷ level k1 1 ∷ level k1 2 ∷ level k1 3 ∷ [] ≡ 5 ∷ 3 ∷ 2 ∷ 7 ∷ []
+  pub k1-levels : levels (sheetBytes k1) ≡ value (5 ∷ 3 ∷ 2 ∷ 7 ∷ [])
   pub k1-bundle : plan (sheetBytes k1) ≡ value (bundleK 5)
+  pub k1-accepted : andThen (check (sheetBytes k1) (bundleK 5)) (λ b. value (b .claim)) ≡ value 5
   pub k1-listing : listing (sheetBytes k1) ≡ listingK
-  pub k2 : planned (sheetK 1 100 2) ≡ value (record { on = 0 ∷ 0 ∷ 0 ∷ 0 ∷ []; start = 2 ∷ 3 ∷ 6 ∷ 0 ∷ []; finish = 3 ∷ 6 ∷ 8 ∷ 2 ∷ []; order = 3 ∷ 0 ∷ 1 ∷ 2 ∷ []; opened = 1 })
-  pub k2-claim : claimed (sheetK 1 100 2) (planned (sheetK 1 100 2)) ≡ value 8
-  pub k3 : planned (sheetK 3 100 3) ≡ value (record { on = 2 ∷ 0 ∷ 1 ∷ 0 ∷ []; start = 0 ∷ 2 ∷ 3 ∷ 0 ∷ []; finish = 1 ∷ 5 ∷ 6 ∷ 2 ∷ []; order = 3 ∷ 2 ∷ 0 ∷ 1 ∷ []; opened = 3 })
-  pub k3-claim : claimed (sheetK 3 100 3) (planned (sheetK 3 100 3)) ≡ value 6
-  pub k3-unguarded : claimed (sheetK 3 100 3) (plannedBy (sheetK 3 100 3) unguarded) ≡ value 7
-  pub k4-24 : plan (sheetBytes (sheetK 3 24 2)) ≡ value (bundleK 5)
-  pub k4-23 : planned (sheetK 3 23 2) ≡ value (record { on = 1 ∷ 2 ∷ 0 ∷ 0 ∷ []; start = 0 ∷ 4 ∷ 2 ∷ 0 ∷ []; finish = 1 ∷ 7 ∷ 4 ∷ 2 ∷ []; order = 3 ∷ 0 ∷ 1 ∷ 2 ∷ []; opened = 3 })
-  pub k4-23-claim : claimed (sheetK 3 23 2) (planned (sheetK 3 23 2)) ≡ value 7
+  -- tasks 3, 0, 1, 2 start at 0, 2, 3, 6; claim 8
+  pub k2 : scheduleBy barred (bytesK 1 100 2) ≡ value (record { on = 0 ∷ 0 ∷ 0 ∷ 0 ∷ []; start = 2 ∷ 3 ∷ 6 ∷ 0 ∷ []; finish = 3 ∷ 6 ∷ 8 ∷ 2 ∷ []; order = 3 ∷ 0 ∷ 1 ∷ 2 ∷ []; opened = 1 })
+  pub k2-claim : claimBy barred (bytesK 1 100 2) ≡ value 8
+  -- "the guard bars processor 0": task 2 comes second, and is barred from the processor of task 3; it goes on 1 at 3, task 0 on 2, claim 6. "Without it, 7"
+  pub k3-barred : second (bytesK 3 100 3) 0 ≡ value (some 2, true)
+  pub k3 : scheduleBy barred (bytesK 3 100 3) ≡ value (record { on = 2 ∷ 0 ∷ 1 ∷ 0 ∷ []; start = 0 ∷ 2 ∷ 3 ∷ 0 ∷ []; finish = 1 ∷ 5 ∷ 6 ∷ 2 ∷ []; order = 3 ∷ 2 ∷ 0 ∷ 1 ∷ []; opened = 3 })
+  pub k3-claim : claimBy barred (bytesK 3 100 3) ≡ value 6
+  pub k3-unguarded : claimBy unguarded (bytesK 3 100 3) ≡ value 7
+  -- M 24: as K1. M 23: task 1 on processor 2 at 4, task 2 on 0 at 2, claim 7
+  pub k4-24 : plan (bytesK 3 24 2) ≡ value (bundleK 5)
+  pub k4-23 : scheduleBy barred (bytesK 3 23 2) ≡ value (record { on = 1 ∷ 2 ∷ 0 ∷ 0 ∷ []; start = 0 ∷ 4 ∷ 2 ∷ 0 ∷ []; finish = 1 ∷ 7 ∷ 4 ∷ 2 ∷ []; order = 3 ∷ 0 ∷ 1 ∷ 2 ∷ []; opened = 3 })
+  pub k4-23-claim : claimBy barred (bytesK 3 23 2) ≡ value 7
   pub k5-refused : plan (sheetBytes k5) ≡ refused 11 4
   pub k5-accepted : check (sheetBytes k5) (bundleBytes bundleK5) ≡ value bundleK5
   pub k6-stuck : check (sheetBytes k6) (bundleBytes bundleK6) ≡ refused 29 0
@@ -100,15 +124,17 @@ pub record Trials : Type 0 where
   pub k8-circle : readSheet (sheetBytes (k8 (link 0 1 0 0 ∷ link 1 2 0 0 ∷ link 2 1 0 0 ∷ []))) ≡ refused 10 1
 
 pub trials : Trials
-unfolding all any sum greatest first leading least listed gather numberAt judge readFrom readAll taskCount linkCount workOf storeOf sourceOf targetOf costOf bytesOf joinsBy joins readForm sheetBytes reachesBy reaches onCircle circle levelBy levelWithin level readSheet programmeCount programmeOf readBundle bundleBytes weigh wholeOf whole is notOnce holds home before insideOk acrossOk wrongMessage overStore at26 at27 at28 processorOf stampOf next step canStep clockOf latest settle settled unfinished at29 at30 closing checked check placeOf startOf finishOf placed stands comes lacks satisfied ready partlyReady arrivalBy arrival priority ahead firstReady firstPartlyReady endBy endOf startBy startFrom startOn storeBy bytesBy storeOn fits holdsBy holdsPredecessor startWith bestStart endsWith delays barred followsBy follows spentBy spent mayJoin join mayTake idle another lastResort choice turn turns plannedBy planned brings takesAway receiveOf sendOf blockOf blocks programme claimOf bundleOf plan decimalWithin decimal planLine taskLine refusalLine scheduleLines listing sheets.fault sheets.ended bundles.fault bundles.ended
+unfolding all any sum greatest first leading least listed gather numberAt judge readFrom readAll taskCount linkCount workOf storeOf sourceOf targetOf costOf bytesOf joinsBy joins readForm sheetBytes reachesBy reaches onCircle circle levelBy levelWithin level readSheet programmeCount programmeOf readBundle bundleBytes weigh wholeOf whole is notOnce holds home before insideOk acrossOk wrongMessage overStore at26 at27 at28 processorOf stampOf next stated stepIn step canStep clockOf latest settle settled unfinished at29 at30 closing checked check placeOf startOf finishOf placed stands comes lacks satisfied ready partlyReady arrivalBy arrival priority ahead firstReady firstPartlyReady endBy endOf startBy startFrom startOn storeBy bytesBy storeOn fits holdsBy holdsPredecessor startWith bestStart endsWith delays barred followsBy follows spentBy spent mayJoin join mayTake idle another lastResort choice turn turns plannedBy planned brings takesAway receiveOf sendOf blockOf blocks programme claimOf bundleOf plan decimalWithin decimal planLine taskLine refusalLine scheduleLines listing sheets.fault sheets.ended bundles.fault bundles.ended
 trials =
     record {
       k1-read = refl;
       k1-levels = refl;
       k1-bundle = refl;
+      k1-accepted = refl;
       k1-listing = refl;
       k2 = refl;
       k2-claim = refl;
+      k3-barred = refl;
       k3 = refl;
       k3-claim = refl;
       k3-unguarded = refl;

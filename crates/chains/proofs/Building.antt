@@ -7,7 +7,7 @@ use native.Mathlib.Omega.{arith}
 use native.Mathlib.Decide.{ℕ-discrete}
 use lib.ListN.{length, getD, set, length-set}
 use lib.Seq.{getD-set-same, getD-set-other}
-use Rattle.workspace.specs.Area.{fixed}
+use Rattle.workspace.specs.Area.{fixed, headsAt, marksAt, nextsAt}
 use Rattle.sheet.specs.Sheet.{Sheet, taskCount, linkCount}
 use Rattle.sheet.specs.Tables.{sheetIn, Loaded, Ranged}
 use Rattle.sheet.proofs.Rows.{ranged}
@@ -21,12 +21,12 @@ end-below Source r = r .source
 end-below Target r = r .target
 
 pub rechained-none : (e : End) (w : List ℕ) → Rechained e w w
-rechained-none e w = record { only = only-none 2576 3856 w; under = λ i. refl }
+rechained-none e w = record { only = only-none headsAt marksAt w; under = λ i. refl }
 
 pub rechained-trans : {e : End} {u v w : List ℕ} → Rechained e u v → Rechained e v w → Rechained e u w
 rechained-trans p q = record { only = only-trans (p .only) (q .only); under = λ i. q .under i ∙ p .under i }
 
-pub rechained-set : {e : End} {w w′ : List ℕ} (j v : ℕ) → 2576 ≤ j → j < 3856 → j < length w′ → rest e v ≡ rest e (getD w′ j 0) → Rechained e w w′ → Rechained e w (set w′ j v)
+pub rechained-set : {e : End} {w w′ : List ℕ} (j v : ℕ) → headsAt ≤ j → j < marksAt → j < length w′ → rest e v ≡ rest e (getD w′ j 0) → Rechained e w w′ → Rechained e w (set w′ j v)
 rechained-set {e} {w} {w′} j v h g l q p = record { only = only-set j v h g (p .only); under = λ i. under′ i (ℕ-discrete i j) }
   where
     under′ : (i : ℕ) → Dec (i ≡ j) → rest e (getD (set w′ j v) i 0) ≡ rest e (getD w i 0)
@@ -47,13 +47,13 @@ pub record Headed (e : End) (m n : ℕ) (w : List ℕ) : Type 0 where
 pub headed-none : (e : End) (m : ℕ) (w : List ℕ) → Headed e m 0 w
 headed-none e m w = record { is = λ t h. absurd (omega arith) }
 
-pub headed-more : {e : End} {w : List ℕ} {m n : ℕ} (v : ℕ) → half e v ≡ m → 2576 + n < length w → Headed e m n w → Headed e m (n + 1) (set w (2576 + n) v)
+pub headed-more : {e : End} {w : List ℕ} {m n : ℕ} (v : ℕ) → half e v ≡ m → headsAt + n < length w → Headed e m n w → Headed e m (n + 1) (set w (headsAt + n) v)
 unfolding headOf
 headed-more {e} {w} {m} {n} v q l z = record { is = λ i h. go i h (ℕ-discrete i n) }
   where
-    go : (i : ℕ) → i < n + 1 → Dec (i ≡ n) → half e (getD (set w (2576 + n) v) (2576 + i) 0) ≡ m
-    go i h (yes d) = ap (λ (x : ℕ). half e (getD (set w (2576 + n) v) (2576 + x) 0)) d ∙ ap (half e) (getD-set-same w (2576 + n) v 0 l) ∙ q
-    go i h (no d) = ap (half e) (getD-set-other w (2576 + n) (2576 + i) v 0 (λ x. d (omega arith))) ∙ z .is i (omega arith)
+    go : (i : ℕ) → i < n + 1 → Dec (i ≡ n) → half e (getD (set w (headsAt + n) v) (headsAt + i) 0) ≡ m
+    go i h (yes d) = ap (λ (x : ℕ). half e (getD (set w (headsAt + n) v) (headsAt + x) 0)) d ∙ ap (half e) (getD-set-same w (headsAt + n) v 0 l) ∙ q
+    go i h (no d) = ap (half e) (getD-set-other w (headsAt + n) (headsAt + i) v 0 (λ x. d (omega arith))) ∙ z .is i (omega arith)
 
 -- then no link is in a chain
 pub chain-none : {e : End} {s : Sheet} {w : List ℕ} {m n : ℕ} → m ≡ linkCount s → taskCount s ≤ n → Headed e m n w → ChainedFrom e s (linkCount s) w
@@ -70,7 +70,7 @@ chain-none {e} {s} {w} {m} {n} q r z =
     }
 
 -- the first link of a task fits a half
-pub head-small : {e : End} {w : List ℕ} {l t r : ℕ} → Loaded w → ChainedFrom e (sheetIn w) l w → t < taskCount (sheetIn w) → r ≡ half e (getD w (2576 + t) 0) → r < 65536
+pub head-small : {e : End} {w : List ℕ} {l t r : ℕ} → Loaded w → ChainedFrom e (sheetIn w) l w → t < taskCount (sheetIn w) → r ≡ half e (getD w (headsAt + t) 0) → r < 65536
 unfolding headOf
 head-small {e} {w} {l} {t} h d t-in q = omega (arith, d .head-few t t-in, ranged w h .few-links)
 
@@ -141,21 +141,21 @@ module _ {e : End} {s : Sheet} {w : List ℕ} (new : List ℕ) {l a : ℕ} (l-in
 
 -- as the code writes it: a is the end, x and y were the words of a and l, and v and u are
 pub chained-by : {e : End} {s : Sheet} {w : List ℕ} {l a x y : ℕ} (u v : ℕ) → fixed ≤ length w → Ranged s → l < linkCount s → a ≡ endBy e s l → a < taskCount s → ChainedFrom e s (l + 1) w
-    → x ≡ getD w (2576 + a) 0 → y ≡ getD w (2832 + l) 0 → half e u ≡ half e x → rest e u ≡ rest e y → half e v ≡ l → rest e v ≡ rest e x
-    → Rechained e w (set (set w (2832 + l) u) (2576 + a) v) × ChainedFrom e s l (set (set w (2832 + l) u) (2576 + a) v)
+    → x ≡ getD w (headsAt + a) 0 → y ≡ getD w (nextsAt + l) 0 → half e u ≡ half e x → rest e u ≡ rest e y → half e v ≡ l → rest e v ≡ rest e x
+    → Rechained e w (set (set w (nextsAt + l) u) (headsAt + a) v) × ChainedFrom e s l (set (set w (nextsAt + l) u) (headsAt + a) v)
 unfolding headOf nextOf
 chained-by {e} {s} {w} {l} {a} {x} {y} u v long r l-in a-is a-in d ex ey uh ur vh vr = (
-  rechained-set (2576 + a) v (omega arith) (omega (arith, r .few-tasks)) (simp length-set (omega (arith, r .few-tasks))) (vr ∙ ap (rest e) (ex ∙ sym (away (2576 + a) (omega (arith, r .few-tasks)))))
-      (rechained-set (2832 + l) u (omega arith) (omega (arith, r .few-links)) (omega (arith, r .few-links)) (ur ∙ ap (rest e) ey) (rechained-none e w)),
+  rechained-set (headsAt + a) v (omega arith) (omega (arith, r .few-tasks)) (simp length-set (omega (arith, r .few-tasks))) (vr ∙ ap (rest e) (ex ∙ sym (away (headsAt + a) (omega (arith, r .few-tasks)))))
+      (rechained-set (nextsAt + l) u (omega arith) (omega (arith, r .few-links)) (omega (arith, r .few-links)) (ur ∙ ap (rest e) ey) (rechained-none e w)),
   chain-more _ l-in a-is a-in d
-      (ap (half e) (getD-set-same (set w (2832 + l) u) (2576 + a) v 0 (simp length-set (omega (arith, r .few-tasks)))) ∙ vh)
-      (λ t k n. ap (half e) (getD-set-other (set w (2832 + l) u) (2576 + a) (2576 + t) v 0 (λ q. n (omega arith)) ∙ away (2576 + t) (omega (arith, r .few-tasks))))
-      (ap (half e) (getD-set-other (set w (2832 + l) u) (2576 + a) (2832 + l) v 0 (omega (arith, r .few-tasks)) ∙ getD-set-same w (2832 + l) u 0 (omega (arith, r .few-links))) ∙ uh ∙ ap (half e) ex)
-      (λ i n. ap (half e) (getD-set-other (set w (2832 + l) u) (2576 + a) (2832 + i) v 0 (omega (arith, r .few-tasks)) ∙ away (2832 + i) (λ q. n (omega arith)))),
+      (ap (half e) (getD-set-same (set w (nextsAt + l) u) (headsAt + a) v 0 (simp length-set (omega (arith, r .few-tasks)))) ∙ vh)
+      (λ t k n. ap (half e) (getD-set-other (set w (nextsAt + l) u) (headsAt + a) (headsAt + t) v 0 (λ q. n (omega arith)) ∙ away (headsAt + t) (omega (arith, r .few-tasks))))
+      (ap (half e) (getD-set-other (set w (nextsAt + l) u) (headsAt + a) (nextsAt + l) v 0 (omega (arith, r .few-tasks)) ∙ getD-set-same w (nextsAt + l) u 0 (omega (arith, r .few-links))) ∙ uh ∙ ap (half e) ex)
+      (λ i n. ap (half e) (getD-set-other (set w (nextsAt + l) u) (headsAt + a) (nextsAt + i) v 0 (omega (arith, r .few-tasks)) ∙ away (nextsAt + i) (λ q. n (omega arith)))),
 )
   where
-    away : (i : ℕ) → i ≢ 2832 + l → getD (set w (2832 + l) u) i 0 ≡ getD w i 0
-    away i n = getD-set-other w (2832 + l) i u 0 n
+    away : (i : ℕ) → i ≢ nextsAt + l → getD (set w (nextsAt + l) u) i 0 ≡ getD w i 0
+    away i n = getD-set-other w (nextsAt + l) i u 0 n
 
 -- the chains of an area whose sheet is as it was
 pub chains-still : {e : End} {l l′ : ℕ} {w w′ : List ℕ} → Loaded w → Rechained e w w′ → l ≡ l′ → ChainedFrom e (sheetIn w) l w′ → ChainedFrom e (sheetIn w′) l′ w′

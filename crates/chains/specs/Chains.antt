@@ -4,6 +4,7 @@ use mathlib.Core.Path.{_≡_}
 use mathlib.Core.Logic.{_≢_}
 use mathlib.Core.List.{List}
 use lib.ListN.{getD}
+use Rattle.workspace.specs.Area.{headsAt, marksAt, nextsAt}
 use Rattle.sheet.specs.Sheet.{Sheet, taskCount, linkCount, sourceOf, targetOf}
 use Rattle.chains.specs.Frames.{Only}
 use Rattle.chains.specs.declared.End.{End}
@@ -25,14 +26,14 @@ rest Target x = 0
 
 -- the first link of t, and the next after l of the same task
 unfoldable pub headOf : End → List ℕ → ℕ → ℕ
-headOf e w t = half e (getD w (2576 + t) 0)
+headOf e w t = half e (getD w (headsAt + t) 0)
 
 unfoldable pub nextOf : End → List ℕ → ℕ → ℕ
-nextOf e w l = half e (getD w (2832 + l) 0)
+nextOf e w l = half e (getD w (nextsAt + l) 0)
 
 -- nothing but the chains of e was written
 pub record Rechained (e : End) (w w′ : List ℕ) : Type 0 where
-  pub only : Only 2576 3856 w w′
+  pub only : Only headsAt marksAt w w′
   pub under : (i : ℕ) → rest e (getD w′ i 0) ≡ rest e (getD w i 0)
 
 -- the number of links stands for no link

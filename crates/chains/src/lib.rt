@@ -5,6 +5,8 @@ ghost use Rattle.sheet.specs.Sheet.{taskCount, linkCount};
 ghost use Rattle.sheet.specs.Tables.{sheetIn, Loaded};
 ghost use Rattle.chains.specs.Chains.{endBy, half, rest, headOf, nextOf, Rechained, Chained, ChainedFrom};
 use sheet::tables;
+use workspace::HEADS;
+use workspace::NEXTS;
 
 // The end of a link by which it is chained: its source, for the links out of a task, or its target, for those into one.
 pub enum End {
@@ -53,8 +55,8 @@ fn unchain(w: &mut [u32], e: End)
     let m = tables::links(w);
     let mut t: usize = 0;
     while t < n {
-        let x = workspace::word(w, 2576 + t);
-        w[2576 + t] = workspace::narrow(with_half(e, x, m));
+        let x = workspace::word(w, HEADS + t);
+        w[HEADS + t] = workspace::narrow(with_half(e, x, m));
         t += 1;
     }
 }
@@ -67,10 +69,10 @@ fn chain_one(w: &mut [u32], e: End, l: usize)
     ensures { λ _. ⌜ Rechained e (now (w .entry)) (now (w .exit)) × ChainedFrom e (sheetIn (now (w .entry))) l (now (w .exit)) ⌝ }
 {
     let t = end_of(w, e, l);
-    let x = workspace::word(w, 2576 + t);
-    let y = workspace::word(w, 2832 + l);
-    w[2832 + l] = workspace::narrow(with_half(e, y, half(e, x)));
-    w[2576 + t] = workspace::narrow(with_half(e, x, l));
+    let x = workspace::word(w, HEADS + t);
+    let y = workspace::word(w, NEXTS + l);
+    w[NEXTS + l] = workspace::narrow(with_half(e, y, half(e, x)));
+    w[HEADS + t] = workspace::narrow(with_half(e, x, l));
 }
 
 // All links go into the chains, the last first.
@@ -101,7 +103,7 @@ pub fn first(w: &[u32], e: End, t: usize) -> usize
     requires { ⌜ t < taskCount (sheetIn (now w)) ⌝ }
     ensures { λ r. ⌜ (r ≡ headOf e (now (w .entry)) t) × (r ≤ linkCount (sheetIn (now (w .entry)))) ⌝ }
 {
-    half(e, workspace::word(w, 2576 + t))
+    half(e, workspace::word(w, HEADS + t))
 }
 
 // The next link of the same task as l, or the number of links.
@@ -111,5 +113,5 @@ pub fn next(w: &[u32], e: End, l: usize) -> usize
     requires { ⌜ l < linkCount (sheetIn (now w)) ⌝ }
     ensures { λ r. ⌜ (r ≡ nextOf e (now (w .entry)) l) × (r ≤ linkCount (sheetIn (now (w .entry)))) × (l < r) ⌝ }
 {
-    half(e, workspace::word(w, 2832 + l))
+    half(e, workspace::word(w, NEXTS + l))
 }

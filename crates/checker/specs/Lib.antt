@@ -1,4 +1,3 @@
 -- The definitions of `checker`.
 pub mod Checker
-pub mod Settling
 pub mod Verdicts

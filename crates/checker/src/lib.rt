@@ -1,7 +1,5 @@
 // The checker: 21 to 30 of a bundle, for a sheet that was read.
 pub mod bytes; // bytes.rt: of any bytes
-pub mod advancing; // advancing.rt: one processor as far as it goes
-pub mod settling; // settling.rt: runs the machine until nobody can step
 pub mod whole; // whole.rt: 29, 30 and the whole
 
 // A bundle passes, or is refused with a number and a place.

@@ -1,21 +1,29 @@
 // 29, 30, and the whole of 21 to 30.
-ghost use Prim.Native.Nat.{_≤_, _<_};
+ghost use Prim.Native.Nat.{_≤_};
 ghost use lib.ListN.{length};
-ghost use Rattle.sheet.specs.Tables.{Loaded};
+ghost use Rattle.messages.specs.Fields.{Seen};
+ghost use Rattle.messages.specs.Views.{Shown};
+ghost use Rattle.stepping_machine.specs.Layout.{extent};
 ghost use Rattle.checker.specs.Verdicts.{UnfinishedIs, LatestIs, FinishIs, JudgementIs, CheckIs};
 use crate::Verdict;
-use crate::settling::settle;
 use messages::Judged;
+use messages::view::View;
+use stepping_machine::BOARD;
+use stepping_machine::CLOCKS;
+use stepping_machine::COUNT;
+use stepping_machine::LASTS;
+use stepping_machine::settling::settle;
+use stepping_machine::start::admit;
 use words::Found;
 
 // 29: the lowest processor with commands left.
 fn unfinished(w: &[u32]) -> Found
     ensures { λ r. ⌜ UnfinishedIs (now (w .entry)) r ⌝ }
 {
-    let count = words::word(w, 17);
+    let count = words::word(w, COUNT);
     let mut k = 0;
     while k < count {
-        if words::word(w, 32 + k) < words::word(w, k + 1) {
+        if words::word(w, k) < words::word(w, LASTS + k) {
             return Found::At(k);
         }
         k += 1;
@@ -27,11 +35,11 @@ fn unfinished(w: &[u32]) -> Found
 fn latest(w: &[u32]) -> usize
     ensures { λ r. ⌜ LatestIs (now (w .entry)) r ⌝ }
 {
-    let n = words::word(w, 17);
+    let n = words::word(w, COUNT);
     let mut best = 0;
     let mut k = 0;
     while k < n {
-        best = words::later(best, words::word(w, 64 + k));
+        best = words::later(best, words::word(w, CLOCKS + k));
         k += 1;
     }
     best
@@ -53,37 +61,25 @@ fn finish(w: &[u32], claim: usize) -> Verdict
     }
 }
 
-// 21 to 30 of a bundle, for a sheet of p processors, n tasks and l links with this limit.
-fn judgement(
-    sheet: &[u8],
-    bundle: &[u8],
-    w: &mut [u32],
-    p: usize,
-    n: usize,
-    l: usize,
-    limit: usize,
-) -> Verdict
-    requires { ⌜ (p < 17) × (n ≤ 256) × (l ≤ 1024) × (4352 ≤ length (now w)) ⌝ }
-    ensures { λ r. ⌜ JudgementIs (now (sheet .entry)) (now (bundle .entry)) (now (w .entry)) (now (w .exit)) p n l limit r ⌝ }
+// 21 to 30 of a bundle, for a sheet seen by v: it is run in the words in which it is loaded.
+fn judgement(sheet: &[u8], bundle: &[u8], w: &mut [u32], v: View) -> Verdict
+    requires { ⌜ Seen (now sheet) v × (extent ≤ length (now w)) ⌝ }
+    ensures { λ r. ⌜ JudgementIs (now (sheet .entry)) (now (bundle .entry)) (now (w .entry)) (now (w .exit)) v r ⌝ }
 {
-    match messages::judge::judge(sheet, bundle, w, p, n, l, limit) {
+    match admit(sheet, bundle, w, v) {
         Judged::Refused(r, at) => Verdict::Refused(r, at),
-        Judged::Fit(m, c, claim) => {
-            state::fresh::begin(w, m, n, l, c);
-            settle(sheet, bundle, w);
+        Judged::Fit(_, _, claim) => {
+            settle(w);
             finish(w, claim)
         }
     }
 }
 
-// 21 to 30 of a bundle, for the sheet in the tables of the work area, whose bytes are given too. The words from 16 on are used.
+// 21 to 30 of a bundle, for the sheet in the tables of the work area, whose bytes are given too. The words behind the board are used.
 pub fn check(sheet: &[u8], bundle: &[u8], work: &mut [u32]) -> Verdict
-    requires { ⌜ Loaded (now work) ⌝ }
-    ensures { λ r. ⌜ CheckIs (now (sheet .entry)) (now (bundle .entry)) (now (work .entry)) (now (work .exit)) r ⌝ }
+    requires { ⌜ Shown (now sheet) (now work) ⌝ }
+    ensures { λ r. ⌜ CheckIs (now (bundle .entry)) (now (work .entry)) (now (work .exit)) r ⌝ }
 {
-    let p = sheet::tables::processors(work);
-    let n = sheet::tables::tasks(work);
-    let l = sheet::tables::links(work);
-    let limit = sheet::tables::limit(work);
-    judgement(sheet, bundle, &mut work[16..], p, n, l, limit)
+    let v = messages::view::of_tables(work);
+    judgement(sheet, bundle, &mut work[BOARD..], v)
 }

@@ -6,6 +6,7 @@ use mathlib.Core.List.{List}
 use native.Mathlib.Omega.{arith}
 use native.Mathlib.Decide.{ℕ-discrete}
 use borrow.Author.Tests.{lt-ltb}
+use Rattle.workspace.specs.Area.{levelsAt, openedAt}
 use Rattle.folds.specs.Folds.{sum}
 use Rattle.folds.proofs.Laws.{sum-zeros, sum-mono}
 use Rattle.sheet.specs.Sheet.{Sheet, taskCount, linkCount, sourceOf, targetOf}
@@ -93,9 +94,9 @@ find-goes {w} {w₁} {w₂} h d b =
 
 pub levels-free : {w w₁ w₂ : List ℕ} {k n : ℕ} → Held w → Rechained Target w w₁ × Chained Target (sheetIn w) w₁ → Outside w₁ w₂ × Peeled (sheetIn w₁) k k 0 0 w₂ → n ≡ taskCount (sheetIn w₂) → k ≡ n → LevelsAre w w₂ Nothing
 levels-free {w} {w₁} {w₂} {k} {n} h c d e q =
-    let b : Only 2320 4368 w w₁ = only-kept (c .0 .only) in
+    let b : Only levelsAt openedAt w w₁ = only-kept (c .0 .only) in
     let same : sheetIn w₁ ≡ sheetIn w = kept-sheet h b in
-    let kept : Only 2320 4368 w w₂ = only-trans b (d .0 .kept) in
+    let kept : Only levelsAt openedAt w w₂ = only-trans b (d .0 .kept) in
     let p : Peeled (sheetIn w) k k 0 0 w₂ = subst (λ (s : Sheet). Peeled s k k 0 0 w₂) same (d .1) in
     let all : k ≡ taskCount (sheetIn w) = q ∙ e ∙ ap taskCount (kept-sheet h kept) in
     record {
@@ -106,9 +107,9 @@ levels-free {w} {w₁} {w₂} {k} {n} h c d e q =
 
 pub levels-found : {w w₁ w₂ w₃ : List ℕ} {k n : ℕ} {r : Found} → Held w → Rechained Target w w₁ → Outside w₁ w₂ × Peeled (sheetIn w₁) k k 0 0 w₂ → n ≡ taskCount (sheetIn w₂) → (k ≡ n → ⊥) → Outside w₂ w₃ × (foundOf r ≡ circle (sheetIn w₂)) → LevelsAre w w₃ r
 levels-found {w} {w₁} {w₂} {w₃} {k} {n} {r} h o d e q t =
-    let b : Only 2320 4368 w w₁ = only-kept (o .only) in
+    let b : Only levelsAt openedAt w w₁ = only-kept (o .only) in
     let same : sheetIn w₁ ≡ sheetIn w = kept-sheet h b in
-    let kept : Only 2320 4368 w w₂ = only-trans b (d .0 .kept) in
+    let kept : Only levelsAt openedAt w w₂ = only-trans b (d .0 .kept) in
     let same₂ : sheetIn w₂ ≡ sheetIn w = kept-sheet h kept in
     let p : Peeled (sheetIn w) k k 0 0 w₂ = subst (λ (s : Sheet). Peeled s k k 0 0 w₂) same (d .1) in
     record {

@@ -9,7 +9,7 @@ use native.Mathlib.Omega.{arith}
 use native.Mathlib.Decide.{decLt, ℕ-discrete}
 use borrow.Author.Tests.{lt-ltb}
 use lib.ListN.{length, getD, set}
-use Rattle.workspace.specs.Area.{fixed}
+use Rattle.workspace.specs.Area.{fixed, marksAt, queueAt}
 use Rattle.folds.specs.Folds.{first}
 use Rattle.folds.proofs.Laws.{first-found, first-none}
 use Rattle.folds.proofs.Loops.{first-passed, first-at}
@@ -32,7 +32,7 @@ use Rattle.peeling.proofs.Starts.{queued-none, done-none}
 use Rattle.peeling.proofs.Turns.{chain-here}
 
 -- a task is noted
-module _ (w : List ℕ) (h : Held w) (k u : ℕ) (u-in : u < taskCount (sheetIn w)) (q : Queued (taskCount (sheetIn w)) k w) {x : ℕ} (x-is : x ≡ getD w (3856 + u) 0) where
+module _ (w : List ℕ) (h : Held w) (k u : ℕ) (u-in : u < taskCount (sheetIn w)) (q : Queued (taskCount (sheetIn w)) k w) {x : ℕ} (x-is : x ≡ getD w (marksAt + u) 0) where
   pub note-stays : 65536 ≤ x → Outside w w × Noted (taskCount (sheetIn w)) k u k w w
   note-stays l =
       let here : placeIn w u < 256 = place-in w u (rw x-is at l) in
@@ -204,18 +204,18 @@ spread-ends {w₀} {w} {goal} {v} {k} {l} h p g =
         let e = q .early in
         let here = q .here in
         let few = h .few-tasks in
-        sym (q .search .queued .back t a (omega arith)) ∙ ap (λ (z : ℕ). getD w (4112 + z) 0) (x ∙ sym here) ∙ q .search .queued .back v (q .task) (omega arith)
+        sym (q .search .queued .back t a (omega arith)) ∙ ap (λ (z : ℕ). getD w (queueAt + z) 0) (x ∙ sym here) ∙ q .search .queued .back v (q .task) (omega arith)
 
 -- the search begins with the goal alone
 pub emptied-none : (w : List ℕ) → Emptied 0 w
 emptied-none w = record { at = λ t h. absurd (omega arith) }
 
-pub emptied-more : {w : List ℕ} (t : ℕ) → 3856 + t < length w → Emptied t w → Emptied (t + 1) (set w (3856 + t) 0)
+pub emptied-more : {w : List ℕ} (t : ℕ) → marksAt + t < length w → Emptied t w → Emptied (t + 1) (set w (marksAt + t) 0)
 emptied-more {w} t h d = record { at = λ u k. go u k (ℕ-discrete u t) }
   where
-    go : (u : ℕ) → u < t + 1 → Dec (u ≡ t) → placeIn (set w (3856 + t) 0) u ≡ 256
+    go : (u : ℕ) → u < t + 1 → Dec (u ≡ t) → placeIn (set w (marksAt + t) 0) u ≡ 256
     go u k (yes e) = rw e (place-none w t h 0 (omega arith))
-    go u k (no e) = place-far w (3856 + t) 0 u (λ x. e (omega arith)) ∙ d .at u (omega arith)
+    go u k (no e) = place-far w (marksAt + t) 0 u (λ x. e (omega arith)) ∙ d .at u (omega arith)
 
 pub emptied-at : {n t : ℕ} {w : List ℕ} → Emptied t w → t ≡ n → Emptied n w
 emptied-at {n} {t} {w} d e = subst (λ (x : ℕ). Emptied x w) e d
@@ -241,7 +241,7 @@ search-starts {s} {goal} {w} {w′} few long g blank e =
     )
 
 -- the next task of the queue
-module _ (s : Sheet) (w : List ℕ) (goal i k : ℕ) (p : Searched s goal i k w) (left : i < k) {v : ℕ} (v-is : v ≡ getD w (4112 + i) 0) where
+module _ (s : Sheet) (w : List ℕ) (goal i k : ℕ) (p : Searched s goal i k w) (left : i < k) {v : ℕ} (v-is : v ≡ getD w (queueAt + i) 0) where
   pub search-next : Spreading s goal (placeIn w v) k 0 v w × (placeIn w v ≡ i)
   search-next =
       let here : placeIn w v ≡ i = ap (placeIn w) v-is ∙ p .search .queued .place i left in (

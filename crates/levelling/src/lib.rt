@@ -9,7 +9,7 @@ use words::Found;
 pub mod open;
 mod search;
 
-// The lowest task on a circle (10), or, where there is none, the level of each task in the words from 2320 on.
+// The lowest task on a circle (10), or, where there is none, the level of each task in its word.
 // Takes time in proportion to tasks and links where there is no circle.
 pub fn levels(w: &mut [u32]) -> Found
     requires { ⌜ Loaded (now w) ⌝ }

@@ -14,6 +14,8 @@ use chains::End;
 use peeling::queue;
 use sheet::tables;
 use words::Found;
+use workspace::MARKS;
+use workspace::QUEUE;
 
 // A circle through the goal was closed, or the queue has so many tasks.
 pub enum Spread {
@@ -28,7 +30,7 @@ fn note(w: &mut [u32], k: usize, u: usize) -> usize
     requires { ⌜ Queued (taskCount (sheetIn (now w))) k (now w) ⌝ }
     ensures { λ r. ⌜ Outside (now (w .entry)) (now (w .exit)) × Noted (taskCount (sheetIn (now (w .entry)))) k u r (now (w .entry)) (now (w .exit)) ⌝ }
 {
-    if 65536 <= workspace::word(w, 3856 + u) {
+    if 65536 <= workspace::word(w, MARKS + u) {
         return k;
     }
     queue::push(w, k, u);
@@ -64,7 +66,7 @@ fn look(w: &mut [u32], goal: usize, i: usize, k: usize) -> Spread
     requires { ⌜ Searched (sheetIn (now w)) goal i k (now w) ⌝ }
     ensures { λ r. ⌜ Outside (now (w .entry)) (now (w .exit)) × SpreadIs (sheetIn (now (w .entry))) goal (i + 1) (now (w .exit)) r ⌝ }
 {
-    let v = workspace::word(w, 4112 + i);
+    let v = workspace::word(w, QUEUE + i);
     walk_into(w, goal, k, v)
 }
 
@@ -99,7 +101,7 @@ fn empty(w: &mut [u32])
     let n = tables::tasks(w);
     let mut t: usize = 0;
     while t < n {
-        w[3856 + t] = 0;
+        w[MARKS + t] = 0;
         t += 1;
     }
 }

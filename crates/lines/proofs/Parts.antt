@@ -4,6 +4,7 @@ use mathlib.Core.Path.{_≡_, sym, ap, ap₂}
 use mathlib.Core.List.{List, _++_, append-assoc}
 use native.Mathlib.Omega.{arith}
 use lib.ListN.{length, getD, length-append}
+use Rattle.workspace.specs.Area.{finishesAt}
 use Rattle.folds.specs.Folds.{gather}
 use Rattle.folds.proofs.Lists.{gather-part}
 use Rattle.folds.proofs.Loops.{gather-zero, gather-one}
@@ -143,8 +144,8 @@ module _ (w : List ℕ) (loaded : Loaded w) (standing : Standing (sheetIn w) (sc
         task-length (scheduleIn w) t,
         decimal-short 2 t (omega (arith, ranged w loaded .few-tasks)),
         decimal-short 1 (placeOf (scheduleIn w) t) (omega (arith, standing .places t h)),
-        decimal-short 9 (startOf (scheduleIn w) t) (omega (arith, start-in w t h, words (4112 + t))),
-        decimal-short 9 (finishOf (scheduleIn w) t) (omega (arith, finish-in w t h, words (4112 + t))),
+        decimal-short 9 (startOf (scheduleIn w) t) (omega (arith, start-in w t h, words (finishesAt + t))),
+        decimal-short 9 (finishOf (scheduleIn w) t) (omega (arith, finish-in w t h, words (finishesAt + t))),
       )
 
   pub schedule-most : length (scheduleLines (sheetIn w) (scheduleIn w)) ≤ 29 * (taskCount (sheetIn w) + 1)

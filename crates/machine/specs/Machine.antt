@@ -5,7 +5,8 @@ use mathlib.Core.Option.{Option, none, some}
 use mathlib.Core.List.{List}
 use lib.ListN.{getD, set, replicate, getElem?}
 use Rattle.folds.specs.Folds.{then}
-use Rattle.sheet.specs.Sheet.{Sheet, workOf, costOf, linkCount}
+use Rattle.sheet.specs.Sheet.{Sheet, workOf, linkCount}
+use Rattle.sheet.specs.Times.{linkTime}
 use Rattle.bundle.specs.Bundle.{Command, run, send, receive, Bundle, programmeCount, programmeOf}
 use Rattle.messages.specs.Counting.{need}
 
@@ -41,29 +42,39 @@ waits σ (run t) = some 0
 waits σ (send l) = some 0
 waits σ (receive l) = stampOf σ l
 
--- what a command adds to the clock
-abbrev pub takes : Sheet → Command → ℕ
-takes s (run t) = workOf s t
-takes s (send l) = 0
-takes s (receive l) = 0
+-- the stated time of a command of processor k: a run's work, the time that a send's message is under way, a receive's unpacking
+unfoldable pub stated : Sheet → Bundle → ℕ → Command → ℕ
+stated s b k (run t) = workOf s t
+stated s b k (send l) = linkTime s l
+stated s b k (receive l) = 0
 
--- the processor p after the command c, which waited for the time w
-abbrev pub after : Sheet → Command → ℕ → Processor → Processor
-after s c w p = record { clock = max (p .clock) w + takes s c; position = suc (p .position); store = p .store + need s c }
+-- what a command of the time d adds to the clock: a message is under way while its sender goes on
+abbrev pub takes : Command → ℕ → ℕ
+takes (run t) d = d
+takes (send l) d = 0
+takes (receive l) d = d
 
--- the stamps after the command c at the clock t: "send stamps the message with clock + cost"
-abbrev pub posted : Sheet → Command → ℕ → List (Option ℕ) → List (Option ℕ)
-posted s (run u) t m = m
-posted s (send l) t m = set m l (some (t + costOf s l))
-posted s (receive l) t m = m
+-- the processor p after the command c of the time d, which waited for the time w
+abbrev pub after : Sheet → Command → ℕ → ℕ → Processor → Processor
+after s c d w p = record { clock = max (p .clock) w + takes c d; position = suc (p .position); store = p .store + need s c }
 
-abbrev pub moved : Sheet → State → ℕ → Command → ℕ → State
-moved s σ k c w =
-    record { processors = set (σ .processors) k (after s c w (processorOf σ k)); stamps = posted s c (processorOf σ k .clock) (σ .stamps) }
+-- the stamps after the command c, whose message, if it sends one, arrives at the time t: "send stamps the message with clock + cost"
+abbrev pub posted : Command → ℕ → List (Option ℕ) → List (Option ℕ)
+posted (run u) t m = m
+posted (send l) t m = set m l (some t)
+posted (receive l) t m = m
 
--- the state after one command of processor k; none where it cannot step, or names no programme
+abbrev pub moved : Sheet → State → ℕ → Command → ℕ → ℕ → State
+moved s σ k c d w =
+    record { processors = set (σ .processors) k (after s c d w (processorOf σ k)); stamps = posted c (processorOf σ k .clock + d) (σ .stamps) }
+
+-- the state after one command of processor k, where commands take the times that `time` gives; none where it cannot step, or names no programme
+unfoldable pub stepIn : Sheet → Bundle → (ℕ → Command → ℕ) → State → ℕ → Option State
+stepIn s b time σ k = then (next b σ k) (λ c. then (waits σ c) (λ w. some (moved s σ k c (time k c) w)))
+
+-- with the stated times
 unfoldable pub step : Sheet → Bundle → State → ℕ → Option State
-step s b σ k = then (next b σ k) (λ c. then (waits σ c) (λ w. some (moved s σ k c w)))
+step s b σ k = stepIn s b (stated s b) σ k
 
 abbrev pub holdsSome : {X : Type 0} → Option X → Bool
 holdsSome none = false

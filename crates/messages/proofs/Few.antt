@@ -2,17 +2,16 @@
 use Prim.Native.Nat.{ℕ, zero, suc, _+_, _*_, _<_, _≤_}
 use mathlib.Core.Path.{_≡_, refl, sym, _∙_}
 use mathlib.Core.Bool.{Bool, true, false}
-use mathlib.Core.Option.{none}
 use mathlib.Core.List.{List, [], _∷_}
 use native.Mathlib.Omega.{arith}
-use borrow.Author.Tests.{eqb-true, not-false, le-ltb}
+use borrow.Author.Tests.{eqb-true, not-false}
 use lib.ListN.{length, getD}
 use lib.Dec.{eqb}
 use Rattle.folds.specs.Folds.{sum, pick}
 use Rattle.folds.specs.Answers.{value}
 use Rattle.folds.proofs.Tests.{both-parts}
-use Rattle.folds.proofs.Laws.{sum-front, sum-cong, sum-add, sum-le, sum-mono, sum-swap, term-le-sum, first-none, none-first}
-use Rattle.numbers.specs.Number.{Bytes, numberAt}
+use Rattle.folds.proofs.Laws.{sum-front, sum-cong, sum-add, sum-le, sum-mono, sum-swap, term-le-sum, first-none}
+use Rattle.numbers.specs.Number.{Bytes}
 use Rattle.sheet.specs.Sheet.{Sheet, taskCount, linkCount, sourceOf, targetOf}
 use Rattle.bundle.specs.Bundle.{Bundle, Command, run, send, receive, programmeCount, programmeOf}
 use Rattle.bundle.specs.Format.{readBundle}
@@ -20,9 +19,8 @@ use Rattle.bundle.specs.Fits.{Known, Each}
 use Rattle.bundle.specs.Counts.{commandsIn, commandCount}
 use Rattle.bundle.specs.Lies.{sizeOf, Lies, over, more}
 use Rattle.bundle.proofs.Rounds.{read-formed}
-use Rattle.messages.specs.Counting.{weigh, wholeOf, whole, each, is, need}
-use Rattle.messages.specs.Fields.{Fields}
-use Rattle.messages.specs.Messages.{home, insideOk, acrossOk, linkOk, wrongMessage, overStore, at27, at28, Published}
+use Rattle.messages.specs.Counting.{weigh, wholeOf, whole, each, is}
+use Rattle.messages.specs.Messages.{home, insideOk, acrossOk, linkOk, wrongMessage, at27, Published}
 use Rattle.messages.proofs.Weights.{weigh-each, is-refl}
 use Rattle.messages.proofs.Messages.{run-once}
 use Rattle.messages.proofs.Rows.{Rows, claims, opens, rows}
@@ -93,32 +91,6 @@ module _ (s : Sheet) (b : Bundle) (p : Published s b) where
         sum-le (linkCount s) 1 (λ x. whole b (is (send x))) (λ x h. both-one x h .0),
         sum-le (linkCount s) 1 (λ x. whole b (is (receive x))) (λ x h. both-one x h .1),
       )
-
-  -- a limit of 65,535 for each of these is never exceeded
-  module _ (sheet : List ℕ) (f : Fields s sheet) (bytes : Bytes sheet) (known : Each (Each (Known s)) (b .programmes)) where
-    need-most : (c : Command) → Known s c → need s c ≤ 65535
-    unfolding numberAt
-    need-most (run x) h = omega (arith, f .store x h, bytes (9 + 5 * x), bytes (suc (9 + 5 * x)))
-    need-most (send x) h = omega arith
-    need-most (receive x) h = omega (arith, f .bytes x h, bytes (11 + 5 * taskCount s + 7 * x), bytes (suc (11 + 5 * taskCount s + 7 * x)))
-
-    weigh-most : (p : List Command) → Each (Known s) p → weigh (need s) p ≤ 65535 * weigh each p
-    unfolding weigh
-    weigh-most [] h = omega arith
-    weigh-most (c ∷ p) h = omega (arith, need-most c (h .0), weigh-most p (h .1))
-
-    pub never-over : 65535 * (taskCount s + 2 * linkCount s) ≤ s .limit → at28 s b ≡ none
-    unfolding at28 overStore whole wholeOf programmeCount programmeOf
-    never-over large =
-        none-first (programmeCount b) (overStore s b)
-        (λ k h.
-        le-ltb (s .limit) (wholeOf b (need s) k)
-        (omega (
-          arith,
-          weigh-most (programmeOf b k) (each-at (Each (Known s)) [] (b .programmes) k known h),
-          term-le-sum (programmeCount b) (wholeOf b each) k h,
-          few-commands known,
-        )))
 
 -- the bytes of commands, at most three each
 lies-long : {t l : ℕ} {b : List ℕ} {o e : ℕ} {p : List Command} → Lies t l b o e p → e ≤ o + 3 * length p

@@ -8,7 +8,6 @@ pub mod Rows
 pub mod Noted
 pub mod Places
 pub mod Ruled
-pub mod Needs
 pub mod Few
 pub mod Admits
 pub mod Written

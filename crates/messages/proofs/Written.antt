@@ -1,9 +1,9 @@
 -- The numbers of a sheet lie in its bytes where `Fields` says.
-use Prim.Native.Nat.{ℕ, zero, suc, _+_, _*_, _<_}
+use Prim.Native.Nat.{ℕ, zero, suc, _+_, _*_, _≤_, _<_}
 use mathlib.Core.Path.{_≡_, refl, _∙_, subst}
 use mathlib.Core.List.{List, [], _∷_, _++_}
 use native.Mathlib.Omega.{arith}
-use lib.ListN.{length, getD}
+use lib.ListN.{length, getD, length-append}
 use lib.Seq.{getD-append-add}
 use Rattle.numbers.specs.Number.{numberAt, numberBytes}
 use Rattle.numbers.proofs.Laws.{numberAt-append, number-of-bytes}
@@ -13,7 +13,8 @@ use Rattle.sheet.specs.Format.{readForm}
 use Rattle.sheet.specs.Tables.{Ranged}
 use Rattle.sheet.specs.Writing.{boardBytes, taskCommand, linkCommand, taskBytes, linkBytes, sheetBytes}
 use Rattle.sheet.proofs.Rounds.{bytes-again, read-ranged, task-bytes-length}
-use Rattle.messages.specs.Fields.{Fields}
+use Rattle.messages.specs.Fields.{workAt, storeAt, sourceAt, targetAt, costAt, bytesAt, Fields}
+use Rattle.messages.specs.Views.{frontOf}
 
 -- a number behind some bytes, and one byte
 module _ (p b : List ℕ) (i j : ℕ) (e : j ≡ length p + i) where
@@ -58,6 +59,10 @@ bytes-at [] r l h g = absurd (omega arith)
 bytes-at (x ∷ ls) r zero h g = number-behind (0x45 ∷ x .source ∷ x .target ∷ numberBytes 2 (x .cost)) (linkBytes ls ++ r) (x .bytes) (5 + 7 * 0) (omega arith) g
 bytes-at (x ∷ ls) r (suc l) h g = behind (linkCommand x) (linkBytes ls ++ r) (5 + 7 * l) (5 + 7 * suc l) (omega arith) ∙ bytes-at ls r l (omega arith) g
 
+link-bytes-length : (ls : List Link) → length (linkBytes ls) ≡ 7 * length ls
+link-bytes-length [] = refl
+link-bytes-length (l ∷ ls) = omega (arith, link-bytes-length ls)
+
 module _ (s : Sheet) where
   abbrev front : List ℕ
   front = boardBytes (s .processors) (s .limit)
@@ -82,18 +87,34 @@ module _ (s : Sheet) where
       byte-behind front (taskBytes (s .tasks) ++ tail) (length (taskBytes (s .tasks)) + i) j (omega (arith, task-bytes-length (s .tasks))) ∙
       byte-behind (taskBytes (s .tasks)) tail i (length (taskBytes (s .tasks)) + i) refl
 
-  pub written-fields : Ranged s → Fields s (sheetBytes s)
+  -- the links end inside
+  sheet-long : frontOf + 5 * taskCount s + 7 * linkCount s ≤ length (sheetBytes s)
+  unfolding sheetBytes taskCount linkCount
+  sheet-long =
+      omega (
+        arith,
+        length-append front (taskBytes (s .tasks) ++ tail),
+        length-append (taskBytes (s .tasks)) tail,
+        length-append (linkBytes (s .links)) (0x51 ∷ []),
+        task-bytes-length (s .tasks),
+        link-bytes-length (s .links),
+      )
+
+  pub written-fields : Ranged s → Fields s (sheetBytes s) frontOf (frontOf + 5 * taskCount s)
   unfolding taskCount linkCount workOf storeOf sourceOf targetOf costOf bytesOf
   written-fields h =
       record {
-        work = λ t l. past-board (1 + 5 * t) (7 + 5 * t) (omega arith) ∙ work-at (s .tasks) tail t l (h .works t l);
-        store = λ t l. past-board (3 + 5 * t) (9 + 5 * t) (omega arith) ∙ store-at (s .tasks) tail t l (h .stores t l);
-        source = λ i l. byte-past-tasks (1 + 7 * i) (7 + 5 * taskCount s + 7 * i) (omega arith) ∙ source-at (s .links) (0x51 ∷ []) i l;
-        target = λ i l. byte-past-tasks (2 + 7 * i) (8 + 5 * taskCount s + 7 * i) (omega arith) ∙ target-at (s .links) (0x51 ∷ []) i l;
-        cost = λ i l. past-tasks (3 + 7 * i) (9 + 5 * taskCount s + 7 * i) (omega arith) ∙ cost-at (s .links) (0x51 ∷ []) i l (h .costs i l);
-        bytes = λ i l. past-tasks (5 + 7 * i) (11 + 5 * taskCount s + 7 * i) (omega arith) ∙ bytes-at (s .links) (0x51 ∷ []) i l (h .sizes i l);
+        behind = refl;
+        inside = sheet-long;
+        work = λ t l. past-board (1 + 5 * t) (workAt frontOf t) (omega arith) ∙ work-at (s .tasks) tail t l (h .works t l);
+        store = λ t l. past-board (3 + 5 * t) (storeAt frontOf t) (omega arith) ∙ store-at (s .tasks) tail t l (h .stores t l);
+        source = λ i l. byte-past-tasks (1 + 7 * i) (sourceAt (frontOf + 5 * taskCount s) i) (omega arith) ∙ source-at (s .links) (0x51 ∷ []) i l;
+        target = λ i l. byte-past-tasks (2 + 7 * i) (targetAt (frontOf + 5 * taskCount s) i) (omega arith) ∙ target-at (s .links) (0x51 ∷ []) i l;
+        cost = λ i l. past-tasks (3 + 7 * i) (costAt (frontOf + 5 * taskCount s) i) (omega arith) ∙ cost-at (s .links) (0x51 ∷ []) i l (h .costs i l);
+        bytes = λ i l. past-tasks (5 + 7 * i) (bytesAt (frontOf + 5 * taskCount s) i) (omega arith) ∙ bytes-at (s .links) (0x51 ∷ []) i l (h .sizes i l);
       }
 
 -- so they do in any bytes that a sheet was read from
-pub fields-read : (b : List ℕ) (s : Sheet) → ((k : ℕ) → getD b k 0 < 256) → readForm b ≡ value s → Fields s b
-fields-read b s small h = subst (Fields s) (bytes-again b s small h) (written-fields s (read-ranged b s small h .ranged))
+pub fields-read : (b : List ℕ) (s : Sheet) → ((k : ℕ) → getD b k 0 < 256) → readForm b ≡ value s → Fields s b frontOf (frontOf + 5 * taskCount s)
+fields-read b s small h =
+    subst (λ (x : List ℕ). Fields s x frontOf (frontOf + 5 * taskCount s)) (bytes-again b s small h) (written-fields s (read-ranged b s small h .ranged))

@@ -2,7 +2,7 @@
 pub mod Counting
 pub mod Messages
 pub mod Fields
+pub mod Views
 pub mod Notes
 pub mod Rules
-pub mod Stores
 pub mod Admitted

@@ -1,9 +1,12 @@
 // 26 and 27, by the notes of a bundle's commands.
 ghost use mathlib.Core.Path.{_≡_};
-ghost use Prim.Native.Nat.{_+_, _≤_, _<_};
+ghost use Prim.Native.Nat.{_≤_, _<_};
 ghost use lib.ListN.{length};
-ghost use Rattle.messages.specs.Notes.{ahead, insideBy, acrossBy};
+ghost use Rattle.messages.specs.Fields.{Bounded};
+ghost use Rattle.messages.specs.Notes.{slotsEnd, ahead, insideBy, acrossBy};
 ghost use Rattle.messages.specs.Rules.{OnceIs, LinkIs, MessageIs};
+use crate::notes::NOTES;
+use crate::view::View;
 use words::Found;
 
 // 26: the lowest of n tasks that does not run just once.
@@ -13,7 +16,7 @@ pub fn not_once(w: &[u32], n: usize) -> Found
 {
     let mut t = 0;
     while t < n {
-        if words::word(w, 2048 + t) < 2 {
+        if words::word(w, NOTES + t) < 2 {
             return Found::At(t);
         }
         t += 1;
@@ -60,31 +63,31 @@ fn across(a: usize, t: usize, sent: usize, got: usize) -> bool
     false
 }
 
-// Whether the messages of link l are as they should be, behind n tasks.
-fn link_ok(sheet: &[u8], w: &[u32], n: usize, l: usize) -> bool
-    requires { ⌜ (n < 65536) × (l < 1024) × (4352 ≤ length (now w)) ⌝ }
-    ensures { λ r. ⌜ LinkIs (now (sheet .entry)) (now (w .entry)) n l r ⌝ }
+// Whether the messages of link l are as they should be.
+fn link_ok(sheet: &[u8], w: &[u32], v: View, l: usize) -> bool
+    requires { ⌜ Bounded v × (l < 1024) × (slotsEnd ≤ length (now w)) ⌝ }
+    ensures { λ r. ⌜ LinkIs (now (sheet .entry)) (now (w .entry)) v l r ⌝ }
 {
-    let source = words::byte(sheet, 7 + 5 * n + 7 * l);
-    let target = words::byte(sheet, 8 + 5 * n + 7 * l);
-    let a = workspace::word(w, 2048 + source);
-    let t = workspace::word(w, 2048 + target);
-    let sent = workspace::word(w, 2048 + (256 + l));
-    let got = workspace::word(w, 2048 + (1280 + l));
+    let source = words::byte(sheet, v.source_at(l));
+    let target = words::byte(sheet, v.target_at(l));
+    let a = workspace::word(w, NOTES + source);
+    let t = workspace::word(w, NOTES + target);
+    let sent = workspace::word(w, NOTES + (256 + l));
+    let got = workspace::word(w, NOTES + (1280 + l));
     if a / 4096 == t / 4096 {
         return inside(a, t, sent, got);
     }
     across(a, t, sent, got)
 }
 
-// 27: the lowest of m links, behind n tasks, whose messages are not as they should be.
-pub fn wrong_message(sheet: &[u8], w: &[u32], n: usize, m: usize) -> Found
-    requires { ⌜ (n < 65536) × (m ≤ 1024) × (4352 ≤ length (now w)) ⌝ }
-    ensures { λ r. ⌜ MessageIs (now (sheet .entry)) (now (w .entry)) n m r ⌝ }
+// 27: the lowest link whose messages are not as they should be.
+pub fn wrong_message(sheet: &[u8], w: &[u32], v: View) -> Found
+    requires { ⌜ Bounded v × (slotsEnd ≤ length (now w)) ⌝ }
+    ensures { λ r. ⌜ MessageIs (now (sheet .entry)) (now (w .entry)) v r ⌝ }
 {
     let mut l = 0;
-    while l < m {
-        if link_ok(sheet, w, n, l) {
+    while l < v.links {
+        if link_ok(sheet, w, v, l) {
             l += 1;
         } else {
             return Found::At(l);

@@ -10,7 +10,7 @@ use borrow.Author.Tests.{eq-eqb, ne-eqb}
 use lib.ListN.{length, getD, set, length-set}
 use lib.Seq.{getD-set-same, getD-set-other}
 use lib.Dec.{eqb, ltb}
-use Rattle.workspace.specs.Area.{fixed}
+use Rattle.workspace.specs.Area.{fixed, headsAt, levelsAt, marksAt, queueAt}
 use Rattle.folds.specs.Folds.{pick, bit, both, sum, greatest}
 use Rattle.folds.proofs.Tests.{both-false}
 use Rattle.folds.proofs.Laws.{sum-cong, sum-point, term-le-sum, greatest-cong, greatest-point}
@@ -36,7 +36,7 @@ module _ (s : Sheet) (c : ℕ → Bool) (t l : ℕ) where
   unfolding dueBy
   due-other h = rw (ne-eqb (sourceOf s l) t h)
 
-  gave-lit : (w : List ℕ) → sourceOf s l ≡ t → c l ≡ true → gaveBy s c w t l ≡ costOf s l + getD w (2320 + targetOf s l) 0
+  gave-lit : (w : List ℕ) → sourceOf s l ≡ t → c l ≡ true → gaveBy s c w t l ≡ costOf s l + getD w (levelsAt + targetOf s l) 0
   unfolding gaveBy
   gave-lit w h e = rw (eq-eqb (sourceOf s l) t h, e)
 
@@ -62,7 +62,7 @@ due-cong s c c′ t l e = ap (λ (b : Bool). bit (both (eqb (sourceOf s l) t) (n
 
 gave-cong : (s : Sheet) (c c′ : ℕ → Bool) (w : List ℕ) (t l : ℕ) → c l ≡ c′ l → gaveBy s c w t l ≡ gaveBy s c′ w t l
 unfolding gaveBy
-gave-cong s c c′ w t l e = ap (λ (b : Bool). pick (both (eqb (sourceOf s l) t) b) (costOf s l + getD w (2320 + targetOf s l) 0) 0) e
+gave-cong s c c′ w t l e = ap (λ (b : Bool). pick (both (eqb (sourceOf s l) t) b) (costOf s l + getD w (levelsAt + targetOf s l) 0) 0) e
 
 -- a task whose links are all counted off
 pub due-none : (s : Sheet) (c : ℕ → Bool) (t l : ℕ) → sum (linkCount s) (dueBy s c t) ≡ 0 → l < linkCount s → sourceOf s l ≡ t → c l ≡ true
@@ -73,7 +73,7 @@ due-none s c t l e h p = go (c l) refl
     go false q = absurd (omega (arith, due-unlit s c t l p q, term-le-sum (linkCount s) (dueBy s c t) l h))
 
 -- levels of tasks none of whose successors changed its level
-level-same : (s : Sheet) (w w′ : List ℕ) (t : ℕ) → ((l : ℕ) → l < linkCount s → sourceOf s l ≡ t → getD w′ (2320 + targetOf s l) 0 ≡ getD w (2320 + targetOf s l) 0)
+level-same : (s : Sheet) (w w′ : List ℕ) (t : ℕ) → ((l : ℕ) → l < linkCount s → sourceOf s l ≡ t → getD w′ (levelsAt + targetOf s l) 0 ≡ getD w (levelsAt + targetOf s l) 0)
     → greatest (linkCount s) (levelBy s (levelIn w) t) ≡ greatest (linkCount s) (levelBy s (levelIn w′) t)
 unfolding levelIn
 level-same s w w′ t h = greatest-cong (linkCount s) (levelBy s (levelIn w) t) (levelBy s (levelIn w′) t) (λ l k. go l k (ℕ-discrete (sourceOf s l) t))
@@ -83,7 +83,7 @@ level-same s w w′ t h = greatest-cong (linkCount s) (levelBy s (levelIn w) t) 
     go l k (no e) = level-other s (levelIn w) t l e ∙ sym (level-other s (levelIn w′) t l e)
 
 -- what links gave, where the levels of the targets of those counted off are as they were
-gave-same : (s : Sheet) (c : ℕ → Bool) (w w′ : List ℕ) (t l : ℕ) → (c l ≡ true → getD w′ (2320 + targetOf s l) 0 ≡ getD w (2320 + targetOf s l) 0) → gaveBy s c w t l ≡ gaveBy s c w′ t l
+gave-same : (s : Sheet) (c : ℕ → Bool) (w w′ : List ℕ) (t l : ℕ) → (c l ≡ true → getD w′ (levelsAt + targetOf s l) 0 ≡ getD w (levelsAt + targetOf s l) 0) → gaveBy s c w t l ≡ gaveBy s c w′ t l
 gave-same s c w w′ t l h = go (c l) refl (ℕ-discrete (sourceOf s l) t)
   where
     go : (b : Bool) → c l ≡ b → Dec (sourceOf s l ≡ t) → gaveBy s c w t l ≡ gaveBy s c w′ t l
@@ -91,14 +91,14 @@ gave-same s c w w′ t l h = go (c l) refl (ℕ-discrete (sourceOf s l) t)
     go true q (no e) = gave-other s c t l w e ∙ sym (gave-other s c t l w′ e)
     go false q d = gave-unlit s c t l w q ∙ sym (gave-unlit s c t l w′ q)
 
--- the queue of an area whose words from 4112 on, and whose places, are as they were
-pub queued-same : {n k : ℕ} {w w′ : List ℕ} → ((t : ℕ) → placeIn w′ t ≡ placeIn w t) → ((i : ℕ) → 4112 ≤ i → getD w′ i 0 ≡ getD w i 0) → Queued n k w → Queued n k w′
+-- the queue of an area whose words from the queue on, and whose places, are as they were
+pub queued-same : {n k : ℕ} {w w′ : List ℕ} → ((t : ℕ) → placeIn w′ t ≡ placeIn w t) → ((i : ℕ) → queueAt ≤ i → getD w′ i 0 ≡ getD w i 0) → Queued n k w → Queued n k w′
 unfolding inQueue
 queued-same {n} {k} {w} {w′} place same q =
-    let at : (j : ℕ) → getD w′ (4112 + j) 0 ≡ getD w (4112 + j) 0 = λ j. same (4112 + j) (omega arith) in
+    let at : (j : ℕ) → getD w′ (queueAt + j) 0 ≡ getD w (queueAt + j) 0 = λ j. same (queueAt + j) (omega arith) in
     record {
       task = λ j h. rw (at j) (q .task j h);
-      place = λ j h. rw (at j) (place (getD w (4112 + j) 0) ∙ q .place j h);
+      place = λ j h. rw (at j) (place (getD w (queueAt + j) 0) ∙ q .place j h);
       few = λ t h l. rw (place t) (q .few t h (rw (place t) at l));
       back = λ t h l. rw (place t) (at (placeIn w t) ∙ q .back t h (rw (place t) at l));
       count = q .count ∙ sum-cong n (inQueue w) (inQueue w′) (λ t h. ap (λ (x : ℕ). bit (ltb x 256)) (sym (place t)));
@@ -123,13 +123,13 @@ peel-same {s} {i} {k} {e} {f} {w} c c′ h p =
 module _ (s : Sheet) (w : List ℕ) (declared : Declared s) (few : taskCount s ≤ 256) (long : fixed ≤ length w) where
   -- a link is counted off at its source
   module _ (c c′ : ℕ → Bool) (i k l y d : ℕ) (p : Peel s c i k 0 0 w) (l-in : l < linkCount s) (off : c l ≡ false) (on : c′ l ≡ true)
-      (else : (j : ℕ) → j < linkCount s → j ≢ l → c′ j ≡ c j) (gone : placeIn w (targetOf s l) < i) (small : costOf s l + getD w (2320 + targetOf s l) 0 ≤ 131070 * i)
-      (y-is : y ≡ max (getD w (2320 + sourceOf s l) 0) (costOf s l + getD w (2320 + targetOf s l) 0)) (d-is : d ≡ degreeIn w (sourceOf s l) - 1) where
+      (else : (j : ℕ) → j < linkCount s → j ≢ l → c′ j ≡ c j) (gone : placeIn w (targetOf s l) < i) (small : costOf s l + getD w (levelsAt + targetOf s l) 0 ≤ 131070 * i)
+      (y-is : y ≡ max (getD w (levelsAt + sourceOf s l) 0) (costOf s l + getD w (levelsAt + targetOf s l) 0)) (d-is : d ≡ degreeIn w (sourceOf s l) - 1) where
     abbrev u : ℕ
     u = sourceOf s l
 
     abbrev lit-words : List ℕ
-    lit-words = set (set w (2320 + sourceOf s l) y) (3856 + sourceOf s l) d
+    lit-words = set (set w (levelsAt + sourceOf s l) y) (marksAt + sourceOf s l) d
 
     u-in : u < taskCount s
     u-in = declared .source l l-in
@@ -150,23 +150,23 @@ module _ (s : Sheet) (w : List ℕ) (declared : Declared s) (few : taskCount s �
     few-gone : i ≤ 256
     few-gone = omega (arith, p .early, queued-few (p .queued))
 
-    level-here : getD lit-words (2320 + u) 0 ≡ y
-    level-here = let h = u-in in getD-set-other (set w (2320 + u) y) (3856 + u) (2320 + u) d 0 (omega arith) ∙ getD-set-same w (2320 + u) y 0 (omega arith)
+    level-here : getD lit-words (levelsAt + u) 0 ≡ y
+    level-here = let h = u-in in getD-set-other (set w (levelsAt + u) y) (marksAt + u) (levelsAt + u) d 0 (omega arith) ∙ getD-set-same w (levelsAt + u) y 0 (omega arith)
 
-    level-else : (t : ℕ) → t < taskCount s → t ≢ u → getD lit-words (2320 + t) 0 ≡ getD w (2320 + t) 0
-    level-else t h e = getD-set-other (set w (2320 + u) y) (3856 + u) (2320 + t) d 0 (omega arith) ∙ getD-set-other w (2320 + u) (2320 + t) y 0 (λ x. e (omega arith))
+    level-else : (t : ℕ) → t < taskCount s → t ≢ u → getD lit-words (levelsAt + t) 0 ≡ getD w (levelsAt + t) 0
+    level-else t h e = getD-set-other (set w (levelsAt + u) y) (marksAt + u) (levelsAt + t) d 0 (omega arith) ∙ getD-set-other w (levelsAt + u) (levelsAt + t) y 0 (λ x. e (omega arith))
 
     d-short : d < 65536
     d-short = omega (arith, degree-short w u)
 
     pub light-degree : degreeIn lit-words (sourceOf s l) ≡ d
-    light-degree = let h = u-in in degree-put (set w (2320 + u) y) u (simp length-set (omega arith)) d d-short
+    light-degree = let h = u-in in degree-put (set w (levelsAt + u) y) u (simp length-set (omega arith)) d d-short
 
     degree-else : (t : ℕ) → t ≢ u → degreeIn lit-words t ≡ degreeIn w t
-    degree-else t e = let h = u-in in degree-far (set w (2320 + u) y) (3856 + u) d t (λ x. e (omega arith)) ∙ degree-far w (2320 + u) y t (omega arith)
+    degree-else t e = let h = u-in in degree-far (set w (levelsAt + u) y) (marksAt + u) d t (λ x. e (omega arith)) ∙ degree-far w (levelsAt + u) y t (omega arith)
 
-    light-high : (j : ℕ) → 4112 ≤ j → getD lit-words j 0 ≡ getD w j 0
-    light-high j h = let g = u-in in getD-set-other (set w (2320 + u) y) (3856 + u) j d 0 (omega arith) ∙ getD-set-other w (2320 + u) j y 0 (omega arith)
+    light-high : (j : ℕ) → queueAt ≤ j → getD lit-words j 0 ≡ getD w j 0
+    light-high j h = let g = u-in in getD-set-other (set w (levelsAt + u) y) (marksAt + u) j d 0 (omega arith) ∙ getD-set-other w (levelsAt + u) j y 0 (omega arith)
 
     pub light-place : (t : ℕ) → placeIn lit-words t ≡ placeIn w t
     light-place t = go (ℕ-discrete t u)
@@ -174,10 +174,10 @@ module _ (s : Sheet) (w : List ℕ) (declared : Declared s) (few : taskCount s �
         go : Dec (t ≡ u) → placeIn lit-words t ≡ placeIn w t
         go (yes e) =
             let h = u-in in
-            rw e (place-none (set w (2320 + u) y) u (simp length-set (omega arith)) d d-short ∙ omega (arith, place-le w u, light-free))
-        go (no e) = let h = u-in in place-far (set w (2320 + u) y) (3856 + u) d t (λ x. e (omega arith)) ∙ place-far w (2320 + u) y t (omega arith)
+            rw e (place-none (set w (levelsAt + u) y) u (simp length-set (omega arith)) d d-short ∙ omega (arith, place-le w u, light-free))
+        go (no e) = let h = u-in in place-far (set w (levelsAt + u) y) (marksAt + u) d t (λ x. e (omega arith)) ∙ place-far w (levelsAt + u) y t (omega arith)
 
-    pub light-level : (t : ℕ) → t < taskCount s → placeIn w t < 256 → getD lit-words (2320 + t) 0 ≡ getD w (2320 + t) 0
+    pub light-level : (t : ℕ) → t < taskCount s → placeIn w t < 256 → getD lit-words (levelsAt + t) 0 ≡ getD w (levelsAt + t) 0
     light-level t h g = level-else t h (not-u t g)
 
     due′ : (t : ℕ) → t < taskCount s → Dec (t ≡ u) → degreeIn lit-words t ≡ sum (linkCount s) (dueBy s c′ t)
@@ -200,14 +200,14 @@ module _ (s : Sheet) (w : List ℕ) (declared : Declared s) (few : taskCount s �
         gave-same s c w lit-words t j (λ x. let z = p .lit j g x in let few′ = few-gone in light-level (targetOf s j) (declared .target j g) (omega arith))
         ∙ gave-cong s c c′ lit-words t j (sym (else j g q))
 
-    gathered′ : (t : ℕ) → t < taskCount s → i ≤ placeIn lit-words t → Dec (t ≡ u) → getD lit-words (2320 + t) 0 ≡ greatest (linkCount s) (gaveBy s c′ lit-words t)
+    gathered′ : (t : ℕ) → t < taskCount s → i ≤ placeIn lit-words t → Dec (t ≡ u) → getD lit-words (levelsAt + t) 0 ≡ greatest (linkCount s) (gaveBy s c′ lit-words t)
     gathered′ t h g (yes e) =
         let few′ = few-gone in
-        let old : getD w (2320 + u) 0 ≡ greatest (linkCount s) (gaveBy s c w u) = p .gathered u u-in (omega (arith, light-free)) in
-        let here : gaveBy s c′ lit-words u l ≡ costOf s l + getD w (2320 + targetOf s l) 0 =
+        let old : getD w (levelsAt + u) 0 ≡ greatest (linkCount s) (gaveBy s c w u) = p .gathered u u-in (omega (arith, light-free)) in
+        let here : gaveBy s c′ lit-words u l ≡ costOf s l + getD w (levelsAt + targetOf s l) 0 =
         gave-lit s c′ u l lit-words refl on ∙ ap (λ (x : ℕ). costOf s l + x) (light-level (targetOf s l) (declared .target l l-in) (omega arith)) in
-        let here′ : gaveBy s c′ lit-words u l ≡ max (gaveBy s c w u l) (costOf s l + getD w (2320 + targetOf s l) 0) = omega (arith, here, gave-unlit s c u l w off) in
-        let all = greatest-point (linkCount s) (gaveBy s c w u) (gaveBy s c′ lit-words u) l (costOf s l + getD w (2320 + targetOf s l) 0) l-in here′ (λ j q r. sym (gave-else u j q r)) in
+        let here′ : gaveBy s c′ lit-words u l ≡ max (gaveBy s c w u l) (costOf s l + getD w (levelsAt + targetOf s l) 0) = omega (arith, here, gave-unlit s c u l w off) in
+        let all = greatest-point (linkCount s) (gaveBy s c w u) (gaveBy s c′ lit-words u) l (costOf s l + getD w (levelsAt + targetOf s l) 0) l-in here′ (λ j q r. sym (gave-else u j q r)) in
         rw e (level-here ∙ y-is ∙ omega arith)
     gathered′ t h g (no e) =
         level-else t h e ∙ p .gathered t h (omega (arith, light-place t)) ∙ greatest-cong (linkCount s) (gaveBy s c w t) (gaveBy s c′ lit-words t) (λ j q. go j q (ℕ-discrete j l))
@@ -218,7 +218,7 @@ module _ (s : Sheet) (w : List ℕ) (declared : Declared s) (few : taskCount s �
             gave-other s c t j w x ∙ sym (gave-other s c′ t j lit-words x)
         go j q (no r) = gave-else t j q r
 
-    bounded′ : (t : ℕ) → t < taskCount s → Dec (t ≡ u) → getD lit-words (2320 + t) 0 ≤ 131070 * i
+    bounded′ : (t : ℕ) → t < taskCount s → Dec (t ≡ u) → getD lit-words (levelsAt + t) 0 ≤ 131070 * i
     bounded′ t h (yes e) = rw (e, level-here) (omega (arith, p .bounded u u-in))
     bounded′ t h (no e) = rw (level-else t h e) (p .bounded t h)
 
@@ -260,7 +260,7 @@ module _ (s : Sheet) (w : List ℕ) (declared : Declared s) (few : taskCount s �
     else-place : (t : ℕ) → t < taskCount s → t ≢ u → placeIn queue-words t ≡ placeIn w t
     else-place t = push-else (taskCount s) k u w few long u-in free (p .queued) t
 
-    low-words : (j : ℕ) → j < 3856 → getD queue-words j 0 ≡ getD w j 0
+    low-words : (j : ℕ) → j < marksAt → getD queue-words j 0 ≡ getD w j 0
     low-words = push-low (taskCount s) k u w few long u-in free (p .queued)
 
     old-place : (t : ℕ) → t < taskCount s → placeIn w t < 256 → placeIn queue-words t ≡ placeIn w t
@@ -273,8 +273,8 @@ module _ (s : Sheet) (w : List ℕ) (declared : Declared s) (few : taskCount s �
         go (yes q) = let x : placeIn queue-words t ≡ placeIn queue-words u = ap (placeIn queue-words) q in absurd (omega (arith, in-place, p .early))
         go (no q) = omega (arith, else-place t g q)
 
-    level-word : (t : ℕ) → t < taskCount s → getD queue-words (2320 + t) 0 ≡ getD w (2320 + t) 0
-    level-word t h = low-words (2320 + t) (omega arith)
+    level-word : (t : ℕ) → t < taskCount s → getD queue-words (levelsAt + t) 0 ≡ getD w (levelsAt + t) 0
+    level-word t h = low-words (levelsAt + t) (omega arith)
 
     degree-word : (t : ℕ) → t < taskCount s → degreeIn queue-words t ≡ degreeIn w t
     degree-word t h = go (ℕ-discrete t u)
@@ -283,7 +283,7 @@ module _ (s : Sheet) (w : List ℕ) (declared : Declared s) (few : taskCount s �
         go (yes q) = rw q (push-none (taskCount s) k u w few long u-in free (p .queued) ∙ sym none)
         go (no q) = push-due (taskCount s) k u w few long u-in free (p .queued) t h q
 
-    gathered-push : (t : ℕ) → t < taskCount s → i ≤ placeIn queue-words t → Dec (t ≡ u) → getD w (2320 + t) 0 ≡ greatest (linkCount s) (gaveBy s c w t)
+    gathered-push : (t : ℕ) → t < taskCount s → i ≤ placeIn queue-words t → Dec (t ≡ u) → getD w (levelsAt + t) 0 ≡ greatest (linkCount s) (gaveBy s c w t)
     gathered-push t h g (yes q) = let x : placeIn w t ≡ placeIn w u = ap (placeIn w) q in let y = few-k in p .gathered t h (omega (arith, p .early))
     gathered-push t h g (no q) = p .gathered t h (omega (arith, else-place t h q))
 
@@ -325,9 +325,9 @@ module _ (s : Sheet) (w : List ℕ) (declared : Declared s) (few : taskCount s �
         }
 
   -- the next task of the queue is taken off
-  module _ (c : ℕ → Bool) (i k v y : ℕ) (p : Peel s c i k 0 0 w) (left : i < k) (v-is : v ≡ getD w (4112 + i) 0) (y-is : y ≡ workOf s v + getD w (2320 + v) 0) (short : workOf s v ≤ 65535) where
+  module _ (c : ℕ → Bool) (i k v y : ℕ) (p : Peel s c i k 0 0 w) (left : i < k) (v-is : v ≡ getD w (queueAt + i) 0) (y-is : y ≡ workOf s v + getD w (levelsAt + v) 0) (short : workOf s v ≤ 65535) where
     abbrev off-words : List ℕ
-    off-words = set w (2320 + v) y
+    off-words = set w (levelsAt + v) y
 
     pub pop-in : v < taskCount s
     pop-in = rw v-is (p .queued .task i left)
@@ -338,32 +338,32 @@ module _ (s : Sheet) (w : List ℕ) (declared : Declared s) (few : taskCount s �
     pop-few : i < 256
     pop-few = omega (arith, queued-few (p .queued))
 
-    pub pop-high : (j : ℕ) → 2576 ≤ j → getD off-words j 0 ≡ getD w j 0
-    pop-high j h = let g = pop-in in getD-set-other w (2320 + v) j y 0 (omega arith)
+    pub pop-high : (j : ℕ) → headsAt ≤ j → getD off-words j 0 ≡ getD w j 0
+    pop-high j h = let g = pop-in in getD-set-other w (levelsAt + v) j y 0 (omega arith)
 
-    pop-here : getD off-words (2320 + v) 0 ≡ y
-    pop-here = let g = pop-in in getD-set-same w (2320 + v) y 0 (omega arith)
+    pop-here : getD off-words (levelsAt + v) 0 ≡ y
+    pop-here = let g = pop-in in getD-set-same w (levelsAt + v) y 0 (omega arith)
 
-    pop-else : (t : ℕ) → t ≢ v → getD off-words (2320 + t) 0 ≡ getD w (2320 + t) 0
-    pop-else t e = getD-set-other w (2320 + v) (2320 + t) y 0 (λ x. e (omega arith))
+    pop-else : (t : ℕ) → t ≢ v → getD off-words (levelsAt + t) 0 ≡ getD w (levelsAt + t) 0
+    pop-else t e = getD-set-other w (levelsAt + v) (levelsAt + t) y 0 (λ x. e (omega arith))
 
     pub pop-same : (t : ℕ) → placeIn off-words t ≡ placeIn w t
-    pop-same t = place-same w off-words t (pop-high (3856 + t) (omega arith))
+    pop-same t = place-same w off-words t (pop-high (marksAt + t) (omega arith))
 
     pop-due : (t : ℕ) → degreeIn off-words t ≡ degreeIn w t
-    pop-due t = degree-same w off-words t (pop-high (3856 + t) (omega arith))
+    pop-due t = degree-same w off-words t (pop-high (marksAt + t) (omega arith))
 
     not-v : (t : ℕ) → (placeIn w t ≡ i → ⊥) → t ≢ v
     not-v t h e = h (ap (placeIn w) e ∙ pop-place)
 
-    pub pop-own : getD off-words (2320 + v) 0 ≤ 131070 * i + 65535
+    pub pop-own : getD off-words (levelsAt + v) 0 ≤ 131070 * i + 65535
     pop-own = rw pop-here (omega (arith, p .bounded v pop-in))
 
     is-v : (t : ℕ) → t < taskCount s → t ≢ v → placeIn w t < i + 1 → placeIn w t < i
     is-v t h e g = go (ℕ-discrete (placeIn w t) i)
       where
         go : Dec (placeIn w t ≡ i) → placeIn w t < i
-        go (yes q) = absurd (e (sym (p .queued .back t h (omega (arith, pop-few))) ∙ ap (λ (z : ℕ). getD w (4112 + z) 0) q ∙ sym v-is))
+        go (yes q) = absurd (e (sym (p .queued .back t h (omega (arith, pop-few))) ∙ ap (λ (z : ℕ). getD w (queueAt + z) 0) q ∙ sym v-is))
         go (no q) = omega arith
 
     solved-here : y ≡ workOf s v + greatest (linkCount s) (levelBy s (levelIn off-words) v)
@@ -380,7 +380,7 @@ module _ (s : Sheet) (w : List ℕ) (declared : Declared s) (few : taskCount s �
             gave-lit s c v l w q on ∙ sym (level-own s (levelIn off-words) v l q ∙ ap (λ (z : ℕ). costOf s l + z) (pop-else (targetOf s l) (not-v (targetOf s l) (λ r. absurd (omega arith)))))
         go l h (no q) = gave-other s c v l w q ∙ sym (level-other s (levelIn off-words) v l q)
 
-    solved-pop : (t : ℕ) → t < taskCount s → placeIn off-words t < i + 1 → Dec (t ≡ v) → getD off-words (2320 + t) 0 ≡ workOf s t + greatest (linkCount s) (levelBy s (levelIn off-words) t)
+    solved-pop : (t : ℕ) → t < taskCount s → placeIn off-words t < i + 1 → Dec (t ≡ v) → getD off-words (levelsAt + t) 0 ≡ workOf s t + greatest (linkCount s) (levelBy s (levelIn off-words) t)
     solved-pop t h g (yes e) = rw e (pop-here ∙ solved-here)
     solved-pop t h g (no e) =
         let x = is-v t h e (rw (pop-same t) at g) in
@@ -388,7 +388,7 @@ module _ (s : Sheet) (w : List ℕ) (declared : Declared s) (few : taskCount s �
         pop-else t e ∙ p .solved t h x ∙
         ap (λ (z : ℕ). workOf s t + z) (level-same s w off-words t (λ l q r. let a : placeIn w (sourceOf s l) ≡ placeIn w t = ap (placeIn w) r in let b = p .falls l q (omega arith) in pop-else (targetOf s l) (not-v (targetOf s l) (λ z. absurd (omega arith)))))
 
-    bounded-pop : (t : ℕ) → t < taskCount s → Dec (t ≡ v) → getD off-words (2320 + t) 0 ≤ 131070 * (i + 1)
+    bounded-pop : (t : ℕ) → t < taskCount s → Dec (t ≡ v) → getD off-words (levelsAt + t) 0 ≤ 131070 * (i + 1)
     bounded-pop t h (yes e) = rw e (omega (arith, pop-own))
     bounded-pop t h (no e) = rw (pop-else t e) (omega (arith, p .bounded t h))
 

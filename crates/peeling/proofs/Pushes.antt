@@ -9,7 +9,7 @@ use borrow.Author.Tests.{lt-ltb, le-ltb}
 use lib.ListN.{length, getD, set, length-set}
 use lib.Seq.{getD-set-same, getD-set-other}
 use lib.Dec.{ltb}
-use Rattle.workspace.specs.Area.{fixed}
+use Rattle.workspace.specs.Area.{fixed, marksAt, queueAt}
 use Rattle.folds.specs.Folds.{bit}
 use Rattle.folds.proofs.Tests.{bit-le}
 use Rattle.folds.proofs.Laws.{sum-le, sum-point}
@@ -53,44 +53,44 @@ queued-all {n} {k} {w} q e t h = go (decLt (placeIn w t) 256)
 
 module _ (n k u : ℕ) (w : List ℕ) (few : n ≤ 256) (long : fixed ≤ length w) (u-in : u < n) (free : 256 ≤ placeIn w u) (q : Queued n k w) where
   abbrev new : List ℕ
-  new = set (set w (4112 + k) u) (3856 + u) (65536 * (256 - k))
+  new = set (set w (queueAt + k) u) (marksAt + u) (65536 * (256 - k))
 
   room : k < n
   room = queued-room u q u-in free
 
-  queue-here : getD new (4112 + k) 0 ≡ u
-  queue-here = let r = room in getD-set-other (set w (4112 + k) u) (3856 + u) (4112 + k) (65536 * (256 - k)) 0 (omega arith) ∙ getD-set-same w (4112 + k) u 0 (omega arith)
+  queue-here : getD new (queueAt + k) 0 ≡ u
+  queue-here = let r = room in getD-set-other (set w (queueAt + k) u) (marksAt + u) (queueAt + k) (65536 * (256 - k)) 0 (omega arith) ∙ getD-set-same w (queueAt + k) u 0 (omega arith)
 
-  queue-else : (j : ℕ) → j < k → getD new (4112 + j) 0 ≡ getD w (4112 + j) 0
-  queue-else j h = let r = room in getD-set-other (set w (4112 + k) u) (3856 + u) (4112 + j) (65536 * (256 - k)) 0 (omega arith) ∙ getD-set-other w (4112 + k) (4112 + j) u 0 (omega arith)
+  queue-else : (j : ℕ) → j < k → getD new (queueAt + j) 0 ≡ getD w (queueAt + j) 0
+  queue-else j h = let r = room in getD-set-other (set w (queueAt + k) u) (marksAt + u) (queueAt + j) (65536 * (256 - k)) 0 (omega arith) ∙ getD-set-other w (queueAt + k) (queueAt + j) u 0 (omega arith)
 
   place-here : placeIn new u ≡ k
-  place-here = let r = room in place-put (set w (4112 + k) u) u (simp length-set (omega arith)) k (omega arith)
+  place-here = let r = room in place-put (set w (queueAt + k) u) u (simp length-set (omega arith)) k (omega arith)
 
   place-else : (t : ℕ) → t < n → t ≢ u → placeIn new t ≡ placeIn w t
-  place-else t g h = place-far (set w (4112 + k) u) (3856 + u) (65536 * (256 - k)) t (λ x. h (omega arith)) ∙ place-far w (4112 + k) u t (omega arith)
+  place-else t g h = place-far (set w (queueAt + k) u) (marksAt + u) (65536 * (256 - k)) t (λ x. h (omega arith)) ∙ place-far w (queueAt + k) u t (omega arith)
 
-  task′ : (j : ℕ) → j < k + 1 → Dec (j ≡ k) → getD new (4112 + j) 0 < n
+  task′ : (j : ℕ) → j < k + 1 → Dec (j ≡ k) → getD new (queueAt + j) 0 < n
   task′ j h (yes e) = rw (e, queue-here) u-in
   task′ j h (no e) = rw (queue-else j (omega arith)) (q .task j (omega arith))
 
-  place′ : (j : ℕ) → j < k + 1 → Dec (j ≡ k) → placeIn new (getD new (4112 + j) 0) ≡ j
+  place′ : (j : ℕ) → j < k + 1 → Dec (j ≡ k) → placeIn new (getD new (queueAt + j) 0) ≡ j
   place′ j h (yes e) = rw e (ap (placeIn new) queue-here ∙ place-here)
   place′ j h (no e) =
       let r = room in
-      let old : placeIn w (getD w (4112 + j) 0) ≡ j = q .place j (omega arith) in
-      ap (placeIn new) (queue-else j (omega arith)) ∙ place-else (getD w (4112 + j) 0) (q .task j (omega arith)) (apart w (getD w (4112 + j) 0) u (omega arith) free) ∙ old
+      let old : placeIn w (getD w (queueAt + j) 0) ≡ j = q .place j (omega arith) in
+      ap (placeIn new) (queue-else j (omega arith)) ∙ place-else (getD w (queueAt + j) 0) (q .task j (omega arith)) (apart w (getD w (queueAt + j) 0) u (omega arith) free) ∙ old
 
   few′ : (t : ℕ) → t < n → placeIn new t < 256 → Dec (t ≡ u) → placeIn new t < k + 1
   few′ t h l (yes e) = rw (e, place-here) (omega arith)
   few′ t h l (no e) = let p = place-else t h e in omega (arith, q .few t h (omega arith))
 
-  back′ : (t : ℕ) → t < n → placeIn new t < 256 → Dec (t ≡ u) → getD new (4112 + placeIn new t) 0 ≡ t
-  back′ t h l (yes e) = rw e (ap (λ (x : ℕ). getD new (4112 + x) 0) place-here ∙ queue-here)
+  back′ : (t : ℕ) → t < n → placeIn new t < 256 → Dec (t ≡ u) → getD new (queueAt + placeIn new t) 0 ≡ t
+  back′ t h l (yes e) = rw e (ap (λ (x : ℕ). getD new (queueAt + x) 0) place-here ∙ queue-here)
   back′ t h l (no e) =
       let p : placeIn new t ≡ placeIn w t = place-else t h e in
       let f = q .few t h (omega arith) in
-      ap (λ (x : ℕ). getD new (4112 + x) 0) p ∙ queue-else (placeIn w t) f ∙ q .back t h (omega arith)
+      ap (λ (x : ℕ). getD new (queueAt + x) 0) p ∙ queue-else (placeIn w t) f ∙ q .back t h (omega arith)
 
   queue-same : (j : ℕ) → j < n → j ≢ u → inQueue new j ≡ inQueue w j
   unfolding inQueue
@@ -124,16 +124,16 @@ module _ (n k u : ℕ) (w : List ℕ) (few : n ≤ 256) (long : fixed ≤ length
   -- no link out of u is left, and of the others as many as before
   pub push-none : degreeIn (pushed w k u) u ≡ 0
   unfolding pushed
-  push-none = degree-none (set w (4112 + k) u) u (simp length-set (omega arith)) k
+  push-none = degree-none (set w (queueAt + k) u) u (simp length-set (omega arith)) k
 
   pub push-due : (t : ℕ) → t < n → t ≢ u → degreeIn (pushed w k u) t ≡ degreeIn w t
   unfolding pushed
-  push-due t g h = degree-far (set w (4112 + k) u) (3856 + u) (65536 * (256 - k)) t (λ x. h (omega arith)) ∙ degree-far w (4112 + k) u t (omega arith)
+  push-due t g h = degree-far (set w (queueAt + k) u) (marksAt + u) (65536 * (256 - k)) t (λ x. h (omega arith)) ∙ degree-far w (queueAt + k) u t (omega arith)
 
-  pub push-low : (i : ℕ) → i < 3856 → getD (pushed w k u) i 0 ≡ getD w i 0
+  pub push-low : (i : ℕ) → i < marksAt → getD (pushed w k u) i 0 ≡ getD w i 0
   unfolding pushed
-  push-low i h = getD-set-other (set w (4112 + k) u) (3856 + u) i (65536 * (256 - k)) 0 (omega arith) ∙ getD-set-other w (4112 + k) i u 0 (omega arith)
+  push-low i h = getD-set-other (set w (queueAt + k) u) (marksAt + u) i (65536 * (256 - k)) 0 (omega arith) ∙ getD-set-other w (queueAt + k) i u 0 (omega arith)
 
   pub push-outside : Outside w (pushed w k u)
   unfolding pushed
-  push-outside = let r = room in outside-set (3856 + u) (65536 * (256 - k)) (omega arith) (omega arith) (outside-set (4112 + k) u (omega arith) (omega arith) (outside-none w))
+  push-outside = let r = room in outside-set (marksAt + u) (65536 * (256 - k)) (omega arith) (omega arith) (outside-set (queueAt + k) u (omega arith) (omega arith) (outside-none w))

@@ -10,7 +10,7 @@ use borrow.Author.Tests.{le-ltb}
 use lib.ListN.{length, getD, set, length-set}
 use lib.Seq.{getD-set-same, getD-set-other}
 use lib.Dec.{eqb}
-use Rattle.workspace.specs.Area.{fixed}
+use Rattle.workspace.specs.Area.{fixed, levelsAt, marksAt}
 use Rattle.folds.specs.Folds.{both, sum}
 use Rattle.folds.proofs.Tests.{bit-le}
 use Rattle.folds.proofs.Loops.{sum-zero, sum-one}
@@ -29,23 +29,23 @@ use Rattle.peeling.proofs.Lights.{due-unlit, due-other, due-cong, gave-
 pub blank-none : (s : Sheet) (w : List ℕ) → Counted s 0 0 w
 blank-none s w = record { level = λ t h. absurd (omega arith); degree = λ t h. absurd (omega arith); place = λ t h. absurd (omega arith) }
 
-pub blank-more : {s : Sheet} {w : List ℕ} (t : ℕ) → t < 256 → fixed ≤ length w → Counted s t 0 w → Counted s (t + 1) 0 (set (set w (2320 + t) 0) (3856 + t) 0)
+pub blank-more : {s : Sheet} {w : List ℕ} (t : ℕ) → t < 256 → fixed ≤ length w → Counted s t 0 w → Counted s (t + 1) 0 (set (set w (levelsAt + t) 0) (marksAt + t) 0)
 blank-more {s} {w} t h long d = record { level = λ u k. level u k (ℕ-discrete u t); degree = λ u k. degree u k (ℕ-discrete u t) ∙ sym (sum-zero (dueBy s never u)); place = λ u k. place u k (ℕ-discrete u t) }
   where
-    level : (u : ℕ) → u < t + 1 → Dec (u ≡ t) → getD (set (set w (2320 + t) 0) (3856 + t) 0) (2320 + u) 0 ≡ 0
-    level u k (yes e) = rw e (getD-set-other (set w (2320 + t) 0) (3856 + t) (2320 + t) 0 0 (omega arith) ∙ getD-set-same w (2320 + t) 0 0 (omega arith))
-    level u k (no e) = getD-set-other (set w (2320 + t) 0) (3856 + t) (2320 + u) 0 0 (omega arith) ∙ getD-set-other w (2320 + t) (2320 + u) 0 0 (λ x. e (omega arith)) ∙ d .level u (omega arith)
+    level : (u : ℕ) → u < t + 1 → Dec (u ≡ t) → getD (set (set w (levelsAt + t) 0) (marksAt + t) 0) (levelsAt + u) 0 ≡ 0
+    level u k (yes e) = rw e (getD-set-other (set w (levelsAt + t) 0) (marksAt + t) (levelsAt + t) 0 0 (omega arith) ∙ getD-set-same w (levelsAt + t) 0 0 (omega arith))
+    level u k (no e) = getD-set-other (set w (levelsAt + t) 0) (marksAt + t) (levelsAt + u) 0 0 (omega arith) ∙ getD-set-other w (levelsAt + t) (levelsAt + u) 0 0 (λ x. e (omega arith)) ∙ d .level u (omega arith)
 
-    degree : (u : ℕ) → u < t + 1 → Dec (u ≡ t) → degreeIn (set (set w (2320 + t) 0) (3856 + t) 0) u ≡ 0
-    degree u k (yes e) = rw e (degree-put (set w (2320 + t) 0) t (simp length-set (omega arith)) 0 (omega arith))
-    degree u k (no e) = degree-far (set w (2320 + t) 0) (3856 + t) 0 u (λ x. e (omega arith)) ∙ degree-far w (2320 + t) 0 u (omega arith) ∙ d .degree u (omega arith) ∙ sum-zero (dueBy s never u)
+    degree : (u : ℕ) → u < t + 1 → Dec (u ≡ t) → degreeIn (set (set w (levelsAt + t) 0) (marksAt + t) 0) u ≡ 0
+    degree u k (yes e) = rw e (degree-put (set w (levelsAt + t) 0) t (simp length-set (omega arith)) 0 (omega arith))
+    degree u k (no e) = degree-far (set w (levelsAt + t) 0) (marksAt + t) 0 u (λ x. e (omega arith)) ∙ degree-far w (levelsAt + t) 0 u (omega arith) ∙ d .degree u (omega arith) ∙ sum-zero (dueBy s never u)
 
-    place : (u : ℕ) → u < t + 1 → Dec (u ≡ t) → placeIn (set (set w (2320 + t) 0) (3856 + t) 0) u ≡ 256
-    place u k (yes e) = rw e (place-none (set w (2320 + t) 0) t (simp length-set (omega arith)) 0 (omega arith))
-    place u k (no e) = place-far (set w (2320 + t) 0) (3856 + t) 0 u (λ x. e (omega arith)) ∙ place-far w (2320 + t) 0 u (omega arith) ∙ d .place u (omega arith)
+    place : (u : ℕ) → u < t + 1 → Dec (u ≡ t) → placeIn (set (set w (levelsAt + t) 0) (marksAt + t) 0) u ≡ 256
+    place u k (yes e) = rw e (place-none (set w (levelsAt + t) 0) t (simp length-set (omega arith)) 0 (omega arith))
+    place u k (no e) = place-far (set w (levelsAt + t) 0) (marksAt + t) 0 u (λ x. e (omega arith)) ∙ place-far w (levelsAt + t) 0 u (omega arith) ∙ d .place u (omega arith)
 
-pub blank-outside : {w₀ w : List ℕ} (t : ℕ) → t < 256 → Outside w₀ w → Outside w₀ (set (set w (2320 + t) 0) (3856 + t) 0)
-blank-outside t h b = outside-set (3856 + t) 0 (omega arith) (omega arith) (outside-level t 0 h b)
+pub blank-outside : {w₀ w : List ℕ} (t : ℕ) → t < 256 → Outside w₀ w → Outside w₀ (set (set w (levelsAt + t) 0) (marksAt + t) 0)
+blank-outside t h b = outside-set (marksAt + t) 0 (omega arith) (omega arith) (outside-level t 0 h b)
 
 pub counted-at : {s : Sheet} {n n′ l l′ : ℕ} {w : List ℕ} → Counted s n l w → n ≡ n′ → l ≡ l′ → Counted s n′ l′ w
 counted-at {s} {n} {n′} {l} {l′} {w} d e f = subst (λ (x : ℕ). Counted s n′ x w) f (subst (λ (x : ℕ). Counted s x l w) e d)
@@ -60,38 +60,38 @@ unfolding never
 never-is l = refl
 
 module _ (s : Sheet) (w : List ℕ) (l : ℕ) (declared : Declared s) (few : taskCount s ≤ 256) (few-links : linkCount s ≤ 1024) (long : fixed ≤ length w) (l-in : l < linkCount s) (p : Counted s (taskCount s) l w) where
-  count-word : {u d : ℕ} → u ≡ sourceOf s l → d ≡ getD w (3856 + u) 0 → d ≡ degreeIn w (sourceOf s l)
-  count-word eu ed = ed ∙ ap (λ (z : ℕ). getD w (3856 + z) 0) eu ∙ word-is w (sourceOf s l) (omega (arith, p .place (sourceOf s l) (declared .source l l-in)))
+  count-word : {u d : ℕ} → u ≡ sourceOf s l → d ≡ getD w (marksAt + u) 0 → d ≡ degreeIn w (sourceOf s l)
+  count-word eu ed = ed ∙ ap (λ (z : ℕ). getD w (marksAt + z) 0) eu ∙ word-is w (sourceOf s l) (omega (arith, p .place (sourceOf s l) (declared .source l l-in)))
 
-  pub count-small : {u d : ℕ} → u ≡ sourceOf s l → d ≡ getD w (3856 + u) 0 → d ≤ l
+  pub count-small : {u d : ℕ} → u ≡ sourceOf s l → d ≡ getD w (marksAt + u) 0 → d ≤ l
   count-small {u} {d} eu ed =
       omega (arith, count-word eu ed, p .degree (sourceOf s l) (declared .source l l-in), sum-le l 1 (dueBy s never (sourceOf s l)) (λ j h. due-le s never (sourceOf s l) j))
 
-  pub counted : {u d e : ℕ} (w′ : List ℕ) → u ≡ sourceOf s l → d ≡ getD w (3856 + u) 0 → e ≡ d + 1 → w′ ≡ set w (3856 + u) e → Outside w w′ × Counted s (taskCount s) (l + 1) w′
+  pub counted : {u d e : ℕ} (w′ : List ℕ) → u ≡ sourceOf s l → d ≡ getD w (marksAt + u) 0 → e ≡ d + 1 → w′ ≡ set w (marksAt + u) e → Outside w w′ × Counted s (taskCount s) (l + 1) w′
   counted {u} {d} {e} w′ eu ed ee ew =
       let h = declared .source l l-in in
-      let new : w′ ≡ set w (3856 + sourceOf s l) e = ew ∙ ap (λ (z : ℕ). set w (3856 + z) e) eu in
+      let new : w′ ≡ set w (marksAt + sourceOf s l) e = ew ∙ ap (λ (z : ℕ). set w (marksAt + z) e) eu in
       let e-is : e ≡ degreeIn w (sourceOf s l) + 1 = ee ∙ ap (λ (z : ℕ). z + 1) (count-word eu ed) in
       let short : e < 65536 = omega (arith, count-small eu ed) in
       subst (λ (x : List ℕ). Outside w x × Counted s (taskCount s) (l + 1) x) (sym new) (
-        outside-set (3856 + sourceOf s l) e (omega arith) (omega arith) (outside-none w),
+        outside-set (marksAt + sourceOf s l) e (omega arith) (omega arith) (outside-none w),
         record {
-          level = λ t k. getD-set-other w (3856 + sourceOf s l) (2320 + t) e 0 (omega arith) ∙ p .level t k;
+          level = λ t k. getD-set-other w (marksAt + sourceOf s l) (levelsAt + t) e 0 (omega arith) ∙ p .level t k;
           degree = λ t k. at t k short e-is (ℕ-discrete t (sourceOf s l));
           place = λ t k. off t k short (ℕ-discrete t (sourceOf s l));
         },
       )
     where
-      at : (t : ℕ) → t < taskCount s → e < 65536 → e ≡ degreeIn w (sourceOf s l) + 1 → Dec (t ≡ sourceOf s l) → degreeIn (set w (3856 + sourceOf s l) e) t ≡ sum (l + 1) (dueBy s never t)
+      at : (t : ℕ) → t < taskCount s → e < 65536 → e ≡ degreeIn w (sourceOf s l) + 1 → Dec (t ≡ sourceOf s l) → degreeIn (set w (marksAt + sourceOf s l) e) t ≡ sum (l + 1) (dueBy s never t)
       at t k short e-is (yes q) =
           let h = declared .source l l-in in
           rw q (degree-put w (sourceOf s l) (omega arith) e short ∙ e-is ∙ omega (arith, p .degree (sourceOf s l) h, sum-one l (dueBy s never (sourceOf s l)), due-unlit s never (sourceOf s l) l refl (never-is l)))
       at t k short e-is (no q) =
-          degree-far w (3856 + sourceOf s l) e t (λ x. q (omega arith)) ∙ omega (arith, p .degree t k, sum-one l (dueBy s never t), due-other s never t l (λ x. q (sym x)))
+          degree-far w (marksAt + sourceOf s l) e t (λ x. q (omega arith)) ∙ omega (arith, p .degree t k, sum-one l (dueBy s never t), due-other s never t l (λ x. q (sym x)))
 
-      off : (t : ℕ) → t < taskCount s → e < 65536 → Dec (t ≡ sourceOf s l) → placeIn (set w (3856 + sourceOf s l) e) t ≡ 256
+      off : (t : ℕ) → t < taskCount s → e < 65536 → Dec (t ≡ sourceOf s l) → placeIn (set w (marksAt + sourceOf s l) e) t ≡ 256
       off t k short (yes q) = let h = declared .source l l-in in rw q (place-none w (sourceOf s l) (omega arith) e short)
-      off t k short (no q) = place-far w (3856 + sourceOf s l) e t (λ x. q (omega arith)) ∙ p .place t k
+      off t k short (no q) = place-far w (marksAt + sourceOf s l) e t (λ x. q (omega arith)) ∙ p .place t k
 
 -- nothing is in the queue yet
 pub done-none : (s : Sheet) (w : List ℕ) (l : ℕ) → doneBy s 0 w l ≡ false
@@ -134,10 +134,10 @@ module _ (s : Sheet) (w : List ℕ) (k t : ℕ) (declared : Declared s) (few : t
   pub offer-room : k < 256
   offer-room = omega (arith, queued-room t (p .peeled .peel .queued) t-in (p .rest t (omega arith) t-in))
 
-  offer-word : {d : ℕ} → d ≡ getD w (3856 + t) 0 → d ≡ degreeIn w t
+  offer-word : {d : ℕ} → d ≡ getD w (marksAt + t) 0 → d ≡ degreeIn w t
   offer-word e = e ∙ word-is w t (p .rest t (omega arith) t-in)
 
-  pub offer-stays : {d : ℕ} → d ≡ getD w (3856 + t) 0 → (d ≡ 0 → ⊥) → Outside w w × Filled s k (t + 1) w
+  pub offer-stays : {d : ℕ} → d ≡ getD w (marksAt + t) 0 → (d ≡ 0 → ⊥) → Outside w w × Filled s k (t + 1) w
   offer-stays {d} e n =
       let q = p .peeled .peel in (
         outside-none w,
@@ -151,7 +151,7 @@ module _ (s : Sheet) (w : List ℕ) (k t : ℕ) (declared : Declared s) (few : t
       wait u h x g (yes q) = absurd (n (offer-word e ∙ ap (degreeIn w) (sym q) ∙ g))
       wait u h x g (no q) = p .peeled .peel .waits u h (λ a b. x (omega arith) b) g
 
-  pub offer-goes : {d : ℕ} (w′ : List ℕ) → d ≡ getD w (3856 + t) 0 → d ≡ 0 → w′ ≡ pushed w k t → Outside w w′ × Filled s (k + 1) (t + 1) w′
+  pub offer-goes : {d : ℕ} (w′ : List ℕ) → d ≡ getD w (marksAt + t) 0 → d ≡ 0 → w′ ≡ pushed w k t → Outside w w′ × Filled s (k + 1) (t + 1) w′
   offer-goes {d} w′ e n ew =
       let q = p .peeled .peel in
       let free : 256 ≤ placeIn w t = p .rest t (omega arith) t-in in

@@ -4,6 +4,7 @@ use mathlib.Core.Path.{_≡_, sym, subst}
 use mathlib.Core.List.{List}
 use native.Mathlib.Omega.{arith}
 use lib.ListN.{getD, set}
+use Rattle.workspace.specs.Area.{levelsAt, marksAt, queueAt}
 use Rattle.sheet.specs.Sheet.{Sheet, taskCount, linkCount, workOf, sourceOf, targetOf, costOf}
 use Rattle.sheet.specs.Tables.{sheetIn, Loaded}
 use Rattle.sheet.proofs.Rows.{ranged}
@@ -20,20 +21,20 @@ module _ (w : List ℕ) (h : Held w) where
     cheap : costOf (sheetIn w) l ≤ 65535
     cheap = omega (arith, ranged w (h .loaded) .costs l l-in)
 
-    pub visit-degree : {u d : ℕ} → u ≡ sourceOf (sheetIn w) l → d ≡ getD w (3856 + u) 0 → 1 ≤ d
+    pub visit-degree : {u d : ℕ} → u ≡ sourceOf (sheetIn w) l → d ≡ getD w (marksAt + u) 0 → 1 ≤ d
     visit-degree = walks.visit-degree (sheetIn w) w (loaded-declared (h .loaded)) (h .few-tasks) (h .long) (placeIn w v) k l v p l-in to cheap
 
     pub visit-room : k < 256
     visit-room = walks.visit-room (sheetIn w) w (loaded-declared (h .loaded)) (h .few-tasks) (h .long) (placeIn w v) k l v p l-in to cheap
 
-    pub visit-fits : {u c x y z : ℕ} → u ≡ sourceOf (sheetIn w) l → c ≡ costOf (sheetIn w) l → x ≡ getD w (2320 + v) 0 → y ≡ getD w (2320 + u) 0 → z ≡ max y (c + x) → z < 4294967296
+    pub visit-fits : {u c x y z : ℕ} → u ≡ sourceOf (sheetIn w) l → c ≡ costOf (sheetIn w) l → x ≡ getD w (levelsAt + v) 0 → y ≡ getD w (levelsAt + u) 0 → z ≡ max y (c + x) → z < 4294967296
     visit-fits = walks.visit-fits (sheetIn w) w (loaded-declared (h .loaded)) (h .few-tasks) (h .long) (placeIn w v) k l v p l-in to cheap
 
-    module _ {u c x y d z z′ e : ℕ} (eu : u ≡ sourceOf (sheetIn w) l) (ec : c ≡ costOf (sheetIn w) l) (ex : x ≡ getD w (2320 + v) 0) (ey : y ≡ getD w (2320 + u) 0) (ed : d ≡ getD w (3856 + u) 0) (ez : z ≡ max y (c + x)) (ez′ : z′ ≡ z) (ee : e ≡ d - 1) where
-      pub visit-stays : (w′ : List ℕ) → w′ ≡ set (set w (2320 + u) z′) (3856 + u) e → (d ≡ 1 → ⊥) → Outside w w′ × Walking (sheetIn w) (placeIn w v) k (l + 1) v 0 0 w′
+    module _ {u c x y d z z′ e : ℕ} (eu : u ≡ sourceOf (sheetIn w) l) (ec : c ≡ costOf (sheetIn w) l) (ex : x ≡ getD w (levelsAt + v) 0) (ey : y ≡ getD w (levelsAt + u) 0) (ed : d ≡ getD w (marksAt + u) 0) (ez : z ≡ max y (c + x)) (ez′ : z′ ≡ z) (ee : e ≡ d - 1) where
+      pub visit-stays : (w′ : List ℕ) → w′ ≡ set (set w (levelsAt + u) z′) (marksAt + u) e → (d ≡ 1 → ⊥) → Outside w w′ × Walking (sheetIn w) (placeIn w v) k (l + 1) v 0 0 w′
       visit-stays = walks.visit-stays (sheetIn w) w (loaded-declared (h .loaded)) (h .few-tasks) (h .long) (placeIn w v) k l v p l-in to cheap eu ec ex ey ed ez ez′ ee
 
-      pub visit-goes : (w′ w″ : List ℕ) → w′ ≡ set (set w (2320 + u) z′) (3856 + u) e → w″ ≡ pushed w′ k u → d ≡ 1 → Outside w w″ × Walking (sheetIn w) (placeIn w v) (k + 1) (l + 1) v 0 0 w″
+      pub visit-goes : (w′ w″ : List ℕ) → w′ ≡ set (set w (levelsAt + u) z′) (marksAt + u) e → w″ ≡ pushed w′ k u → d ≡ 1 → Outside w w″ × Walking (sheetIn w) (placeIn w v) (k + 1) (l + 1) v 0 0 w″
       visit-goes = walks.visit-goes (sheetIn w) w (loaded-declared (h .loaded)) (h .few-tasks) (h .long) (placeIn w v) k l v p l-in to cheap eu ec ex ey ed ez ez′ ee
 
 -- the walk, seen from where it began
@@ -95,14 +96,14 @@ walk-ends {w₀} {w} {v} {k} {l} h p g =
 pub peeled-few : {s : Sheet} {i k e f : ℕ} {w : List ℕ} → Peeled s i k e f w → k ≤ taskCount s
 peeled-few p = queued-few (p .peel .queued)
 
-module _ (w : List ℕ) (h : Held w) (i k : ℕ) (left : i < k) (p : Peeled (sheetIn w) i k 0 0 w) {v : ℕ} (v-is : v ≡ getD w (4112 + i) 0) where
+module _ (w : List ℕ) (h : Held w) (i k : ℕ) (left : i < k) (p : Peeled (sheetIn w) i k 0 0 w) {v : ℕ} (v-is : v ≡ getD w (queueAt + i) 0) where
   pub take-in : v < taskCount (sheetIn w)
   take-in = walks.take-in (sheetIn w) w (loaded-declared (h .loaded)) (h .few-tasks) (h .long) i k p left v-is
 
-  pub take-fits : {b : ℕ} → b ≡ getD w (2320 + v) 0 → b ≤ 131070 * 256
+  pub take-fits : {b : ℕ} → b ≡ getD w (levelsAt + v) 0 → b ≤ 131070 * 256
   take-fits = walks.take-fits (sheetIn w) w (loaded-declared (h .loaded)) (h .few-tasks) (h .long) i k p left v-is
 
-  pub taken : {a b z : ℕ} (w′ : List ℕ) → a ≡ workOf (sheetIn w) v → b ≡ getD w (2320 + v) 0 → z ≡ a + b → a ≤ 65535 → w′ ≡ set w (2320 + v) z
+  pub taken : {a b z : ℕ} (w′ : List ℕ) → a ≡ workOf (sheetIn w) v → b ≡ getD w (levelsAt + v) 0 → z ≡ a + b → a ≤ 65535 → w′ ≡ set w (levelsAt + v) z
       → Outside w w′ × Walking (sheetIn w) (placeIn w′ v) k 0 v 0 0 w′ × (placeIn w′ v ≡ i)
   taken = walks.taken (sheetIn w) w (loaded-declared (h .loaded)) (h .few-tasks) (h .long) i k p left v-is
 

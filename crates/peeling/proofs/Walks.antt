@@ -9,7 +9,7 @@ use native.Mathlib.Decide.{decLt, ℕ-discrete}
 use borrow.Author.Tests.{eq-eqb, ne-eqb, lt-ltb, le-ltb}
 use lib.ListN.{length, getD, set, length-set}
 use lib.Dec.{eqb, ltb}
-use Rattle.workspace.specs.Area.{fixed}
+use Rattle.workspace.specs.Area.{fixed, levelsAt, marksAt, queueAt}
 use Rattle.folds.specs.Folds.{both, either}
 use Rattle.folds.proofs.Tests.{both-false, either-true, either-false}
 use Rattle.sheet.specs.Sheet.{Sheet, taskCount, linkCount, workOf, sourceOf, targetOf, costOf}
@@ -87,18 +87,18 @@ module _ (s : Sheet) (w : List ℕ) (declared : Declared s) (few : taskCount s �
     on : doneUpTo s i (l + 1) v w l ≡ true
     on = up-on s i v l w to
 
-    small : costOf s l + getD w (2320 + targetOf s l) 0 ≤ 131070 * (i + 1)
-    small = let e : getD w (2320 + targetOf s l) 0 ≡ getD w (2320 + v) 0 = ap (λ (z : ℕ). getD w (2320 + z) 0) to in omega (arith, p .own)
+    small : costOf s l + getD w (levelsAt + targetOf s l) 0 ≤ 131070 * (i + 1)
+    small = let e : getD w (levelsAt + targetOf s l) 0 ≡ getD w (levelsAt + v) 0 = ap (λ (z : ℕ). getD w (levelsAt + z) 0) to in omega (arith, p .own)
 
     few-i : i + 1 ≤ 256
     few-i = omega (arith, p .peel .early, queued-few (p .peel .queued))
 
-    module _ (y d : ℕ) (y-is : y ≡ max (getD w (2320 + sourceOf s l) 0) (costOf s l + getD w (2320 + targetOf s l) 0)) (d-is : d ≡ degreeIn w (sourceOf s l) - 1) where
+    module _ (y d : ℕ) (y-is : y ≡ max (getD w (levelsAt + sourceOf s l) 0) (costOf s l + getD w (levelsAt + targetOf s l) 0)) (d-is : d ≡ degreeIn w (sourceOf s l) - 1) where
       abbrev u : ℕ
       u = sourceOf s l
 
       abbrev lw : List ℕ
-      lw = set (set w (2320 + sourceOf s l) y) (3856 + sourceOf s l) d
+      lw = set (set w (levelsAt + sourceOf s l) y) (marksAt + sourceOf s l) d
 
       same-place : (t : ℕ) → placeIn lw t ≡ placeIn w t
       same-place = light-place s w declared few long (doneUpTo s i l v w) (doneUpTo s i (l + 1) v w) (i + 1) k l y d (p .peel) l-in off on (λ j h q. up-else s i v l j w q) (omega (arith, place-to)) small y-is d-is
@@ -109,7 +109,7 @@ module _ (s : Sheet) (w : List ℕ) (declared : Declared s) (few : taskCount s �
       free : 256 ≤ placeIn w (sourceOf s l)
       free = light-free s w declared few long (doneUpTo s i l v w) (doneUpTo s i (l + 1) v w) (i + 1) k l y d (p .peel) l-in off on (λ j h q. up-else s i v l j w q) (omega (arith, place-to)) small y-is d-is
 
-      level-v : getD lw (2320 + v) 0 ≡ getD w (2320 + v) 0
+      level-v : getD lw (levelsAt + v) 0 ≡ getD w (levelsAt + v) 0
       level-v =
           let f = few-i in
           light-level s w declared few long (doneUpTo s i l v w) (doneUpTo s i (l + 1) v w) (i + 1) k l y d (p .peel) l-in off on (λ j h q. up-else s i v l j w q) (omega (arith, place-to)) small y-is d-is v (p .task) (omega (arith, p .here))
@@ -125,7 +125,7 @@ module _ (s : Sheet) (w : List ℕ) (declared : Declared s) (few : taskCount s �
           }
 
       outside-lit : Outside w lw
-      outside-lit = let h = declared .source l l-in in outside-set (3856 + u) d (omega arith) (omega arith) (outside-level u y (omega arith) (outside-none w))
+      outside-lit = let h = declared .source l l-in in outside-set (marksAt + u) d (omega arith) (omega arith) (outside-level u y (omega arith) (outside-none w))
 
       degree-lit : degreeIn lw u ≡ d
       degree-lit = light-degree s w declared few long (doneUpTo s i l v w) (doneUpTo s i (l + 1) v w) (i + 1) k l y d (p .peel) l-in off on (λ j h q. up-else s i v l j w q) (omega (arith, place-to)) small y-is d-is
@@ -156,7 +156,7 @@ module _ (s : Sheet) (w : List ℕ) (declared : Declared s) (few : taskCount s �
                   (peel-push s lw declared few lw-long (doneUpTo s i (l + 1) v lw) (i + 1) k u (u + 1) 0 0 u (q .peel) u-in u-free (degree-lit ∙ h) (λ t a b c d. a (omega arith)));
               task = q .task;
               here = else v (q .task) (λ e. let x : placeIn lw v ≡ placeIn lw u = ap (placeIn lw) e in absurd (omega (arith, q .here))) ∙ q .here;
-              own = rw (push-low (taskCount s) k u lw few lw-long u-in u-free (q .peel .queued) (2320 + v) (let g = q .task in omega arith)) (q .own);
+              own = rw (push-low (taskCount s) k u lw few lw-long u-in u-free (q .peel .queued) (levelsAt + v) (let g = q .task in omega arith)) (q .own);
             },
           )
         where
@@ -169,41 +169,41 @@ module _ (s : Sheet) (w : List ℕ) (declared : Declared s) (few : taskCount s �
 
     -- what a turn of the walk computes, from what its calls say
     source-free : 256 ≤ placeIn w (sourceOf s l)
-    source-free = free (max (getD w (2320 + sourceOf s l) 0) (costOf s l + getD w (2320 + targetOf s l) 0)) (degreeIn w (sourceOf s l) - 1) refl refl
+    source-free = free (max (getD w (levelsAt + sourceOf s l) 0) (costOf s l + getD w (levelsAt + targetOf s l) 0)) (degreeIn w (sourceOf s l) - 1) refl refl
 
-    visit-word : {u d : ℕ} → u ≡ sourceOf s l → d ≡ getD w (3856 + u) 0 → d ≡ degreeIn w (sourceOf s l)
-    visit-word eu ed = ed ∙ ap (λ (z : ℕ). getD w (3856 + z) 0) eu ∙ word-is w (sourceOf s l) source-free
+    visit-word : {u d : ℕ} → u ≡ sourceOf s l → d ≡ getD w (marksAt + u) 0 → d ≡ degreeIn w (sourceOf s l)
+    visit-word eu ed = ed ∙ ap (λ (z : ℕ). getD w (marksAt + z) 0) eu ∙ word-is w (sourceOf s l) source-free
 
-    pub visit-degree : {u d : ℕ} → u ≡ sourceOf s l → d ≡ getD w (3856 + u) 0 → 1 ≤ d
+    pub visit-degree : {u d : ℕ} → u ≡ sourceOf s l → d ≡ getD w (marksAt + u) 0 → 1 ≤ d
     visit-degree {u} {d} eu ed =
-        omega (arith, visit-word eu ed, some-degree (max (getD w (2320 + sourceOf s l) 0) (costOf s l + getD w (2320 + targetOf s l) 0)) (degreeIn w (sourceOf s l) - 1) refl refl)
+        omega (arith, visit-word eu ed, some-degree (max (getD w (levelsAt + sourceOf s l) 0) (costOf s l + getD w (levelsAt + targetOf s l) 0)) (degreeIn w (sourceOf s l) - 1) refl refl)
 
     pub visit-room : k < 256
     visit-room =
         omega (arith, queued-room (sourceOf s l) (p .peel .queued) (declared .source l l-in) source-free)
 
-    most : {u c x y z : ℕ} → u ≡ sourceOf s l → c ≡ costOf s l → x ≡ getD w (2320 + v) 0 → y ≡ getD w (2320 + u) 0 → z ≡ max y (c + x) → z ≡ max (getD w (2320 + sourceOf s l) 0) (costOf s l + getD w (2320 + targetOf s l) 0)
-    most eu ec ex ey ez = ez ∙ ap₂ max (ey ∙ ap (λ (i : ℕ). getD w (2320 + i) 0) eu) (ap₂ _+_ ec (ex ∙ ap (λ (i : ℕ). getD w (2320 + i) 0) (sym to)))
+    most : {u c x y z : ℕ} → u ≡ sourceOf s l → c ≡ costOf s l → x ≡ getD w (levelsAt + v) 0 → y ≡ getD w (levelsAt + u) 0 → z ≡ max y (c + x) → z ≡ max (getD w (levelsAt + sourceOf s l) 0) (costOf s l + getD w (levelsAt + targetOf s l) 0)
+    most eu ec ex ey ez = ez ∙ ap₂ max (ey ∙ ap (λ (i : ℕ). getD w (levelsAt + i) 0) eu) (ap₂ _+_ ec (ex ∙ ap (λ (i : ℕ). getD w (levelsAt + i) 0) (sym to)))
 
-    pub visit-fits : {u c x y z : ℕ} → u ≡ sourceOf s l → c ≡ costOf s l → x ≡ getD w (2320 + v) 0 → y ≡ getD w (2320 + u) 0 → z ≡ max y (c + x) → z < 4294967296
+    pub visit-fits : {u c x y z : ℕ} → u ≡ sourceOf s l → c ≡ costOf s l → x ≡ getD w (levelsAt + v) 0 → y ≡ getD w (levelsAt + u) 0 → z ≡ max y (c + x) → z < 4294967296
     visit-fits eu ec ex ey ez = omega (arith, most eu ec ex ey ez, small, few-i, p .peel .bounded (sourceOf s l) (declared .source l l-in))
 
-    module _ {u c x y d z z′ e : ℕ} (eu : u ≡ sourceOf s l) (ec : c ≡ costOf s l) (ex : x ≡ getD w (2320 + v) 0) (ey : y ≡ getD w (2320 + u) 0) (ed : d ≡ getD w (3856 + u) 0) (ez : z ≡ max y (c + x)) (ez′ : z′ ≡ z) (ee : e ≡ d - 1) where
-      z-is : z′ ≡ max (getD w (2320 + sourceOf s l) 0) (costOf s l + getD w (2320 + targetOf s l) 0)
+    module _ {u c x y d z z′ e : ℕ} (eu : u ≡ sourceOf s l) (ec : c ≡ costOf s l) (ex : x ≡ getD w (levelsAt + v) 0) (ey : y ≡ getD w (levelsAt + u) 0) (ed : d ≡ getD w (marksAt + u) 0) (ez : z ≡ max y (c + x)) (ez′ : z′ ≡ z) (ee : e ≡ d - 1) where
+      z-is : z′ ≡ max (getD w (levelsAt + sourceOf s l) 0) (costOf s l + getD w (levelsAt + targetOf s l) 0)
       z-is = ez′ ∙ most eu ec ex ey ez
 
       e-is : e ≡ degreeIn w (sourceOf s l) - 1
       e-is = ee ∙ ap (λ (i : ℕ). i - 1) (visit-word eu ed)
 
-      words : (w′ : List ℕ) → w′ ≡ set (set w (2320 + u) z′) (3856 + u) e → w′ ≡ set (set w (2320 + sourceOf s l) z′) (3856 + sourceOf s l) e
-      words w′ h = h ∙ ap (λ (i : ℕ). set (set w (2320 + i) z′) (3856 + i) e) eu
+      words : (w′ : List ℕ) → w′ ≡ set (set w (levelsAt + u) z′) (marksAt + u) e → w′ ≡ set (set w (levelsAt + sourceOf s l) z′) (marksAt + sourceOf s l) e
+      words w′ h = h ∙ ap (λ (i : ℕ). set (set w (levelsAt + i) z′) (marksAt + i) e) eu
 
-      pub visit-stays : (w′ : List ℕ) → w′ ≡ set (set w (2320 + u) z′) (3856 + u) e → (d ≡ 1 → ⊥) → Outside w w′ × Walking s i k (l + 1) v 0 0 w′
+      pub visit-stays : (w′ : List ℕ) → w′ ≡ set (set w (levelsAt + u) z′) (marksAt + u) e → (d ≡ 1 → ⊥) → Outside w w′ × Walking s i k (l + 1) v 0 0 w′
       visit-stays w′ h n =
           let f = visit-degree eu ed in
           subst (λ (x : List ℕ). Outside w x × Walking s i k (l + 1) v 0 0 x) (sym (words w′ h)) (outside-lit z′ e z-is e-is, stays z′ e z-is e-is (λ q. n (omega arith)))
 
-      pub visit-goes : (w′ w″ : List ℕ) → w′ ≡ set (set w (2320 + u) z′) (3856 + u) e → w″ ≡ pushed w′ k u → d ≡ 1 → Outside w w″ × Walking s i (k + 1) (l + 1) v 0 0 w″
+      pub visit-goes : (w′ w″ : List ℕ) → w′ ≡ set (set w (levelsAt + u) z′) (marksAt + u) e → w″ ≡ pushed w′ k u → d ≡ 1 → Outside w w″ × Walking s i (k + 1) (l + 1) v 0 0 w″
       visit-goes w′ w″ h g n =
           let q = goes z′ e z-is e-is (omega arith) in
           subst (λ (x : List ℕ). Outside w x × Walking s i (k + 1) (l + 1) v 0 0 x) (sym (g ∙ ap₂ (λ (x : List ℕ) (i : ℕ). pushed x k i) (words w′ h) eu)) (outside-trans (outside-lit z′ e z-is e-is) (q .0), q .1)
@@ -239,21 +239,21 @@ module _ (s : Sheet) (w : List ℕ) (declared : Declared s) (few : taskCount s �
           let a = queued-few (p .peel .queued) in
           let b = p .peel .early in
           let here = p .here in
-          sym (p .peel .queued .back t g (omega arith)) ∙ ap (λ (z : ℕ). getD w (4112 + z) 0) (q ∙ sym here) ∙ p .peel .queued .back v (p .task) (omega arith)
+          sym (p .peel .queued .back t g (omega arith)) ∙ ap (λ (z : ℕ). getD w (queueAt + z) 0) (q ∙ sym here) ∙ p .peel .queued .back v (p .task) (omega arith)
 
   -- the next task of the queue is taken off
-  module _ (i k : ℕ) (p : Peeled s i k 0 0 w) (left : i < k) {v : ℕ} (v-is : v ≡ getD w (4112 + i) 0) where
+  module _ (i k : ℕ) (p : Peeled s i k 0 0 w) (left : i < k) {v : ℕ} (v-is : v ≡ getD w (queueAt + i) 0) where
     pub take-in : v < taskCount s
     take-in = rw v-is (p .peel .queued .task i left)
 
-    pub take-fits : {b : ℕ} → b ≡ getD w (2320 + v) 0 → b ≤ 131070 * 256
+    pub take-fits : {b : ℕ} → b ≡ getD w (levelsAt + v) 0 → b ≤ 131070 * 256
     take-fits e = omega (arith, p .peel .bounded v take-in, queued-few (p .peel .queued))
 
-    pub taken : {a b z : ℕ} (w′ : List ℕ) → a ≡ workOf s v → b ≡ getD w (2320 + v) 0 → z ≡ a + b → a ≤ 65535 → w′ ≡ set w (2320 + v) z → Outside w w′ × Walking s (placeIn w′ v) k 0 v 0 0 w′ × (placeIn w′ v ≡ i)
+    pub taken : {a b z : ℕ} (w′ : List ℕ) → a ≡ workOf s v → b ≡ getD w (levelsAt + v) 0 → z ≡ a + b → a ≤ 65535 → w′ ≡ set w (levelsAt + v) z → Outside w w′ × Walking s (placeIn w′ v) k 0 v 0 0 w′ × (placeIn w′ v ≡ i)
     taken {a} {b} {z} w′ ea eb ez short e =
-        let z-is : z ≡ workOf s v + getD w (2320 + v) 0 = ez ∙ ap₂ _+_ ea eb in
+        let z-is : z ≡ workOf s v + getD w (levelsAt + v) 0 = ez ∙ ap₂ _+_ ea eb in
         let short′ : workOf s v ≤ 65535 = omega arith in
-        let new : List ℕ = set w (2320 + v) z in
+        let new : List ℕ = set w (levelsAt + v) z in
         let here : placeIn new v ≡ i = pop-same s w declared few long (doneBy s i w) i k v z (p .peel) left v-is z-is short′ v ∙ pop-place s w declared few long (doneBy s i w) i k v z (p .peel) left v-is z-is short′ in
         let walking : Walking s i k 0 v 0 0 new =
         record {

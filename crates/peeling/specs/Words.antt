@@ -1,16 +1,13 @@
 -- What the search for circles and levels keeps in the work area, word by word.
 --
---   2320 + t level of task t, or what its links gave it so far
---   2576 + t first link into task t, 2832 + l next link into the target of link l (the number of links where there is none)
---   3856 + t links out of task t that are still to be counted off or, once t is at place j of the queue, 65536 * (256 - j)
---   4112 + j task j of the queue
+-- In the word of task t from `marksAt` on stand the links out of it that are still to be counted off or, once t is at place j of the queue, 65536 * (256 - j).
 use Prim.Native.Nat.{ℕ, _+_, _-_, _*_, _/_, _%_, _≤_, _<_}
 use mathlib.Core.Bool.{Bool}
 use mathlib.Core.Path.{_≡_}
 use mathlib.Core.List.{List}
 use lib.ListN.{length, getD, set}
 use lib.Dec.{eqb, ltb}
-use Rattle.workspace.specs.Area.{fixed}
+use Rattle.workspace.specs.Area.{fixed, headsAt, levelsAt, marksAt, openedAt, queueAt}
 use Rattle.folds.specs.Folds.{bit, both, either, sum}
 use Rattle.sheet.specs.Sheet.{Sheet, taskCount, linkCount, targetOf}
 use Rattle.sheet.specs.Tables.{sheetIn, Loaded}
@@ -25,25 +22,25 @@ pub record Held (w : List ℕ) : Type 0 where
 
 -- outside the words of the search, and in the chains, all is as it was
 pub record Outside (w w′ : List ℕ) : Type 0 where
-  pub kept : Only 2320 4368 w w′
-  pub chains : (i : ℕ) → 2576 ≤ i → i < 3856 → getD w′ i 0 ≡ getD w i 0
+  pub kept : Only levelsAt openedAt w w′
+  pub chains : (i : ℕ) → headsAt ≤ i → i < marksAt → getD w′ i 0 ≡ getD w i 0
 
 -- how many links out of t are still to be counted off, and the place of t in the queue (256 where it is not in it)
 unfoldable pub degreeIn : List ℕ → ℕ → ℕ
-degreeIn w t = getD w (3856 + t) 0 % 65536
+degreeIn w t = getD w (marksAt + t) 0 % 65536
 
 unfoldable pub placeIn : List ℕ → ℕ → ℕ
-placeIn w t = 256 - getD w (3856 + t) 0 / 65536
+placeIn w t = 256 - getD w (marksAt + t) 0 / 65536
 
 -- the queue holds k tasks below n, each once
 unfoldable pub inQueue : List ℕ → ℕ → ℕ
 inQueue w t = bit (ltb (placeIn w t) 256)
 
 pub record Queued (n k : ℕ) (w : List ℕ) : Type 0 where
-  pub task : (j : ℕ) → j < k → getD w (4112 + j) 0 < n
-  pub place : (j : ℕ) → j < k → placeIn w (getD w (4112 + j) 0) ≡ j
+  pub task : (j : ℕ) → j < k → getD w (queueAt + j) 0 < n
+  pub place : (j : ℕ) → j < k → placeIn w (getD w (queueAt + j) 0) ≡ j
   pub few : (t : ℕ) → t < n → placeIn w t < 256 → placeIn w t < k
-  pub back : (t : ℕ) → t < n → placeIn w t < 256 → getD w (4112 + placeIn w t) 0 ≡ t
+  pub back : (t : ℕ) → t < n → placeIn w t < 256 → getD w (queueAt + placeIn w t) 0 ≡ t
   pub count : k ≡ sum n (inQueue w)
 
 -- link l leads to one of the first i tasks of the queue
@@ -56,4 +53,4 @@ doneUpTo s i j v w l = either (ltb (placeIn w (targetOf s l)) i) (both (eqb (tar
 
 -- u put at place k of the queue
 unfoldable pub pushed : List ℕ → ℕ → ℕ → List ℕ
-pushed w k u = set (set w (4112 + k) u) (3856 + u) (65536 * (256 - k))
+pushed w k u = set (set w (queueAt + k) u) (marksAt + u) (65536 * (256 - k))

@@ -11,6 +11,9 @@ ghost use Rattle.peeling.specs.Peeling.{Peeled, Walking, Counted, Filled
 use crate::queue;
 use chains::End;
 use sheet::tables;
+use workspace::LEVELS;
+use workspace::MARKS;
+use workspace::QUEUE;
 
 // Link l into v, which is taken off, is counted off at its source and gives it its level; a source without other links goes into
 // the queue of k tasks. The answer is the length of the queue.
@@ -22,12 +25,12 @@ fn visit(w: &mut [u32], k: usize, v: usize, l: usize) -> usize
 {
     let u = tables::source(w, l);
     let c = tables::cost(w, l);
-    let x = workspace::word(w, 2320 + v);
-    let y = workspace::word(w, 2320 + u);
-    let d = workspace::word(w, 3856 + u);
+    let x = workspace::word(w, LEVELS + v);
+    let y = workspace::word(w, LEVELS + u);
+    let d = workspace::word(w, MARKS + u);
     let z = words::later(y, c + x);
-    w[2320 + u] = workspace::narrow(z);
-    w[3856 + u] = workspace::narrow(d - 1);
+    w[LEVELS + u] = workspace::narrow(z);
+    w[MARKS + u] = workspace::narrow(d - 1);
     if d == 1 {
         queue::push(w, k, u);
         return k + 1;
@@ -60,10 +63,10 @@ fn take(w: &mut [u32], i: usize, k: usize) -> usize
     requires { ⌜ Peeled (sheetIn (now w)) i k 0 0 (now w) ⌝ }
     ensures { λ r. ⌜ Outside (now (w .entry)) (now (w .exit)) × Peeled (sheetIn (now (w .entry))) (i + 1) r 0 0 (now (w .exit)) ⌝ }
 {
-    let v = workspace::word(w, 4112 + i);
+    let v = workspace::word(w, QUEUE + i);
     let a = tables::work(w, v);
-    let b = workspace::word(w, 2320 + v);
-    w[2320 + v] = workspace::narrow(a + b);
+    let b = workspace::word(w, LEVELS + v);
+    w[LEVELS + v] = workspace::narrow(a + b);
     walk(w, k, v)
 }
 
@@ -90,7 +93,7 @@ fn offer(w: &mut [u32], k: usize, t: usize) -> usize
     requires { ⌜ Filled (sheetIn (now w)) k t (now w) ⌝ }
     ensures { λ r. ⌜ Outside (now (w .entry)) (now (w .exit)) × Filled (sheetIn (now (w .entry))) r (t + 1) (now (w .exit)) ⌝ }
 {
-    if workspace::word(w, 3856 + t) == 0 {
+    if workspace::word(w, MARKS + t) == 0 {
         queue::push(w, k, t);
         return k + 1;
     }
@@ -121,8 +124,8 @@ fn blank(w: &mut [u32])
     let n = tables::tasks(w);
     let mut t: usize = 0;
     while t < n {
-        w[2320 + t] = 0;
-        w[3856 + t] = 0;
+        w[LEVELS + t] = 0;
+        w[MARKS + t] = 0;
         t += 1;
     }
 }
@@ -135,8 +138,8 @@ fn count_one(w: &mut [u32], l: usize)
     ensures { λ _. ⌜ Outside (now (w .entry)) (now (w .exit)) × Counted (sheetIn (now (w .entry))) (taskCount (sheetIn (now (w .entry)))) (l + 1) (now (w .exit)) ⌝ }
 {
     let u = tables::source(w, l);
-    let d = workspace::word(w, 3856 + u);
-    w[3856 + u] = workspace::narrow(d + 1);
+    let d = workspace::word(w, MARKS + u);
+    w[MARKS + u] = workspace::narrow(d + 1);
 }
 
 // All links are counted.

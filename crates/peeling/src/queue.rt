@@ -4,11 +4,13 @@ ghost use Prim.Native.Nat.{_+_, _<_, _≤_};
 ghost use lib.ListN.{length};
 ghost use Rattle.workspace.specs.Area.{fixed};
 ghost use Rattle.peeling.specs.Words.{pushed};
+use workspace::MARKS;
+use workspace::QUEUE;
 
 pub fn push(w: &mut [u32], k: usize, u: usize)
     requires { ⌜ (fixed ≤ length (now w)) × (k < 256) × (u < 256) ⌝ }
     ensures { λ _. ⌜ now (w .exit) ≡ pushed (now (w .entry)) k u ⌝ }
 {
-    w[4112 + k] = workspace::narrow(u);
-    w[3856 + u] = workspace::narrow(65536 * (256 - k));
+    w[QUEUE + k] = workspace::narrow(u);
+    w[MARKS + u] = workspace::narrow(65536 * (256 - k));
 }

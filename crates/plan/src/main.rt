@@ -1,8 +1,62 @@
 // Lists the schedule of the sheet on standard input, or its refusal. Of a longer input the first 8,512 bytes settle the answer
 // (crates/lines/proofs/Settled.antt). Where a read fails, nothing is listed; a read or a write that fails is named on standard error, since a
 // program has no exit status to say so.
-use console::Input;
+ghost use Prim.Native.Nat.{_≤_, _-_};
+ghost use lib.ListN.{length};
+ghost use Rattle.plan.specs.Pieces.{GotIs, InputIs};
+use libc::STDIN_FILENO;
 use libc::STDOUT_FILENO;
+
+// What a read brought.
+enum Got {
+    More(usize),
+    End,
+    Failed,
+}
+
+// How much input there was, up to what the buffer holds.
+enum Input {
+    Bytes(usize),
+    Failed,
+}
+
+// One read, behind the first `at` bytes.
+fn read_some(buf: &mut [u8], at: usize) -> Got
+    requires { ⌜ at ≤ length (now buf) ⌝ }
+    ensures { λ r. ⌜ GotIs (length (now (buf .entry)) - at) r ⌝ }
+{
+    let rest = &mut buf[at..];
+    let got = libc::read(STDIN_FILENO, rest);
+    if got < 0 {
+        return Got::Failed;
+    }
+    let n = io::count(got, rest);
+    if n == 0 {
+        return Got::End;
+    }
+    Got::More(n)
+}
+
+// Reads until the input ends or the buffer is full, however many pieces it comes in.
+fn read_all(buf: &mut [u8]) -> Input
+    ensures { λ r. ⌜ InputIs (length (now (buf .entry))) r ⌝ }
+{
+    let mut at: usize = 0;
+    while at < buf.len() {
+        match read_some(buf, at) {
+            Got::Failed => {
+                return Input::Failed;
+            }
+            Got::End => {
+                return Input::Bytes(at);
+            }
+            Got::More(n) => {
+                at += n;
+            }
+        }
+    }
+    Input::Bytes(at)
+}
 
 // Prints the listing of these bytes.
 fn print(sheet: &[u8]) {
@@ -15,7 +69,7 @@ fn print(sheet: &[u8]) {
 
 fn main() {
     let mut sheet = [0u8; 8512];
-    match console::read_all(&mut sheet) {
+    match read_all(&mut sheet) {
         Input::Failed => os::fail(b"standard input"),
         Input::Bytes(n) => print(&sheet[..n]),
     }

@@ -3,8 +3,9 @@ use Prim.Native.Nat.{ℕ, _+_, _-_, _≤_}
 use mathlib.Core.Path.{_≡_, refl, sym, ap, ap₂, subst, _∙_}
 use mathlib.Core.List.{List, [], _++_, append-assoc, append-nil}
 use native.Mathlib.Omega.{arith}
-use lib.ListN.{length, take, drop, length-append}
-use lib.Seq.{length-take-le, take-at, drop-at, drop-drop}
+use lib.ListN.{length, take, drop, length-append, length-drop, drop-of-length-le}
+use lib.Seq.{length-take-le, take-all, take-at, drop-at, drop-drop, take-append-add, drop-append-add}
+use borrow.Rule.Slice.PartMut.{midOf, postOf, putMid}
 use Rattle.numbers.specs.Number.{stored, Put}
 use Rattle.programmes.specs.Laid.{Laid}
 
@@ -72,3 +73,22 @@ unfolding stored
 laid-last v {old} {mid} {last} {u} {a} h p e =
     let z : a + length v ≡ 0 + length (u ++ v) = omega (arith, p .next, length-append u v) in
     e ∙ ap₂ (λ (x y : List ℕ). x ++ v ++ y) (p .front) (further mid old (a + 3) (a + length v) (omega (arith, h)) (p .back)) ∙ ap (λ (k : ℕ). u ++ v ++ drop k old) z
+
+-- a callee that was lent what follows the first i bytes and laid v at its start has laid v at i
+pub laid-lent : (b last v : List ℕ) (i n : ℕ) → i ≤ length b → Laid (midOf i (length b - i) b) 0 v last n → Laid b i v (putMid i (length b - i) b last) (i + n)
+laid-lent b last v i n h p =
+    let mid : midOf i (length b - i) b ≡ drop i b = take-all (length b - i) (drop i b) (omega (arith, length-drop i b)) in
+    let post : postOf i (length b - i) b ≡ [] = drop-of-length-le (drop i b) {i = length b - i} (omega (arith, length-drop i b)) in
+    let whole : putMid i (length b - i) b last ≡ take i b ++ last = ap (λ (x : List ℕ). take i b ++ (last ++ x)) post ∙ ap (λ (x : List ℕ). take i b ++ x) (append-nil last) in
+    let long : length (take i b) ≡ i = length-take-le i b h in
+    let q : i + n + 3 ≡ length (take i b) + (n + 3) = omega arith in
+    let z : i + (n + 3) ≡ i + n + 3 = omega arith in
+    record {
+      front =
+          ap (λ (x : List ℕ). take (i + n) x) whole ∙ ap (λ (k : ℕ). take (k + n) (take i b ++ last)) (sym long) ∙ take-append-add (take i b) last n
+          ∙ ap (λ (x : List ℕ). take i b ++ x) (p .front);
+      back =
+          ap (λ (x : List ℕ). drop (i + n + 3) x) whole ∙ ap (λ (k : ℕ). drop k (take i b ++ last)) q ∙ drop-append-add (take i b) last (n + 3)
+          ∙ p .back ∙ ap (λ (x : List ℕ). drop (n + 3) x) mid ∙ drop-drop (n + 3) i b ∙ ap (λ (k : ℕ). drop k b) z;
+      next = omega (arith, p .next);
+    }

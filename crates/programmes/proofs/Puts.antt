@@ -1,10 +1,11 @@
 -- Bytes put one behind the other.
-use Prim.Native.Nat.{ℕ, _+_, _≤_, _<_}
+use Prim.Native.Nat.{ℕ, _+_, _-_, _≤_, _<_}
 use mathlib.Core.Path.{_≡_, refl, sym, ap, _∙_}
 use mathlib.Core.Bool.{true}
 use mathlib.Core.List.{List, [], _∷_}
 use native.Mathlib.Omega.{arith}
 use lib.ListN.{length, set}
+use borrow.Rule.Slice.PartMut.{midOf, putMid, mid-len, same-len-mid}
 use Rattle.folds.specs.Folds.{gather}
 use Rattle.folds.proofs.Lists.{gather-part}
 use Rattle.folds.proofs.Loops.{gather-zero, gather-one}
@@ -20,7 +21,7 @@ use Rattle.planner.specs.Planner.{claimOf, bundleOf}
 use Rattle.programmes.specs.Bytes.{messageBytes, messagesBytes, blockBytes, turnBytes, openBytes}
 use Rattle.numbers.specs.Number.{Put}
 use Rattle.programmes.specs.Laid.{Laid}
-use Rattle.programmes.proofs.Lays.{laid-none, laid-as, laid-then, laid-put, laid-last}
+use Rattle.programmes.proofs.Lays.{laid-none, laid-as, laid-then, laid-put, laid-last, laid-lent}
 use Rattle.programmes.proofs.Gathers.{gather-first, gather-next}
 use Rattle.programmes.proofs.Parts.{message-none, block-home, open-parts, bundle-parts}
 use Rattle.programmes.proofs.Measures.{Walk, walk-starts, walk-on}
@@ -46,6 +47,17 @@ module _ (f : ℕ → List ℕ) (old : List ℕ) (start : ℕ) where
 
     pub filled-more : {last : List ℕ} {r : ℕ} → Laid out at (f i) last r → length last ≡ length out → Filled f old start (i + 1) last r
     filled-more p l = record { laid = laid-as (sym (gather-one i f)) (laid-then (g .laid) p); long = l ∙ g .long }
+
+    -- the rest of the output, from the current end, is handed on: it has room for the next list, which is laid at its front
+    pub filled-rest : (n : ℕ) → i < n → start + length (gather n f) + 3 ≤ length old → length (f i) + 3 ≤ length (midOf at (length out - at) out)
+    filled-rest n h room =
+        let z : at + length (f i) + 3 ≤ length out = filled-room n h room in
+        let m : length (midOf at (length out - at) out) ≡ length out - at = mid-len at (length out) out (omega arith) in
+        omega arith
+
+    pub filled-lent : {last : List ℕ} {n : ℕ} → at ≤ length out → Laid (midOf at (length out - at) out) 0 (f i) last n → length last ≡ length (midOf at (length out - at) out)
+        → Filled f old start (i + 1) (putMid at (length out - at) out last) (at + n)
+    filled-lent {last} {n} h p l = filled-more (laid-lent out last (f i) at n h p) (same-len-mid at (length out - at) out last l)
 
     pub filled-all : (n : ℕ) → i ≡ n → Laid old start (gather n f) out at
     filled-all n e = laid-as (ap (λ (k : ℕ). gather k f) e) (g .laid)

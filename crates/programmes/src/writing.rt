@@ -111,18 +111,18 @@ fn put_blocks(w: &[u32], queues: &[u32], out: &mut [u8], start: usize, k: usize)
     at
 }
 
-// The programme of k.
-fn put_programme(w: &[u32], queues: &[u32], out: &mut [u8], start: usize, k: usize) -> usize
+// The programme of k, at the front of what it is lent; its length.
+fn put_programme(w: &[u32], queues: &[u32], out: &mut [u8], k: usize) -> usize
     requires { ⌜ Scheduled (now w) ⌝ }
     requires { ⌜ (k < 16) × Queued (scheduleIn (now w)) 0 (now queues) ⌝ }
-    requires { ⌜ start + length (openBytes (sheetIn (now w)) (scheduleIn (now w)) k) + 3 ≤ length (now out) ⌝ }
-    ensures { λ r. ⌜ Laid (now (out .entry)) start (openBytes (sheetIn (now (w .entry))) (scheduleIn (now (w .entry))) k) (now (out .exit)) r ⌝ }
+    requires { ⌜ length (openBytes (sheetIn (now w)) (scheduleIn (now w)) k) + 3 ≤ length (now out) ⌝ }
+    ensures { λ r. ⌜ Laid (now (out .entry)) 0 (openBytes (sheetIn (now (w .entry))) (scheduleIn (now (w .entry))) k) (now (out .exit)) r ⌝ }
 {
-    let at = put_pair(out, start, 0x50, k);
+    let at = put_pair(out, 0, 0x50, k);
     put_blocks(w, queues, out, at, k)
 }
 
-// All programmes, each behind the one before it.
+// All programmes: the rest of `out`, from the current end, is handed on for each.
 fn put_each(w: &[u32], queues: &[u32], out: &mut [u8]) -> usize
     requires { ⌜ Scheduled (now w) ⌝ }
     requires { ⌜ Queued (scheduleIn (now w)) 0 (now queues) ⌝ }
@@ -133,7 +133,7 @@ fn put_each(w: &[u32], queues: &[u32], out: &mut [u8]) -> usize
     let mut at: usize = 0;
     let mut k: usize = 0;
     while k < p {
-        at = put_programme(w, queues, out, at, k);
+        at += put_programme(w, queues, &mut out[at..], k);
         k += 1;
     }
     at

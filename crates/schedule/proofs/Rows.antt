@@ -4,6 +4,7 @@ use mathlib.Core.Path.{_≡_, ap, ap₂, sym, _∙_}
 use mathlib.Core.List.{List}
 use native.Mathlib.Omega.{arith}
 use lib.ListN.{length, getD}
+use Rattle.workspace.specs.Area.{finishesAt, levelsAt, openedAt, placedAt, placesAt, scheduleEnd}
 use Rattle.folds.specs.Folds.{listed}
 use Rattle.folds.proofs.Lists.{length-listed, getD-listed, listed-cong}
 use Rattle.sheet.specs.Sheet.{Sheet, taskCount, linkCount}
@@ -27,13 +28,13 @@ module _ (w : List ℕ) where
   unfolding scheduleIn finishOf
   finish-in t h = getD-listed _ (λ (i : ℕ). finishIn w i) t 0 (rw (tasks-in w) at h)
 
-  pub order-long : length (scheduleIn w .order) ≡ getD w 4369 0
+  pub order-long : length (scheduleIn w .order) ≡ getD w placedAt 0
   unfolding scheduleIn
   order-long = length-listed _ _
 
   pub order-in : (i : ℕ) → i < length (scheduleIn w .order) → getD (scheduleIn w .order) i 0 ≡ turnIn w i
   unfolding scheduleIn
-  order-in i h = getD-listed _ (λ (j : ℕ). turnIn w j) i 0 (rw (length-listed (getD w 4369 0) (λ (j : ℕ). turnIn w j)) at h)
+  order-in i h = getD-listed _ (λ (j : ℕ). turnIn w j) i 0 (rw (length-listed (getD w placedAt 0) (λ (j : ℕ). turnIn w j)) at h)
 
   pub on-long : length (scheduleIn w .on) ≡ taskCount (sheetIn w)
   unfolding scheduleIn
@@ -43,9 +44,9 @@ module _ (w : List ℕ) where
   unfolding scheduleIn
   finish-long = length-listed _ _ ∙ sym (tasks-in w)
 
--- the counts, the works and the words from 3856 up to 4384 are all the schedule
-module _ (w w′ : List ℕ) (few-tasks : getD w 0 0 ≤ 256) (few-placed : getD w 4369 0 ≤ 256) (low : (i : ℕ) → i < 272 → getD w′ i 0 ≡ getD w i 0)
-    (same : (i : ℕ) → 3856 ≤ i → i < 4384 → getD w′ i 0 ≡ getD w i 0) where
+-- the counts, the works and the words from `placesAt` on are all the schedule
+module _ (w w′ : List ℕ) (few-tasks : getD w 0 0 ≤ 256) (few-placed : getD w placedAt 0 ≤ 256) (low : (i : ℕ) → i < 272 → getD w′ i 0 ≡ getD w i 0)
+    (same : (i : ℕ) → placesAt ≤ i → i < scheduleEnd → getD w′ i 0 ≡ getD w i 0) where
   table : (f f′ : ℕ → ℕ) (n n′ : ℕ) → n′ ≡ n → n ≤ 256 → ((i : ℕ) → i < 256 → f′ i ≡ f i) → listed n′ f′ ≡ listed n f
   table f f′ n n′ e h each = ap (λ (k : ℕ). listed k f′) e ∙ listed-cong n f′ f (λ i l. each i (omega arith))
 
@@ -53,12 +54,12 @@ module _ (w w′ : List ℕ) (few-tasks : getD w 0 0 ≤ 256) (few-placed : getD
   unfolding scheduleIn
   schedule-frame =
       let tasks = low 0 (omega arith) in
-      let finished : (i : ℕ) → i < 256 → finishIn w′ i ≡ finishIn w i = λ i l. same (4112 + i) (omega arith) (omega arith) in
-      let on = table (λ t. onIn w t) (λ t. onIn w′ t) (getD w 0 0) (getD w′ 0 0) tasks few-tasks (λ i l. ap (λ (x : ℕ). x % 65536) (same (3856 + i) (omega arith) (omega arith))) in
+      let finished : (i : ℕ) → i < 256 → finishIn w′ i ≡ finishIn w i = λ i l. same (finishesAt + i) (omega arith) (omega arith) in
+      let on = table (λ t. onIn w t) (λ t. onIn w′ t) (getD w 0 0) (getD w′ 0 0) tasks few-tasks (λ i l. ap (λ (x : ℕ). x % 65536) (same (placesAt + i) (omega arith) (omega arith))) in
       let start = table (λ t. startIn w t) (λ t. startIn w′ t) (getD w 0 0) (getD w′ 0 0) tasks few-tasks (λ i l. ap₂ (λ (x y : ℕ). x - y % 65536) (finished i l) (low (16 + i) (omega arith))) in
       let finish = table (λ t. finishIn w t) (λ t. finishIn w′ t) (getD w 0 0) (getD w′ 0 0) tasks few-tasks finished in
-      let order = table (λ i. turnIn w i) (λ i. turnIn w′ i) (getD w 4369 0) (getD w′ 4369 0) (same 4369 (omega arith) (omega arith)) few-placed (λ i l. ap (λ (x : ℕ). x / 65536) (same (3856 + i) (omega arith) (omega arith))) in
-      λ x. record { on = on x; start = start x; finish = finish x; order = order x; opened = same 4368 (omega arith) (omega arith) x }
+      let order = table (λ i. turnIn w i) (λ i. turnIn w′ i) (getD w placedAt 0) (getD w′ placedAt 0) (same placedAt (omega arith) (omega arith)) few-placed (λ i l. ap (λ (x : ℕ). x / 65536) (same (placesAt + i) (omega arith) (omega arith))) in
+      λ x. record { on = on x; start = start x; finish = finish x; order = order x; opened = same openedAt (omega arith) (omega arith) x }
 
-pub levelled-frame : {s : Sheet} {w w′ : List ℕ} → taskCount s ≤ 256 → linkCount s ≤ 1024 → ((i : ℕ) → i < 3856 → getD w′ i 0 ≡ getD w i 0) → Levelled s w → Levelled s w′
-levelled-frame few links same d = record { inward = chained-frame few links (λ i h k. same i (omega arith)) (d .inward); levels = λ t h. same (2320 + t) (omega arith) ∙ d .levels t h }
+pub levelled-frame : {s : Sheet} {w w′ : List ℕ} → taskCount s ≤ 256 → linkCount s ≤ 1024 → ((i : ℕ) → i < placesAt → getD w′ i 0 ≡ getD w i 0) → Levelled s w → Levelled s w′
+levelled-frame few links same d = record { inward = chained-frame few links (λ i h k. same i (omega arith)) (d .inward); levels = λ t h. same (levelsAt + t) (omega arith) ∙ d .levels t h }

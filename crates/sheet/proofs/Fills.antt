@@ -13,23 +13,23 @@ use Rattle.folds.specs.Folds.{listed}
 use Rattle.folds.proofs.Tests.{equal-or}
 use Rattle.folds.proofs.Loops.{listed-one}
 use Rattle.folds.proofs.Lists.{listed-cong}
-use Rattle.workspace.specs.Area.{fixed, ClearIs}
+use Rattle.workspace.specs.Area.{fixed, ClearIs, linksAt, pairsAt, sizesAt, tasksAt}
 use Rattle.sheet.specs.Sheet.{Task, Link}
 use Rattle.sheet.specs.Tables.{taskOfWord, linkOfWords, taskIn, linkIn, sheetIn, bitAt, pairIn, taskWords, linkWords, pairWords, Blanked}
 use Rattle.sheet.proofs.Bits.{bit-set, bit-other, bit-room, bit-le}
 
 -- a bit that is not set leaves room for it
-pub pair-room : (w : List ℕ) (a b : ℕ) → pairIn w a b ≡ false → getD w (2320 + (8 * a + b / 32)) 0 < 4294967296
-    → getD w (2320 + (8 * a + b / 32)) 0 + 2 ^ (b % 32) < 4294967296
+pub pair-room : (w : List ℕ) (a b : ℕ) → pairIn w a b ≡ false → getD w (pairsAt + (8 * a + b / 32)) 0 < 4294967296
+    → getD w (pairsAt + (8 * a + b / 32)) 0 + 2 ^ (b % 32) < 4294967296
 unfolding pairIn
 pair-room w a b h l =
-    let x : ℕ = getD w (2320 + (8 * a + b / 32)) 0 in
+    let x : ℕ = getD w (pairsAt + (8 * a + b / 32)) 0 in
     let no : bitAt x (b % 32) ≢ 1 = eqb-false _ _ h in
     bit-room (b % 32) 32 x (omega arith) l (omega (arith, bit-le x (b % 32)))
 
 module _ (w : List ℕ) (a b : ℕ) (long : fixed ≤ length w) (a-small : a < 256) (b-small : b < 256) where
   -- what setting a pair's bit leaves
-  pub pair-away : (i : ℕ) → i < 2320 → getD (pairWords w a b) i 0 ≡ getD w i 0
+  pub pair-away : (i : ℕ) → i < pairsAt → getD (pairWords w a b) i 0 ≡ getD w i 0
   unfolding pairWords
   pair-away i h = getD-set-other w _ i _ 0 (λ q. omega arith)
 
@@ -41,7 +41,7 @@ module _ (w : List ℕ) (a b : ℕ) (long : fixed ≤ length w) (a-small : a < 2
   pub pair-same : pairIn w a b ≡ false → pairIn (pairWords w a b) a b ≡ true
   unfolding pairIn pairWords
   pair-same h =
-      let i : ℕ = 2320 + (8 * a + b / 32) in
+      let i : ℕ = pairsAt + (8 * a + b / 32) in
       let no : bitAt (getD w i 0) (b % 32) ≢ 1 = eqb-false _ _ h in
       let e : getD (set w i (getD w i 0 + 2 ^ (b % 32))) i 0 ≡ getD w i 0 + 2 ^ (b % 32) = getD-set-same w i _ 0 (omega arith) in
       rw e (eq-eqb _ _ (bit-set (b % 32) (getD w i 0) (omega (arith, bit-le (getD w i 0) (b % 32)))))
@@ -49,8 +49,8 @@ module _ (w : List ℕ) (a b : ℕ) (long : fixed ≤ length w) (a-small : a < 2
   pub pair-other : pairIn w a b ≡ false → (c d : ℕ) → d < 256 → ((c ≡ a) × (d ≡ b) → ⊥) → pairIn (pairWords w a b) c d ≡ pairIn w c d
   unfolding pairIn pairWords
   pair-other h c d d-small away =
-      let i : ℕ = 2320 + (8 * a + b / 32) in
-      let k : ℕ = 2320 + (8 * c + d / 32) in
+      let i : ℕ = pairsAt + (8 * a + b / 32) in
+      let k : ℕ = pairsAt + (8 * c + d / 32) in
       let no : bitAt (getD w i 0) (b % 32) ≢ 1 = eqb-false _ _ h in
       ⊎-elim
       (λ (q : k ≡ i).
@@ -77,7 +77,7 @@ link-packed a b c d h k =
 
 -- one task more: the words elsewhere, and the sheet
 module _ (w : List ℕ) (n work store : ℕ) (long : fixed ≤ length w) (n-small : n < 256) where
-  pub task-away : (i : ℕ) → i ≢ 16 + n → i ≢ 0 → getD (taskWords w n work store) i 0 ≡ getD w i 0
+  pub task-away : (i : ℕ) → i ≢ tasksAt + n → i ≢ 0 → getD (taskWords w n work store) i 0 ≡ getD w i 0
   unfolding taskWords
   task-away i h₁ h₂ = simp getD-set-other
 
@@ -87,21 +87,21 @@ module _ (w : List ℕ) (n work store : ℕ) (long : fixed ≤ length w) (n-smal
 
   pub task-count : getD (taskWords w n work store) 0 0 ≡ n + 1
   unfolding taskWords
-  task-count = getD-set-same (set w (16 + n) (work + 65536 * store)) 0 (n + 1) 0 (simp length-set (omega arith))
+  task-count = getD-set-same (set w (tasksAt + n) (work + 65536 * store)) 0 (n + 1) 0 (simp length-set (omega arith))
 
   pub task-old : (t : ℕ) → t ≢ n → taskIn (taskWords w n work store) t ≡ taskIn w t
-  task-old t h = ap taskOfWord (task-away (16 + t) (λ q. h (omega arith)) (λ q. omega arith))
+  task-old t h = ap taskOfWord (task-away (tasksAt + t) (λ q. h (omega arith)) (λ q. omega arith))
 
   pub task-new : work < 65536 → taskIn (taskWords w n work store) n ≡ record { work = work; store = store }
   unfolding taskWords
   task-new h =
-      let h1 : 16 + n ≢ 0 = λ q. omega arith in
-      let l : 16 + n < length w = omega arith in
-      let e : getD (set (set w (16 + n) (work + 65536 * store)) 0 (n + 1)) (16 + n) 0 ≡ work + 65536 * store = simp (getD-set-other, getD-set-same) in
+      let h1 : tasksAt + n ≢ 0 = λ q. omega arith in
+      let l : tasksAt + n < length w = omega arith in
+      let e : getD (set (set w (tasksAt + n) (work + 65536 * store)) 0 (n + 1)) (tasksAt + n) 0 ≡ work + 65536 * store = simp (getD-set-other, getD-set-same) in
       ap taskOfWord e ∙ task-packed work store h
 
   pub task-links : (l : ℕ) → linkIn (taskWords w n work store) l ≡ linkIn w l
-  task-links l = ap₂ linkOfWords (task-away (272 + l) (λ q. omega arith) (λ q. omega arith)) (task-away (1296 + l) (λ q. omega arith) (λ q. omega arith))
+  task-links l = ap₂ linkOfWords (task-away (linksAt + l) (λ q. omega arith) (λ q. omega arith)) (task-away (sizesAt + l) (λ q. omega arith) (λ q. omega arith))
 
   pub sheet-task : getD w 0 0 ≡ n → work < 65536
       → sheetIn (taskWords w n work store) ≡ record { processors = sheetIn w .processors; limit = sheetIn w .limit; tasks = sheetIn w .tasks ++ record { work = work; store = store } ∷ []; links = sheetIn w .links }
@@ -120,7 +120,7 @@ module _ (w : List ℕ) (n work store : ℕ) (long : fixed ≤ length w) (n-smal
 
 -- one link more: the words elsewhere, and the sheet
 module _ (w : List ℕ) (m a b c d : ℕ) (long : fixed ≤ length w) (m-small : m < 1024) where
-  pub link-away : (i : ℕ) → i ≢ 272 + m → i ≢ 1296 + m → i ≢ 1 → getD (linkWords w m a b c d) i 0 ≡ getD w i 0
+  pub link-away : (i : ℕ) → i ≢ linksAt + m → i ≢ sizesAt + m → i ≢ 1 → getD (linkWords w m a b c d) i 0 ≡ getD w i 0
   unfolding linkWords
   link-away i h₁ h₂ h₃ = simp getD-set-other
 
@@ -130,27 +130,27 @@ module _ (w : List ℕ) (m a b c d : ℕ) (long : fixed ≤ length w) (m-small :
 
   pub link-count : getD (linkWords w m a b c d) 1 0 ≡ m + 1
   unfolding linkWords
-  link-count = getD-set-same (set (set w (272 + m) (a + 256 * b + 65536 * c)) (1296 + m) d) 1 (m + 1) 0 (simp length-set (omega arith))
+  link-count = getD-set-same (set (set w (linksAt + m) (a + 256 * b + 65536 * c)) (sizesAt + m) d) 1 (m + 1) 0 (simp length-set (omega arith))
 
   pub link-old : (l : ℕ) → l < m → linkIn (linkWords w m a b c d) l ≡ linkIn w l
   link-old l h =
-      ap₂ linkOfWords (link-away (272 + l) (λ q. omega arith) (λ q. omega arith) (λ q. omega arith)) (link-away (1296 + l) (λ q. omega arith) (λ q. omega arith) (λ q. omega arith))
+      ap₂ linkOfWords (link-away (linksAt + l) (λ q. omega arith) (λ q. omega arith) (λ q. omega arith)) (link-away (sizesAt + l) (λ q. omega arith) (λ q. omega arith) (λ q. omega arith))
 
   pub link-new : a < 256 → b < 256 → linkIn (linkWords w m a b c d) m ≡ record { source = a; target = b; cost = c; bytes = d }
   unfolding linkWords
   link-new h k =
       let x : ℕ = a + 256 * b + 65536 * c in
-      let h0 : 272 + m ≢ 1296 + m = λ q. omega arith in
-      let h1 : 272 + m ≢ 1 = λ q. omega arith in
-      let h2 : 1296 + m ≢ 1 = λ q. omega arith in
-      let l0 : 272 + m < length w = omega arith in
-      let l1 : 1296 + m < length (set w (272 + m) x) = simp length-set (omega arith) in
-      let p : getD (set (set (set w (272 + m) x) (1296 + m) d) 1 (m + 1)) (272 + m) 0 ≡ x = simp (getD-set-other, getD-set-same) in
-      let q : getD (set (set (set w (272 + m) x) (1296 + m) d) 1 (m + 1)) (1296 + m) 0 ≡ d = simp (getD-set-other, getD-set-same) in
+      let h0 : linksAt + m ≢ sizesAt + m = λ q. omega arith in
+      let h1 : linksAt + m ≢ 1 = λ q. omega arith in
+      let h2 : sizesAt + m ≢ 1 = λ q. omega arith in
+      let l0 : linksAt + m < length w = omega arith in
+      let l1 : sizesAt + m < length (set w (linksAt + m) x) = simp length-set (omega arith) in
+      let p : getD (set (set (set w (linksAt + m) x) (sizesAt + m) d) 1 (m + 1)) (linksAt + m) 0 ≡ x = simp (getD-set-other, getD-set-same) in
+      let q : getD (set (set (set w (linksAt + m) x) (sizesAt + m) d) 1 (m + 1)) (sizesAt + m) 0 ≡ d = simp (getD-set-other, getD-set-same) in
       ap₂ linkOfWords p q ∙ link-packed a b c d h k
 
   pub link-tasks : (t : ℕ) → t < 256 → taskIn (linkWords w m a b c d) t ≡ taskIn w t
-  link-tasks t h = ap taskOfWord (link-away (16 + t) (λ q. omega arith) (λ q. omega arith) (λ q. omega arith))
+  link-tasks t h = ap taskOfWord (link-away (tasksAt + t) (λ q. omega arith) (λ q. omega arith) (λ q. omega arith))
 
   pub sheet-link : getD w 1 0 ≡ m → getD w 0 0 ≤ 256 → a < 256 → b < 256
       → sheetIn (linkWords w m a b c d) ≡ record { processors = sheetIn w .processors; limit = sheetIn w .limit; tasks = sheetIn w .tasks; links = sheetIn w .links ++ record { source = a; target = b; cost = c; bytes = d } ∷ [] }
@@ -168,7 +168,7 @@ module _ (w : List ℕ) (m a b c d : ℕ) (long : fixed ≤ length w) (m-small :
       λ x. record { processors = p x; limit = q x; tasks = tasks x; links = links x }
 
 -- pair words that were cleared
-pub blanked : {e : ℕ} {w v : List ℕ} → ClearIs w v 2320 e → Blanked e w v
+pub blanked : {e : ℕ} {w v : List ℕ} → ClearIs w v pairsAt e → Blanked e w v
 blanked c = record { long = c .long; low = λ i h. c .other i (inl h); zeros = c .zeros }
 
 -- a link added by a store of its bit and then of its numbers

@@ -14,7 +14,7 @@ use Rattle.folds.specs.Folds.{both, either, any, listed}
 use Rattle.folds.proofs.Tests.{equal-or, both-false, either-true, either-false}
 use Rattle.folds.proofs.Loops.{any-one, any-zero, listed-zero}
 use Rattle.folds.proofs.Laws.{any-cong}
-use Rattle.workspace.specs.Area.{fixed}
+use Rattle.workspace.specs.Area.{fixed, pairsAt}
 use Rattle.sheet.specs.Sheet.{Sheet, Task, Link, noLink, linkCount, sourceOf, targetOf}
 use Rattle.sheet.specs.Format.{joins, joinsBy}
 use Rattle.sheet.specs.Tables.{taskIn, linkIn, sheetIn, Loaded, bitAt, pairIn, Filling, taskWords, linkWords, pairWords, boardWords, Blanked, LoadedOf}
@@ -41,10 +41,10 @@ unfolding joins joinsBy linkCount sourceOf targetOf
 joins-link s t x e a b =
     ap (λ (ls : List Link). any (length ls) (λ l. both (eqb (getD ls l noLink .source) a) (eqb (getD ls l noLink .target) b))) e ∙ joins-more (s .links) x a b
 
--- the bits are those of the words from 2320 on
-pair-frame : (w w′ : List ℕ) (a b : ℕ) → ((i : ℕ) → 2320 ≤ i → getD w′ i 0 ≡ getD w i 0) → pairIn w′ a b ≡ pairIn w a b
+-- the bits are those of the words from `pairsAt` on
+pair-frame : (w w′ : List ℕ) (a b : ℕ) → ((i : ℕ) → pairsAt ≤ i → getD w′ i 0 ≡ getD w i 0) → pairIn w′ a b ≡ pairIn w a b
 unfolding pairIn
-pair-frame w w′ a b same = ap (λ (x : ℕ). eqb (bitAt x (b % 32)) 1) (same (2320 + (8 * a + b / 32)) (omega arith))
+pair-frame w w′ a b same = ap (λ (x : ℕ). eqb (bitAt x (b % 32)) 1) (same (pairsAt + (8 * a + b / 32)) (omega arith))
 
 module _ (w : List ℕ) (n work store : ℕ) (h : Loaded w) (e : getD w 0 0 ≡ n) (n-small : n < 256) (work-small : work < 65536) (store-small : store < 65536) where
   pub task-loaded : Loaded (taskWords w n work store)
@@ -79,7 +79,7 @@ module _ (w : List ℕ) (m a b c d : ℕ) (f : Filling w) (e : getD w 1 0 ≡ m)
   small : (a < 256) × (b < 256)
   small = (omega (arith, f .loaded .tasks), omega (arith, f .loaded .tasks))
 
-  low : (i : ℕ) → i < 2320 → getD v i 0 ≡ getD w i 0
+  low : (i : ℕ) → i < pairsAt → getD v i 0 ≡ getD w i 0
   low = pair-away w a b (f .loaded .long) (small .0) (small .1)
 
   v-long : length v ≡ length w
@@ -204,8 +204,8 @@ joins-none : (s : Sheet) (a b : ℕ) → linkCount s ≡ 0 → joins s a b ≡ f
 unfolding joins
 joins-none s a b e = ap (λ (n : ℕ). any n (joinsBy s a b)) e ∙ any-zero _
 
-module _ {w v : List ℕ} {n : ℕ} (h : Loaded w) (e : getD w 0 0 ≡ n) (none : getD w 1 0 ≡ 0) (b : Blanked (2320 + 8 * n) w v) where
-  low-same : (i : ℕ) → i < 2320 → getD v i 0 ≡ getD w i 0
+module _ {w v : List ℕ} {n : ℕ} (h : Loaded w) (e : getD w 0 0 ≡ n) (none : getD w 1 0 ≡ 0) (b : Blanked (pairsAt + 8 * n) w v) where
+  low-same : (i : ℕ) → i < pairsAt → getD v i 0 ≡ getD w i 0
   low-same i l = b .low i (omega arith)
 
   pub blank-sheet : sheetIn v ≡ sheetIn w
@@ -214,7 +214,7 @@ module _ {w v : List ℕ} {n : ℕ} (h : Loaded w) (e : getD w 0 0 ≡ n) (none 
   no-pair : (x y : ℕ) → x < n → y < n → pairIn v x y ≡ false
   unfolding pairIn
   no-pair x y l k =
-      let z : getD v (2320 + (8 * x + y / 32)) 0 ≡ 0 = b .zeros (2320 + (8 * x + y / 32)) (omega arith) (omega (arith, h .tasks)) in
+      let z : getD v (pairsAt + (8 * x + y / 32)) 0 ≡ 0 = b .zeros (pairsAt + (8 * x + y / 32)) (omega arith) (omega (arith, h .tasks)) in
       ap (λ (u : ℕ). eqb (bitAt u (y % 32)) 1) z ∙ ap (λ (u : ℕ). eqb u 1) (bit-none (y % 32))
 
   pub blank-filling : Filling v

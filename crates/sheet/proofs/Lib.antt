@@ -6,3 +6,4 @@ pub mod Joins
 pub mod Judging
 pub mod Rounds
 pub mod Numbers
+pub mod Values

@@ -4,6 +4,7 @@ use mathlib.Core.Path.{_≡_, ap, ap₂, sym, _∙_}
 use mathlib.Core.List.{List}
 use native.Mathlib.Omega.{arith}
 use lib.ListN.{length, getD}
+use Rattle.workspace.specs.Area.{linksAt, pairsAt, sizesAt, tasksAt}
 use Rattle.folds.specs.Folds.{listed}
 use Rattle.folds.proofs.Lists.{length-listed, getD-listed, listed-cong}
 use Rattle.sheet.specs.Sheet.{Task, Link, noTask, noLink, taskCount, linkCount, workOf, storeOf, sourceOf, targetOf, costOf, bytesOf}
@@ -89,13 +90,13 @@ ranged w h =
       sizes = λ l k. rw (bytes-in w l k) (h .sizes l (rw (links-in w) at k));
     }
 
--- below word 2320 an area is all the sheet
-module _ (w w′ : List ℕ) (same : (i : ℕ) → i < 2320 → getD w′ i 0 ≡ getD w i 0) where
+-- an area up to its levels is all the sheet
+module _ (w w′ : List ℕ) (same : (i : ℕ) → i < pairsAt → getD w′ i 0 ≡ getD w i 0) where
   pub task-frame : (t : ℕ) → t < 256 → taskIn w′ t ≡ taskIn w t
-  task-frame t h = ap taskOfWord (same (16 + t) (omega arith))
+  task-frame t h = ap taskOfWord (same (tasksAt + t) (omega arith))
 
   pub link-frame : (l : ℕ) → l < 1024 → linkIn w′ l ≡ linkIn w l
-  link-frame l h = ap₂ linkOfWords (same (272 + l) (omega arith)) (same (1296 + l) (omega arith))
+  link-frame l h = ap₂ linkOfWords (same (linksAt + l) (omega arith)) (same (sizesAt + l) (omega arith))
 
   pub sheet-frame : getD w 0 0 ≤ 256 → getD w 1 0 ≤ 1024 → sheetIn w′ ≡ sheetIn w
   unfolding sheetIn
@@ -119,11 +120,11 @@ module _ (w w′ : List ℕ) (same : (i : ℕ) → i < 2320 → getD w′ i 0 �
         tasks = omega arith;
         links = omega arith;
         processors = omega (arith, same 2 (omega arith), h .processors);
-        stores = λ t l. rw (same (16 + t) (omega arith)) (h .stores t (omega arith));
-        source = λ l k. rw (same (272 + l) (omega arith), n) (h .source l (omega arith));
-        target = λ l k. rw (same (272 + l) (omega arith), n) (h .target l (omega arith));
-        costs = λ l k. rw (same (272 + l) (omega arith)) (h .costs l (omega arith));
-        sizes = λ l k. rw (same (1296 + l) (omega arith)) (h .sizes l (omega arith));
+        stores = λ t l. rw (same (tasksAt + t) (omega arith)) (h .stores t (omega arith));
+        source = λ l k. rw (same (linksAt + l) (omega arith), n) (h .source l (omega arith));
+        target = λ l k. rw (same (linksAt + l) (omega arith), n) (h .target l (omega arith));
+        costs = λ l k. rw (same (linksAt + l) (omega arith)) (h .costs l (omega arith));
+        sizes = λ l k. rw (same (sizesAt + l) (omega arith)) (h .sizes l (omega arith));
       }
 
 -- the tables up to their counts are the sheet's lists

@@ -6,7 +6,7 @@ use mathlib.Core.List.{List}
 use lib.ListN.{length, getD, set}
 use lib.Dec.{eqb}
 use Rattle.folds.specs.Folds.{listed}
-use Rattle.workspace.specs.Area.{fixed}
+use Rattle.workspace.specs.Area.{fixed, limitAt, linkCountAt, linksAt, pairsAt, processorsAt, sizesAt, taskCountAt, tasksAt}
 use Rattle.sheet.specs.Sheet.{Sheet, Task, Link, taskCount, linkCount, workOf, storeOf, sourceOf, targetOf, costOf, bytesOf}
 use Rattle.sheet.specs.Format.{joins}
 
@@ -18,26 +18,26 @@ abbrev pub linkOfWords : ℕ → ℕ → Link
 linkOfWords x y = record { source = x % 256; target = x / 256 % 256; cost = x / 65536; bytes = y }
 
 abbrev pub taskIn : List ℕ → ℕ → Task
-taskIn w t = taskOfWord (getD w (16 + t) 0)
+taskIn w t = taskOfWord (getD w (tasksAt + t) 0)
 
 abbrev pub linkIn : List ℕ → ℕ → Link
-linkIn w l = linkOfWords (getD w (272 + l) 0) (getD w (1296 + l) 0)
+linkIn w l = linkOfWords (getD w (linksAt + l) 0) (getD w (sizesAt + l) 0)
 
 unfoldable pub sheetIn : List ℕ → Sheet
 sheetIn w =
-    record { processors = getD w 2 0; limit = getD w 3 0; tasks = listed (getD w 0 0) (taskIn w); links = listed (getD w 1 0) (linkIn w) }
+    record { processors = getD w processorsAt 0; limit = getD w limitAt 0; tasks = listed (getD w taskCountAt 0) (taskIn w); links = listed (getD w linkCountAt 0) (linkIn w) }
 
 -- the tables hold a sheet whose numbers are in their ranges (a work always is) and whose links name its tasks
 pub record Loaded (w : List ℕ) : Type 0 where
   pub long : fixed ≤ length w
-  pub tasks : getD w 0 0 ≤ 256
-  pub links : getD w 1 0 ≤ 1024
-  pub processors : getD w 2 0 ≤ 16
-  pub stores : (t : ℕ) → t < getD w 0 0 → taskIn w t .store < 65536
-  pub source : (l : ℕ) → l < getD w 1 0 → linkIn w l .source < getD w 0 0
-  pub target : (l : ℕ) → l < getD w 1 0 → linkIn w l .target < getD w 0 0
-  pub costs : (l : ℕ) → l < getD w 1 0 → linkIn w l .cost < 65536
-  pub sizes : (l : ℕ) → l < getD w 1 0 → linkIn w l .bytes < 65536
+  pub tasks : getD w taskCountAt 0 ≤ 256
+  pub links : getD w linkCountAt 0 ≤ 1024
+  pub processors : getD w processorsAt 0 ≤ 16
+  pub stores : (t : ℕ) → t < getD w taskCountAt 0 → taskIn w t .store < 65536
+  pub source : (l : ℕ) → l < getD w linkCountAt 0 → linkIn w l .source < getD w taskCountAt 0
+  pub target : (l : ℕ) → l < getD w linkCountAt 0 → linkIn w l .target < getD w taskCountAt 0
+  pub costs : (l : ℕ) → l < getD w linkCountAt 0 → linkIn w l .cost < 65536
+  pub sizes : (l : ℕ) → l < getD w linkCountAt 0 → linkIn w l .bytes < 65536
 
 -- the same of the sheet itself
 pub record Ranged (s : Sheet) : Type 0 where
@@ -56,34 +56,34 @@ unfoldable pub bitAt : ℕ → ℕ → ℕ
 bitAt x j = x / 2 ^ j % 2
 
 unfoldable pub pairIn : List ℕ → ℕ → ℕ → Bool
-pairIn w a b = eqb (bitAt (getD w (2320 + (8 * a + b / 32)) 0) (b % 32)) 1
+pairIn w a b = eqb (bitAt (getD w (pairsAt + (8 * a + b / 32)) 0) (b % 32)) 1
 
 -- a sheet whose links are being read: its tables, and a bit for each pair of tasks that a link joins
 pub record Filling (w : List ℕ) : Type 0 where
   pub loaded : Loaded w
-  pub pairs : (a b : ℕ) → a < getD w 0 0 → b < getD w 0 0 → pairIn w a b ≡ joins (sheetIn w) a b
+  pub pairs : (a b : ℕ) → a < getD w taskCountAt 0 → b < getD w taskCountAt 0 → pairIn w a b ≡ joins (sheetIn w) a b
 
 -- the words with one task more, and with one link more
 unfoldable pub taskWords : List ℕ → ℕ → ℕ → ℕ → List ℕ
-taskWords w n work store = set (set w (16 + n) (work + 65536 * store)) 0 (n + 1)
+taskWords w n work store = set (set w (tasksAt + n) (work + 65536 * store)) taskCountAt (n + 1)
 
 unfoldable pub linkWords : List ℕ → ℕ → ℕ → ℕ → ℕ → ℕ → List ℕ
 linkWords w m source target cost bytes =
-    set (set (set w (272 + m) (source + 256 * target + 65536 * cost)) (1296 + m) bytes) 1 (m + 1)
+    set (set (set w (linksAt + m) (source + 256 * target + 65536 * cost)) (sizesAt + m) bytes) linkCountAt (m + 1)
 
 -- the words with the bit of a pair set, where it was not
 unfoldable pub pairWords : List ℕ → ℕ → ℕ → List ℕ
-pairWords w a b = set w (2320 + (8 * a + b / 32)) (getD w (2320 + (8 * a + b / 32)) 0 + 2 ^ (b % 32))
+pairWords w a b = set w (pairsAt + (8 * a + b / 32)) (getD w (pairsAt + (8 * a + b / 32)) 0 + 2 ^ (b % 32))
 
 -- the words of a sheet without tasks
 unfoldable pub boardWords : List ℕ → ℕ → ℕ → List ℕ
-boardWords w processors limit = set (set (set (set w 0 0) 1 0) 2 processors) 3 limit
+boardWords w processors limit = set (set (set (set w taskCountAt 0) linkCountAt 0) processorsAt processors) limitAt limit
 
 -- the pair words below word n are 0, and the words before them as they were
 pub record Blanked (n : ℕ) (w last : List ℕ) : Type 0 where
   pub long : length last ≡ length w
-  pub low : (i : ℕ) → i < 2320 → getD last i 0 ≡ getD w i 0
-  pub zeros : (i : ℕ) → 2320 ≤ i → i < n → getD last i 0 ≡ 0
+  pub low : (i : ℕ) → i < pairsAt → getD last i 0 ≡ getD w i 0
+  pub zeros : (i : ℕ) → pairsAt ≤ i → i < n → getD last i 0 ≡ 0
 
 -- the tables hold this sheet
 pub record LoadedOf (s : Sheet) (w last : List ℕ) : Type 0 where

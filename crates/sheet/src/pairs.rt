@@ -3,8 +3,9 @@ ghost use mathlib.Core.Path.{_≡_};
 ghost use mathlib.Core.Bool.{false};
 ghost use Prim.Native.Nat.{_+_, _*_, _^_, _<_, _≤_};
 ghost use lib.ListN.{length};
-ghost use Rattle.workspace.specs.Area.{fixed};
+ghost use Rattle.workspace.specs.Area.{fixed, pairsAt};
 ghost use Rattle.sheet.specs.Tables.{pairIn, pairWords, Blanked};
+use workspace::PAIRS;
 
 fn power(j: u32) -> u32
     requires { ⌜ j < 32 ⌝ }
@@ -18,7 +19,7 @@ pub fn joined(w: &[u32], a: usize, b: usize) -> bool
     requires { ⌜ (fixed ≤ length (now w)) × (a < 256) × (b < 256) ⌝ }
     ensures { λ r. ⌜ r ≡ pairIn (now (w .entry)) a b ⌝ }
 {
-    let i = 2320 + (8 * a + b / 32);
+    let i = PAIRS + (8 * a + b / 32);
     let j = (b % 32) as u32;
     (w[i] >> j) % 2 == 1
 }
@@ -28,7 +29,7 @@ pub fn join(w: &mut [u32], a: usize, b: usize)
     requires { ⌜ (fixed ≤ length (now w)) × (a < 256) × (b < 256) × (pairIn (now w) a b ≡ false) ⌝ }
     ensures { λ _. ⌜ now (w .exit) ≡ pairWords (now (w .entry)) a b ⌝ }
 {
-    let i = 2320 + (8 * a + b / 32);
+    let i = PAIRS + (8 * a + b / 32);
     let j = (b % 32) as u32;
     w[i] = w[i] + power(j);
 }
@@ -36,7 +37,7 @@ pub fn join(w: &mut [u32], a: usize, b: usize)
 // No pair of the first n tasks is joined.
 pub fn blank(w: &mut [u32], n: usize)
     requires { ⌜ (fixed ≤ length (now w)) × (n ≤ 256) ⌝ }
-    ensures { λ _. ⌜ Blanked (2320 + 8 * n) (now (w .entry)) (now (w .exit)) ⌝ }
+    ensures { λ _. ⌜ Blanked (pairsAt + 8 * n) (now (w .entry)) (now (w .exit)) ⌝ }
 {
-    workspace::clear_words(w, 2320, 2320 + 8 * n);
+    workspace::clear_words(w, PAIRS, PAIRS + 8 * n);
 }

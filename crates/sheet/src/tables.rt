@@ -6,33 +6,40 @@ ghost use lib.ListN.{length};
 ghost use Rattle.workspace.specs.Area.{fixed};
 ghost use Rattle.sheet.specs.Sheet.{taskCount, linkCount, workOf, storeOf, sourceOf, targetOf, costOf, bytesOf};
 ghost use Rattle.sheet.specs.Tables.{sheetIn, Loaded, LoadedOf, taskWords, linkWords};
+use workspace::LIMIT;
+use workspace::LINK_COUNT;
+use workspace::LINKS;
+use workspace::PROCESSORS;
+use workspace::SIZES;
+use workspace::TASK_COUNT;
+use workspace::TASKS;
 
 pub fn tasks(w: &[u32]) -> usize
     requires { ⌜ Loaded (now w) ⌝ }
     ensures { λ r. ⌜ (r ≡ taskCount (sheetIn (now (w .entry)))) × (r ≤ 256) ⌝ }
 {
-    workspace::word(w, 0)
+    workspace::word(w, TASK_COUNT)
 }
 
 pub fn links(w: &[u32]) -> usize
     requires { ⌜ Loaded (now w) ⌝ }
     ensures { λ r. ⌜ (r ≡ linkCount (sheetIn (now (w .entry)))) × (r ≤ 1024) ⌝ }
 {
-    workspace::word(w, 1)
+    workspace::word(w, LINK_COUNT)
 }
 
 pub fn processors(w: &[u32]) -> usize
     requires { ⌜ Loaded (now w) ⌝ }
     ensures { λ r. ⌜ (r ≡ sheetIn (now (w .entry)) .processors) × (r ≤ 16) ⌝ }
 {
-    workspace::word(w, 2)
+    workspace::word(w, PROCESSORS)
 }
 
 pub fn limit(w: &[u32]) -> usize
     requires { ⌜ Loaded (now w) ⌝ }
     ensures { λ r. ⌜ (r ≡ sheetIn (now (w .entry)) .limit) × (r < 4294967296) ⌝ }
 {
-    workspace::word(w, 3)
+    workspace::word(w, LIMIT)
 }
 
 pub fn work(w: &[u32], t: usize) -> usize
@@ -40,7 +47,7 @@ pub fn work(w: &[u32], t: usize) -> usize
     requires { ⌜ t < taskCount (sheetIn (now w)) ⌝ }
     ensures { λ r. ⌜ (r ≡ workOf (sheetIn (now (w .entry))) t) × (r ≤ 65535) ⌝ }
 {
-    workspace::word(w, 16 + t) % 65536
+    workspace::word(w, TASKS + t) % 65536
 }
 
 pub fn store(w: &[u32], t: usize) -> usize
@@ -48,7 +55,7 @@ pub fn store(w: &[u32], t: usize) -> usize
     requires { ⌜ t < taskCount (sheetIn (now w)) ⌝ }
     ensures { λ r. ⌜ (r ≡ storeOf (sheetIn (now (w .entry))) t) × (r ≤ 65535) ⌝ }
 {
-    workspace::word(w, 16 + t) / 65536
+    workspace::word(w, TASKS + t) / 65536
 }
 
 pub fn source(w: &[u32], l: usize) -> usize
@@ -56,7 +63,7 @@ pub fn source(w: &[u32], l: usize) -> usize
     requires { ⌜ l < linkCount (sheetIn (now w)) ⌝ }
     ensures { λ r. ⌜ (r ≡ sourceOf (sheetIn (now (w .entry))) l) × (r < taskCount (sheetIn (now (w .entry)))) ⌝ }
 {
-    workspace::word(w, 272 + l) % 256
+    workspace::word(w, LINKS + l) % 256
 }
 
 pub fn target(w: &[u32], l: usize) -> usize
@@ -64,7 +71,7 @@ pub fn target(w: &[u32], l: usize) -> usize
     requires { ⌜ l < linkCount (sheetIn (now w)) ⌝ }
     ensures { λ r. ⌜ (r ≡ targetOf (sheetIn (now (w .entry))) l) × (r < taskCount (sheetIn (now (w .entry)))) ⌝ }
 {
-    workspace::word(w, 272 + l) / 256 % 256
+    workspace::word(w, LINKS + l) / 256 % 256
 }
 
 pub fn cost(w: &[u32], l: usize) -> usize
@@ -72,7 +79,7 @@ pub fn cost(w: &[u32], l: usize) -> usize
     requires { ⌜ l < linkCount (sheetIn (now w)) ⌝ }
     ensures { λ r. ⌜ (r ≡ costOf (sheetIn (now (w .entry))) l) × (r ≤ 65535) ⌝ }
 {
-    workspace::word(w, 272 + l) / 65536
+    workspace::word(w, LINKS + l) / 65536
 }
 
 pub fn size(w: &[u32], l: usize) -> usize
@@ -80,7 +87,7 @@ pub fn size(w: &[u32], l: usize) -> usize
     requires { ⌜ l < linkCount (sheetIn (now w)) ⌝ }
     ensures { λ r. ⌜ (r ≡ bytesOf (sheetIn (now (w .entry))) l) × (r ≤ 65535) ⌝ }
 {
-    workspace::word(w, 1296 + l)
+    workspace::word(w, SIZES + l)
 }
 
 // A sheet without tasks.
@@ -88,10 +95,10 @@ pub fn put_board(w: &mut [u32], processors: u8, limit: u32)
     requires { ⌜ (fixed ≤ length (now w)) × (processors ≤ 16) ⌝ }
     ensures { λ _. ⌜ LoadedOf (record { processors = processors; limit = limit; tasks = []; links = [] }) (now (w .entry)) (now (w .exit)) ⌝ }
 {
-    w[0] = 0;
-    w[1] = 0;
-    w[2] = processors as u32;
-    w[3] = limit;
+    w[TASK_COUNT] = 0;
+    w[LINK_COUNT] = 0;
+    w[PROCESSORS] = processors as u32;
+    w[LIMIT] = limit;
 }
 
 // Task n, behind those before it.
@@ -99,8 +106,8 @@ pub fn put_task(w: &mut [u32], n: usize, work: u16, store: u16)
     requires { ⌜ (fixed ≤ length (now w)) × (n < 256) ⌝ }
     ensures { λ _. ⌜ now (w .exit) ≡ taskWords (now (w .entry)) n work store ⌝ }
 {
-    w[16 + n] = work as u32 + 65536 * store as u32;
-    w[0] = workspace::narrow(n + 1);
+    w[TASKS + n] = work as u32 + 65536 * store as u32;
+    w[TASK_COUNT] = workspace::narrow(n + 1);
 }
 
 // Link m, behind those before it.
@@ -108,7 +115,7 @@ pub fn put_link(w: &mut [u32], m: usize, source: u16, target: u16, cost: u16, by
     requires { ⌜ (fixed ≤ length (now w)) × (m < 1024) × (source < 256) × (target < 256) ⌝ }
     ensures { λ _. ⌜ now (w .exit) ≡ linkWords (now (w .entry)) m source target cost bytes ⌝ }
 {
-    w[272 + m] = source as u32 + 256 * target as u32 + 65536 * cost as u32;
-    w[1296 + m] = bytes as u32;
-    w[1] = workspace::narrow(m + 1);
+    w[LINKS + m] = source as u32 + 256 * target as u32 + 65536 * cost as u32;
+    w[SIZES + m] = bytes as u32;
+    w[LINK_COUNT] = workspace::narrow(m + 1);
 }

@@ -22,9 +22,10 @@ use Rattle.commands.specs.Reading.{Going}
 use Rattle.commands.proofs.Going.{starts, goes, refuses, ends}
 use Rattle.sheet.specs.Sheet.{Sheet, Task, Link, noTask, noLink, taskCount, linkCount, workOf, storeOf, sourceOf, targetOf, costOf, bytesOf}
 use Rattle.sheet.specs.Format.{Kind, board, task, link, end, Progress, fresh, taskFrom, linkFrom, ended, joins, joinsBy, sheetFormat, readForm}
-use Rattle.sheet.specs.Writing.{boardBytes, taskBytes, linkBytes, sheetBytes, taskValue, linkValue, sheetOfValues, linkValueBytes, taskValueBytes, valueBytes}
+use Rattle.sheet.specs.Writing.{boardBytes, taskBytes, linkBytes, sheetBytes, taskValue, linkValue, sheetOfValues, linkValueBytes, taskValueBytes, valueBytes, taskValues, linkValues}
 use Rattle.sheet.specs.Faults.{begun, taskFault, linkFault}
 use Rattle.sheet_reader.proofs.Given.{judge-task, judge-link, cut-task, cut-link, at-end, opening, taskTail, linkTail}
+use Rattle.sheet.proofs.Values.{task-values-length, link-values-length, sheet-again}
 use Rattle.sheet.proofs.Rounds.{task-bytes-length, ended-value, Proper, TaskFits, LinkFits, read-shaped, proper}
 
 -- lengths
@@ -60,6 +61,13 @@ module _ (p l : ℕ) (tv lv : List ℕ) where
 
     pub written-length : length (valueBytes p l tv lv) ≡ 7 + 5 * (length tv / 2) + 7 * (length lv / 4)
     written-length = ap length values-bytes ∙ sheet-length (sheetOfValues p l tv lv) ∙ ap₂ (λ (n m : ℕ). 7 + 5 * n + 7 * m) values-tasks values-links
+
+-- the values of a sheet are written as its bytes
+pub bytes-of-values : (s : Sheet) → valueBytes (s .processors) (s .limit) (taskValues (s .tasks)) (linkValues (s .links)) ≡ sheetBytes s
+bytes-of-values s =
+    let t = taskValues (s .tasks) in
+    let l = linkValues (s .links) in
+    values-bytes (s .processors) (s .limit) t l (omega (arith, task-values-length (s .tasks))) (omega (arith, link-values-length (s .links))) ∙ ap sheetBytes (sheet-again s)
 
 -- a task and a link, read from their bytes
 task-back : (t : Task) (X : List ℕ) → TaskFits t → taskFrom (numberBytes 2 (t .work) ++ (numberBytes 2 (t .store) ++ X)) ≡ t

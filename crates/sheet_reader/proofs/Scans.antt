@@ -20,7 +20,7 @@ use Rattle.numbers.proofs.Laws.{numberAt-drop, number-lt}
 use Rattle.commands.specs.Commands.{Outcome, refuse, go, judge, judgeKind, readAll}
 use Rattle.commands.specs.Reading.{Going}
 use Rattle.commands.proofs.Going.{starts, goes, refuses, ends, comes}
-use Rattle.workspace.specs.Area.{fixed}
+use Rattle.workspace.specs.Area.{fixed, pairsAt}
 use Rattle.sheet.specs.Sheet.{Sheet, Task, Link, taskCount, linkCount}
 use Rattle.sheet.specs.Format.{Kind, board, task, link, end, kindOf, width, Progress, fresh, closes, withCommand, taskFrom, linkFrom, ended, joins, sheetFormat, readForm}
 use Rattle.sheet.specs.Tables.{sheetIn, pairIn, Loaded, Filling, LoadedOf, Blanked, taskWords, linkWords, pairWords}
@@ -271,7 +271,7 @@ module _ {a : Answer Sheet} {b w₀ w : List ℕ} {n m at : ℕ} (s : Walking a 
       tail (no h) = rw (le-ltb (at + 1) (length b) (omega arith)) (none-behind (omega arith) (ℕ-discrete n 0))
 
 -- behind the tasks, whose rows are blank
-pub scan-blank : {a : Answer Sheet} {d w₀ w w′ : List ℕ} {n e : ℕ} → Scanning a d w₀ w n 0 e → (k : ℕ) → n ≡ k → Blanked (2320 + 8 * k) w w′
+pub scan-blank : {a : Answer Sheet} {d w₀ w w′ : List ℕ} {n e : ℕ} → Scanning a d w₀ w n 0 e → (k : ℕ) → n ≡ k → Blanked (pairsAt + 8 * k) w w′
     → Filling w′ × Scanning a d w₀ w′ n 0 e
 scan-blank {a} {d} {e = e} s k same b =
     let f = blank-filling (s .loaded) (s .tasks ∙ same) (s .links) b in (
@@ -286,7 +286,7 @@ scan-blank {a} {d} {e = e} s k same b =
     )
 
 pub links-begin : {a : Answer Sheet} {b w₀ w w′ : List ℕ} {n at : ℕ} → Walking a b w₀ w n 0 at → judge sheetFormat (begun (sheetIn w)) (drop at b) ≢ go task
-    → Blanked (2320 + 8 * n) w w′ → Linking a b w′ w′ n 0 at
+    → Blanked (pairsAt + 8 * n) w w′ → Linking a b w′ w′ n 0 at
 links-begin {a} {b} {n = n} {at = at} s h k =
     let q = s .scanning in
     let r = scan-blank q n refl k in

@@ -4,6 +4,7 @@ use mathlib.Core.Path.{_≡_}
 use mathlib.Core.Logic.{_≢_}
 use mathlib.Core.List.{List}
 use lib.ListN.{length, getD, drop}
+use Rattle.workspace.specs.Area.{linkCountAt, taskCountAt}
 use Rattle.folds.specs.Answers.{Answer}
 use Rattle.numbers.specs.Number.{numberAt}
 use Rattle.commands.specs.Commands.{go, judge, readFrom}
@@ -17,8 +18,8 @@ use Rattle.sheet.specs.Faults.{begun}
 pub record Scanning (a : Answer Sheet) (d w₀ w : List ℕ) (n m e : ℕ) : Type 0 where
   pub long : length w ≡ length w₀
   pub loaded : Loaded w
-  pub tasks : getD w 0 0 ≡ n
-  pub links : getD w 1 0 ≡ m
+  pub tasks : getD w taskCountAt 0 ≡ n
+  pub links : getD w linkCountAt 0 ≡ m
   pub going : Going sheetFormat a (begun (sheetIn w)) e d
 
 -- the same of bytes of which the first `at` are read

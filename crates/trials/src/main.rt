@@ -1,10 +1,10 @@
 // Lists the sheets of the trials on standard input, each behind its name. The input is a record for each trial: the name's length (u8), the
-// name, the sheet's length (u16, lowest byte first), the sheet. A record that is cut ends the run; where a read fails, nothing is listed.
+// name, the sheet's length (u16, lowest byte first), the sheet. A record that is cut ends the run, as one is where a read fails.
 ghost use mathlib.Core.Path.{_≡_};
 ghost use Prim.Native.Nat.{_<_};
 ghost use lib.ListN.{length};
 ghost use Rattle.trials.specs.Records.{recordAt};
-use console::Input;
+use libc::STDIN_FILENO;
 use libc::STDOUT_FILENO;
 
 // A record of the input, by the ends of its name and of its sheet.
@@ -79,8 +79,6 @@ fn print_records(input: &[u8]) {
 // The trials take about 4 KB. Of an input longer than 16 KB, the records that are whole in its first 16,384 bytes are printed.
 fn main() {
     let mut input = [0u8; 16384];
-    match console::read_all(&mut input) {
-        Input::Failed => os::fail(b"standard input"),
-        Input::Bytes(n) => print_records(&input[..n]),
-    }
+    let n = io::read_full(STDIN_FILENO, &mut input);
+    print_records(&input[..n]);
 }

@@ -5,6 +5,7 @@ use mathlib.Core.Bool.{true}
 use mathlib.Core.List.{List}
 use native.Mathlib.Omega.{arith}
 use lib.ListN.{length, getD, replicate, length-replicate}
+use Rattle.workspace.specs.Area.{headsAt, levelsAt, placedAt, placesAt}
 use Rattle.folds.specs.Answers.{Answer}
 use Rattle.folds.proofs.Lists.{getD-replicate}
 use Rattle.sheet.specs.Sheet.{Sheet, taskCount, linkCount}
@@ -22,7 +23,8 @@ use Rattle.chains.specs.Frames.{Only}
 use Rattle.chains.specs.declared.End.the-variants.{Source, Target}
 use Rattle.chains.proofs.Frames.{same-sheet, same-loaded, only-sheet, only-loaded}
 use Rattle.chains.proofs.Walks.{chained-frame, chained-under}
-use Rattle.arrivals.specs.Kept.{keptLength, Single, Caches}
+use Rattle.arrivals.specs.Layout.{seenFrom, keptLength}
+use Rattle.arrivals.specs.Kept.{Single, Caches}
 use Rattle.arrivals.specs.Steps.{Zero, GatheredTo}
 use Rattle.arrivals.proofs.Gathering.{gather-none, gathered-all}
 use Rattle.arrivals.proofs.Beginning.{counted-zero, ends-zero, closed-zero}
@@ -33,7 +35,7 @@ module _ {w w₁ : List ℕ} (loaded : Loaded w) (levelled : Levelled (sheetIn w
   abbrev s : Sheet
   s = sheetIn w
 
-  low₁ : (i : ℕ) → i < 3856 → getD w₁ i 0 ≡ getD w i 0
+  low₁ : (i : ℕ) → i < placesAt → getD w₁ i 0 ≡ getD w i 0
   low₁ i h = e₁ .only .low i h
 
   pub loaded₁ : Loaded w₁
@@ -43,7 +45,7 @@ module _ {w w₁ : List ℕ} (loaded : Loaded w) (levelled : Levelled (sheetIn w
   sheet₁ = same-sheet w w₁ loaded low₁
 
   module _ {w₂ : List ℕ} (r₂ : Rechained Source w₁ w₂) (outward : Chained Source (sheetIn w₁) w₂) where
-    low₂ : (i : ℕ) → i < 2576 → getD w₂ i 0 ≡ getD w i 0
+    low₂ : (i : ℕ) → i < headsAt → getD w₂ i 0 ≡ getD w i 0
     low₂ i h = r₂ .only .low i h ∙ low₁ i (omega arith)
 
     long₂ : length w₂ ≡ length w
@@ -83,8 +85,8 @@ module _ {w w₁ : List ℕ} (loaded : Loaded w) (levelled : Levelled (sheetIn w
       pub gathers : (Loaded w₂ × (keptLength ≤ length zeros)) × GatheredTo (sheetIn w₂) 0 zeros
       gathers = ((loaded₂, omega (arith, long-zeros)), gather-none (record { at = λ i h l. zero i }) (ranged w₂ loaded₂ .few-tasks))
 
-      module _ {own : List ℕ} (o : Only 0 512 zeros own) (gathered : GatheredTo (sheetIn w₂) (linkCount (sheetIn w₂)) own) where
-        zeros-on : Zero 512 keptLength own
+      module _ {own : List ℕ} (o : Only 0 seenFrom zeros own) (gathered : GatheredTo (sheetIn w₂) (linkCount (sheetIn w₂)) own) where
+        zeros-on : Zero seenFrom keptLength own
         zeros-on = record { at = λ i h l. o .high i h ∙ zero i }
 
         caches₂ : Caches s (scheduleIn w₂) w₂ own
@@ -115,9 +117,9 @@ module _ {w w₁ : List ℕ} (loaded : Loaded w) (levelled : Levelled (sheetIn w
                     standing = standing₂;
                     caches = subst (λ (x : Sheet). Caches x (scheduleIn w₂) w₂ own) (sym sheet₂) caches₂;
                   };
-              levelled = subst (λ (x : Sheet). Levelled x w₂) (sym sheet₂) (record { inward = inward₂; levels = λ t h. low₂ (2320 + t) (omega (arith, ranged w loaded .few-tasks)) ∙ levelled .levels t h });
+              levelled = subst (λ (x : Sheet). Levelled x w₂) (sym sheet₂) (record { inward = inward₂; levels = λ t h. low₂ (levelsAt + t) (omega (arith, ranged w loaded .few-tasks)) ∙ levelled .levels t h });
               timely = subst (Timely 0) (sym schedule₂) (empty-timely s);
-              placed = omega (arith, r₂ .only .high 4369 (omega arith), e₁ .placed);
+              placed = omega (arith, r₂ .only .high placedAt (omega arith), e₁ .placed);
             }
 
     planned-by : {a : Answer Schedule} → a ≡ turns (sheetIn w₂) (barred (sheetIn w₂)) (taskCount (sheetIn w₂)) (scheduleIn w₂) → a ≡ planned s

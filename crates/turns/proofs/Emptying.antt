@@ -7,7 +7,7 @@ use native.Mathlib.Omega.{arith}
 use native.Mathlib.Decide.{ℕ-discrete}
 use lib.ListN.{length, getD, set, length-set, replicate, length-replicate, getD-replicate}
 use lib.Seq.{getD-set-same, getD-set-other, ext-getD}
-use Rattle.workspace.specs.Area.{fixed}
+use Rattle.workspace.specs.Area.{fixed, finishesAt, openedAt, placedAt, placesAt, scheduleEnd}
 use Rattle.folds.specs.Folds.{listed}
 use Rattle.folds.proofs.Loops.{listed-zero}
 use Rattle.folds.proofs.Lists.{length-listed, getD-listed}
@@ -20,34 +20,34 @@ use Rattle.chains.proofs.Frames.{only-none, only-set}
 use Rattle.turns.specs.Turns.{Cleared, Emptied}
 
 pub cleared-none : (w : List ℕ) → Cleared w 0 w
-cleared-none w = record { only = only-none 3856 4384 w; on = λ u h. absurd (omega arith); finish = λ u h. absurd (omega arith) }
+cleared-none w = record { only = only-none placesAt scheduleEnd w; on = λ u h. absurd (omega arith); finish = λ u h. absurd (omega arith) }
 
 abbrev clearWords : List ℕ → ℕ → List ℕ
-clearWords w t = set (set w (3856 + t) 16) (4112 + t) 0
+clearWords w t = set (set w (placesAt + t) 16) (finishesAt + t) 0
 
 pub cleared-more : {w₀ w : List ℕ} {t : ℕ} → fixed ≤ length w₀ → t < 256 → Cleared w₀ t w → Cleared w₀ (t + 1) (clearWords w t)
 cleared-more {w₀} {w} {t} long few d =
     record {
-      only = only-set (4112 + t) 0 (omega arith) (omega arith) (only-set (3856 + t) 16 (omega arith) (omega arith) (d .only));
+      only = only-set (finishesAt + t) 0 (omega arith) (omega arith) (only-set (placesAt + t) 16 (omega arith) (omega arith) (d .only));
       on = λ u k. on′ u k (ℕ-discrete u t);
       finish = λ u k. finish′ u k (ℕ-discrete u t);
     }
   where
-    away : (i : ℕ) → i ≢ 3856 + t → i ≢ 4112 + t → getD (clearWords w t) i 0 ≡ getD w i 0
+    away : (i : ℕ) → i ≢ placesAt + t → i ≢ finishesAt + t → getD (clearWords w t) i 0 ≡ getD w i 0
     away i a b = simp getD-set-other
 
-    on′ : (u : ℕ) → u < t + 1 → Dec (u ≡ t) → getD (clearWords w t) (3856 + u) 0 ≡ 16
+    on′ : (u : ℕ) → u < t + 1 → Dec (u ≡ t) → getD (clearWords w t) (placesAt + u) 0 ≡ 16
     on′ u k (yes q) =
-        let a : 3856 + t ≢ 4112 + t = omega arith in
-        let l : 3856 + t < length w = omega (arith, d .only .long) in
+        let a : placesAt + t ≢ finishesAt + t = omega arith in
+        let l : placesAt + t < length w = omega (arith, d .only .long) in
         rw q (simp (getD-set-other, getD-set-same))
-    on′ u k (no q) = away (3856 + u) (λ x. q (omega arith)) (omega arith) ∙ d .on u (omega arith)
+    on′ u k (no q) = away (placesAt + u) (λ x. q (omega arith)) (omega arith) ∙ d .on u (omega arith)
 
-    finish′ : (u : ℕ) → u < t + 1 → Dec (u ≡ t) → getD (clearWords w t) (4112 + u) 0 ≡ 0
+    finish′ : (u : ℕ) → u < t + 1 → Dec (u ≡ t) → getD (clearWords w t) (finishesAt + u) 0 ≡ 0
     finish′ u k (yes q) =
-        let l : 4112 + t < length (set w (3856 + t) 16) = simp length-set (omega (arith, d .only .long)) in
+        let l : finishesAt + t < length (set w (placesAt + t) 16) = simp length-set (omega (arith, d .only .long)) in
         rw q (simp getD-set-same)
-    finish′ u k (no q) = away (4112 + u) (omega arith) (λ x. q (omega arith)) ∙ d .finish u (omega arith)
+    finish′ u k (no q) = away (finishesAt + u) (omega arith) (λ x. q (omega arith)) ∙ d .finish u (omega arith)
 
 listed-same : (n v : ℕ) (f : ℕ → ℕ) → ((i : ℕ) → i < n → f i ≡ v) → listed n f ≡ replicate n v
 listed-same n v f h =
@@ -56,9 +56,9 @@ listed-same n v f h =
 
 module _ {w₀ w : List ℕ} {t : ℕ} (loaded : Loaded w₀) (d : Cleared w₀ t w) (e : taskCount (sheetIn w₀) ≤ t) where
   abbrev new : List ℕ
-  new = set (set w 4368 0) 4369 0
+  new = set (set w openedAt 0) placedAt 0
 
-  away : (i : ℕ) → i ≢ 4368 → i ≢ 4369 → getD new i 0 ≡ getD w i 0
+  away : (i : ℕ) → i ≢ openedAt → i ≢ placedAt → getD new i 0 ≡ getD w i 0
   away i a b = simp getD-set-other
 
   count : getD new 0 0 ≡ taskCount (sheetIn w₀)
@@ -69,30 +69,30 @@ module _ {w₀ w : List ℕ} {t : ℕ} (loaded : Loaded w₀) (d : Cleared w₀ 
       ap (λ (m : ℕ). listed m f) count ∙ listed-same (taskCount (sheetIn w₀)) v f (λ i l. let few = ranged w₀ loaded .few-tasks in each i (omega arith) (omega arith))
 
   finished : (u : ℕ) → u < t → u < 256 → finishIn new u ≡ 0
-  finished u h k = away (4112 + u) (omega arith) (omega arith) ∙ d .finish u h
+  finished u h k = away (finishesAt + u) (omega arith) (omega arith) ∙ d .finish u h
 
-  placed-zero : getD new 4369 0 ≡ 0
-  placed-zero = getD-set-same (set w 4368 0) 4369 0 0 (simp length-set (omega (arith, d .only .long, loaded .long)))
+  placed-zero : getD new placedAt 0 ≡ 0
+  placed-zero = getD-set-same (set w openedAt 0) placedAt 0 0 (simp length-set (omega (arith, d .only .long, loaded .long)))
 
-  opened-zero : getD new 4368 0 ≡ 0
+  opened-zero : getD new openedAt 0 ≡ 0
   opened-zero =
-      let a : (_≡_ {A = ℕ} 4368 4369 → ⊥) = omega arith in
-      let l : 4368 < length w = omega (arith, d .only .long, loaded .long) in
+      let a : (_≡_ {A = ℕ} openedAt placedAt → ⊥) = omega arith in
+      let l : openedAt < length w = omega (arith, d .only .long, loaded .long) in
       simp (getD-set-other, getD-set-same)
 
   schedule-zero : scheduleIn new ≡ empty (sheetIn w₀)
   unfolding scheduleIn
   schedule-zero =
-      let on = table (λ i. onIn new i) 16 (λ u h k. ap (λ (x : ℕ). x % 65536) (away (3856 + u) (omega arith) (omega arith) ∙ d .on u h)) in
+      let on = table (λ i. onIn new i) 16 (λ u h k. ap (λ (x : ℕ). x % 65536) (away (placesAt + u) (omega arith) (omega arith) ∙ d .on u h)) in
       let start = table (λ i. startIn new i) 0 (λ u h k. omega (arith, finished u h k)) in
       let finish = table (λ i. finishIn new i) 0 finished in
-      let order : listed (getD new 4369 0) (λ i. turnIn new i) ≡ [] = ap (λ (m : ℕ). listed m (λ i. turnIn new i)) placed-zero ∙ listed-zero _ in
+      let order : listed (getD new placedAt 0) (λ i. turnIn new i) ≡ [] = ap (λ (m : ℕ). listed m (λ i. turnIn new i)) placed-zero ∙ listed-zero _ in
       λ x. record { on = on x; start = start x; finish = finish x; order = order x; opened = opened-zero x }
 
   pub emptied : Emptied w₀ new
   emptied =
       record {
-        only = only-set 4369 0 (omega arith) (omega arith) (only-set 4368 0 (omega arith) (omega arith) (d .only));
+        only = only-set placedAt 0 (omega arith) (omega arith) (only-set openedAt 0 (omega arith) (omega arith) (d .only));
         schedule = schedule-zero;
         placed = placed-zero;
       }

@@ -3,6 +3,7 @@ use Prim.Native.Nat.{ℕ, _+_, _*_, _≤_, _<_}
 use mathlib.Core.Path.{_≡_}
 use mathlib.Core.List.{List}
 use lib.ListN.{length, getD}
+use Rattle.workspace.specs.Area.{finishesAt, headsAt, placedAt, placesAt, scheduleEnd}
 use Rattle.folds.specs.Answers.{Answer, value, refused}
 use Rattle.sheet.specs.Tables.{sheetIn, Loaded}
 use Rattle.planner.specs.Schedule.{Schedule, empty, finishOf}
@@ -27,29 +28,29 @@ pub record Timely (j : ℕ) (σ : Schedule) : Type 0 where
 -- after j turns from the area w₀, with what is kept in own words
 pub record Going (w₀ : List ℕ) (j : ℕ) (w own : List ℕ) : Type 0 where
   pub long : length w ≡ length w₀
-  pub low : (i : ℕ) → i < 3856 → getD w i 0 ≡ getD w₀ i 0
+  pub low : (i : ℕ) → i < placesAt → getD w i 0 ≡ getD w₀ i 0
   pub sheet : sheetIn w ≡ sheetIn w₀
   pub kept : Kept w own
   pub levelled : Levelled (sheetIn w) w
   pub timely : Timely j (scheduleIn w)
-  pub placed : getD w 4369 0 ≤ j
+  pub placed : getD w placedAt 0 ≤ j
 
 -- the tables of the schedule below t are those of the empty one
 pub record Cleared (w₀ : List ℕ) (t : ℕ) (w : List ℕ) : Type 0 where
-  pub only : Only 3856 4384 w₀ w
-  pub on : (u : ℕ) → u < t → getD w (3856 + u) 0 ≡ 16
-  pub finish : (u : ℕ) → u < t → getD w (4112 + u) 0 ≡ 0
+  pub only : Only placesAt scheduleEnd w₀ w
+  pub on : (u : ℕ) → u < t → getD w (placesAt + u) 0 ≡ 16
+  pub finish : (u : ℕ) → u < t → getD w (finishesAt + u) 0 ≡ 0
 
 -- the empty schedule
 pub record Emptied (w₀ w : List ℕ) : Type 0 where
-  pub only : Only 3856 4384 w₀ w
+  pub only : Only placesAt scheduleEnd w₀ w
   pub schedule : scheduleIn w ≡ empty (sheetIn w₀)
-  pub placed : getD w 4369 0 ≡ 0
+  pub placed : getD w placedAt 0 ≡ 0
 
 -- what a planned area has besides its schedule: sheet and levels as they were, the chains of links, and small numbers
 pub record Afterwards (w₀ w : List ℕ) : Type 0 where
   pub long : length w ≡ length w₀
-  pub low : (i : ℕ) → i < 2576 → getD w i 0 ≡ getD w₀ i 0
+  pub low : (i : ℕ) → i < headsAt → getD w i 0 ≡ getD w₀ i 0
   pub loaded : Loaded w
   pub sheet : sheetIn w ≡ sheetIn w₀
   pub outward : Chained Source (sheetIn w₀) w

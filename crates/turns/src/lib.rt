@@ -8,12 +8,18 @@ ghost use Rattle.planner.specs.Placing.{ready, startOn, barred};
 ghost use Rattle.planner.specs.Planner.{choice, placedFrom, placeOn, turn, turns, planned};
 ghost use Rattle.levelling.specs.Found.{Levelled};
 ghost use Rattle.schedule.specs.Layout.{scheduleIn};
+ghost use Rattle.arrivals.specs.Lanes.{Started};
 ghost use Rattle.arrivals.specs.Kept.{Single, Surveyed};
 ghost use Rattle.readiness.specs.Keyed.{Keyed};
 ghost use Rattle.turns.specs.Turns.{answerOf, Going, Cleared, Emptied, Afterwards};
+use arrivals::Starts;
 use chains::End;
 use sheet::tables;
 use words::Found;
+use workspace::FINISHES;
+use workspace::OPENED;
+use workspace::PLACED;
+use workspace::PLACES;
 
 // Done, or refused for want of store (11) at a task.
 pub enum Planned {
@@ -21,15 +27,22 @@ pub enum Planned {
     Refused(usize),
 }
 
-// t goes on k at turn j, and the keys follow.
-fn put_on(w: &mut [u32], kept: &mut [u32], q: &mut [u64], j: usize, t: usize, k: usize)
+// t goes on k at turn j, from its start there on, and the keys follow.
+fn put_on(
+    w: &mut [u32],
+    kept: &mut [u32],
+    q: &mut [u64],
+    j: usize,
+    t: usize,
+    k: usize,
+    start: usize,
+)
     requires { ⌜ Going (now w) j (now w) (now kept) ⌝ }
-    requires { ⌜ (j < 256) × (t < taskCount (sheetIn (now w))) × (k < 16) ⌝ }
+    requires { ⌜ (j < 256) × (t < taskCount (sheetIn (now w))) × (k < 16) × (start ≡ startOn (sheetIn (now w)) (scheduleIn (now w)) t k) × (start < 4294967296) ⌝ }
     requires { ⌜ (ready (sheetIn (now w)) (scheduleIn (now w)) t ≡ true) × Surveyed (sheetIn (now w)) (scheduleIn (now w)) t (now kept) ⌝ }
     requires { ⌜ Keyed (sheetIn (now w)) (scheduleIn (now w)) (now q) ⌝ }
     ensures { λ _. ⌜ (scheduleIn (now (w .exit)) ≡ placedFrom (sheetIn (now (w .entry))) (barred (sheetIn (now (w .entry)))) (scheduleIn (now (w .entry))) t k (startOn (sheetIn (now (w .entry))) (scheduleIn (now (w .entry))) t k)) × Going (now (w .entry)) (j + 1) (now (w .exit)) (now (kept .exit)) × Keyed (sheetIn (now (w .exit))) (scheduleIn (now (w .exit))) (now (q .exit)) ⌝ }
 {
-    let start = placing::start_on(w, kept, t, k);
     let finish = start + tables::work(w, t);
     let open = words::later(schedule::opened(w), k + 1);
     let n = schedule::placed(w);
@@ -39,18 +52,26 @@ fn put_on(w: &mut [u32], kept: &mut [u32], q: &mut [u64], j: usize, t: usize, k:
     readiness::count_links(w, kept, q, t, k, finish);
 }
 
-// The first ready task, which is surveyed, goes where the steps say, or is refused.
-fn place_surveyed(w: &mut [u32], kept: &mut [u32], q: &mut [u64], j: usize, t: usize) -> Planned
+// The first ready task, which is surveyed, goes where the steps say by its starts, or is refused.
+fn place_surveyed(
+    w: &mut [u32],
+    kept: &mut [u32],
+    q: &mut [u64],
+    j: usize,
+    t: usize,
+    starts: Starts,
+) -> Planned
     requires { ⌜ Going (now w) j (now w) (now kept) ⌝ }
     requires { ⌜ (j < 256) × (t < taskCount (sheetIn (now w))) ⌝ }
-    requires { ⌜ (ready (sheetIn (now w)) (scheduleIn (now w)) t ≡ true) × Surveyed (sheetIn (now w)) (scheduleIn (now w)) t (now kept) ⌝ }
+    requires { ⌜ (ready (sheetIn (now w)) (scheduleIn (now w)) t ≡ true) × Surveyed (sheetIn (now w)) (scheduleIn (now w)) t (now kept) × Started (now w) t starts ⌝ }
     requires { ⌜ Keyed (sheetIn (now w)) (scheduleIn (now w)) (now q) ⌝ }
     ensures { λ r. ⌜ (answerOf r (scheduleIn (now (w .exit))) ≡ placeOn (sheetIn (now (w .entry))) (barred (sheetIn (now (w .entry)))) (scheduleIn (now (w .entry))) t (choice (sheetIn (now (w .entry))) (barred (sheetIn (now (w .entry)))) (scheduleIn (now (w .entry))) t)) × Going (now (w .entry)) (j + 1) (now (w .exit)) (now (kept .exit)) × Keyed (sheetIn (now (w .exit))) (scheduleIn (now (w .exit))) (now (q .exit)) ⌝ }
 {
-    match placing::choice_of(w, kept, q, t) {
+    match placing::choice_of(w, kept, q, t, starts) {
         Found::Nothing => Planned::Refused(t),
         Found::At(k) => {
-            put_on(w, kept, q, j, t, k);
+            let start = workspace::wide(starts.at[k]);
+            put_on(w, kept, q, j, t, k, start);
             Planned::Done
         }
     }
@@ -64,8 +85,8 @@ fn place_task(w: &mut [u32], kept: &mut [u32], q: &mut [u64], j: usize, t: usize
     requires { ⌜ Keyed (sheetIn (now w)) (scheduleIn (now w)) (now q) ⌝ }
     ensures { λ r. ⌜ (answerOf r (scheduleIn (now (w .exit))) ≡ placeOn (sheetIn (now (w .entry))) (barred (sheetIn (now (w .entry)))) (scheduleIn (now (w .entry))) t (choice (sheetIn (now (w .entry))) (barred (sheetIn (now (w .entry)))) (scheduleIn (now (w .entry))) t)) × Going (now (w .entry)) (j + 1) (now (w .exit)) (now (kept .exit)) × Keyed (sheetIn (now (w .exit))) (scheduleIn (now (w .exit))) (now (q .exit)) ⌝ }
 {
-    arrivals::survey(w, kept, t);
-    place_surveyed(w, kept, q, j, t)
+    let starts = arrivals::survey(w, kept, t);
+    place_surveyed(w, kept, q, j, t, starts)
 }
 
 // One turn.
@@ -120,8 +141,8 @@ fn clear_tables(w: &mut [u32])
     let n = tables::tasks(w);
     let mut t: usize = 0;
     while t < n {
-        w[3856 + t] = 16;
-        w[4112 + t] = 0;
+        w[PLACES + t] = 16;
+        w[FINISHES + t] = 0;
         t += 1;
     }
 }
@@ -132,18 +153,18 @@ fn clear(w: &mut [u32])
     ensures { λ _. ⌜ Emptied (now (w .entry)) (now (w .exit)) ⌝ }
 {
     clear_tables(w);
-    w[4368] = 0;
-    w[4369] = 0;
+    w[OPENED] = 0;
+    w[PLACED] = 0;
 }
 
-// The schedule of the sheet in the tables, in the words from 3856 on, or the task that is refused.
+// The schedule of the sheet in the tables, in its words of the area, or the task that is refused.
 pub fn schedule(w: &mut [u32]) -> Planned
     requires { ⌜ Loaded (now w) ⌝ }
     requires { ⌜ Levelled (sheetIn (now w)) (now w) ⌝ }
     requires { ⌜ Single (sheetIn (now w)) ⌝ }
     ensures { λ r. ⌜ (answerOf r (scheduleIn (now (w .exit))) ≡ planned (sheetIn (now (w .entry)))) × Afterwards (now (w .entry)) (now (w .exit)) ⌝ }
 {
-    let mut kept = [0u32; 2640];
+    let mut kept = [0u32; arrivals::LENGTH];
     clear(w);
     chains::chain(w, End::Source);
     arrivals::gather(w, &mut kept);

@@ -2,14 +2,45 @@
 ghost use mathlib.Core.Path.{_≡_};
 ghost use Prim.Native.Nat.{_≤_, _<_};
 ghost use lib.ListN.{length, getD, replicate};
-ghost use Rattle.workspace.specs.Area.{fixed, ClearIs, UnitedIs};
+ghost use Rattle.workspace.specs.Area.{ClearIs, UnitedIs};
 
-// The least length of a work area or a machine's state, in words.
-pub fn fixed_length() -> usize
-    ensures { λ r. ⌜ r ≡ fixed ⌝ }
-{
-    4384
-}
+// The least length of a work area or a machine's state, in words: `fixed` of specs/Area.
+pub const LENGTH: usize = 4992;
+
+// Where each number of the board stands and each table of the work area begins, as specs/Area.antt lays it out.
+pub const TASK_COUNT: usize = 0;
+
+pub const LINK_COUNT: usize = 1;
+
+pub const PROCESSORS: usize = 2;
+
+pub const LIMIT: usize = 3;
+
+pub const TASKS: usize = 16;
+
+pub const LINKS: usize = 272;
+
+pub const SIZES: usize = 1296;
+
+pub const LEVELS: usize = 2320;
+
+pub const PAIRS: usize = 2320;
+
+pub const HEADS: usize = 2576;
+
+pub const NEXTS: usize = 2832;
+
+pub const MARKS: usize = 3856;
+
+pub const PLACES: usize = 3856;
+
+pub const QUEUE: usize = 4112;
+
+pub const FINISHES: usize = 4112;
+
+pub const OPENED: usize = 4368;
+
+pub const PLACED: usize = 4369;
 
 // A word as an index or a sum.
 pub fn wide(x: u32) -> usize

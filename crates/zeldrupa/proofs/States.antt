@@ -14,9 +14,8 @@ use Rattle.workspace.specs.Area.{fixed}
 use Rattle.sheet.specs.Sheet.{Sheet}
 use Rattle.bundle.specs.Bundle.{Bundle}
 use Rattle.machine.specs.Machine.{State, stampIn}
-use Rattle.machine.specs.Kept.{StepIs}
-use Rattle.loaded.specs.Keeps.{Keeps, LeftIs, StampIs}
-use Rattle.starting.specs.Starts.{starting}
+use Rattle.stepping_machine.specs.Represents.{ChoiceIs, LeftIs, StampIs}
+use Rattle.stepping_machine.specs.Starts.{starting}
 use Rattle.zeldrupa.specs.Stepping.{startAnswer, GivesState, stateNumber, GivesStep, GivesLeft, GivesProcessor, stampNumber, GivesStamp}
 use Rattle.answers.specs.Parts.{numberOf, placeOf, StateIs, NumbersIs}
 use Rattle.answers.specs.declared.ending.Outcome.{Outcome}
@@ -75,16 +74,17 @@ number-long state h = rw (le-ltb (length state) fixed h)
 module _ (state : List ℕ) (k : ℕ) where
   pub step-short : length state < fixed → GivesStep state state k fixed 13
   step-short h =
-      record { returns = number-short state h; short = λ q. (refl, refl); long = refl; stays = λ q. refl; agrees = λ q. absurd (omega arith) }
+      record { returns = number-short state h; short = λ q. (refl, refl); long = refl; stays = λ q. refl; blank = λ q. absurd (omega arith); agrees = λ q. absurd (omega arith) }
 
-  pub step-given : fixed ≤ length state → (state′ : List ℕ) (r : Bool) (p : ℕ) → StepIs Keeps state state′ k r → p ≡ bit r → GivesStep state state′ k p 0
+  pub step-given : fixed ≤ length state → (state′ : List ℕ) (r : Bool) (p : ℕ) → ChoiceIs state state′ k r → p ≡ bit r → GivesStep state state′ k p 0
   step-given h state′ r p g e =
       record {
         returns = number-long state h;
         short = λ q. absurd (omega arith);
-        long = g .long;
-        stays = λ q. g .same (bit-zero r (sym e ∙ q));
-        agrees = λ q s b σ x. let y = g .agrees s b σ x in (e ∙ ap bit (y .0), y .1);
+        long = g .steps .long;
+        stays = λ q. g .steps .same (bit-zero r (sym e ∙ q));
+        blank = λ q z. e ∙ ap bit (g .blank z);
+        agrees = λ q s b σ x. let y = g .steps .agrees s b σ x in (e ∙ ap bit (y .0), y .1);
       }
     where
       bit-zero : (t : Bool) → bit t ≡ 0 → t ≡ false
@@ -93,10 +93,11 @@ module _ (state : List ℕ) (k : ℕ) where
 
 module _ (state : List ℕ) where
   pub left-short : length state < fixed → GivesLeft state fixed 13
-  left-short h = record { returns = number-short state h; short = λ q. refl; agrees = λ q. absurd (omega arith) }
+  left-short h = record { returns = number-short state h; short = λ q. refl; blank = λ q. absurd (omega arith); agrees = λ q. absurd (omega arith) }
 
   pub left-given : fixed ≤ length state → (p : ℕ) → LeftIs state p → GivesLeft state p 0
-  left-given h p g = record { returns = number-long state h; short = λ q. absurd (omega arith); agrees = λ q s b σ x. g .is s b σ x }
+  left-given h p g =
+      record { returns = number-long state h; short = λ q. absurd (omega arith); blank = λ q z. g .blank z; agrees = λ q s b σ x. g .is s b σ x }
 
 module _ (state : List ℕ) (k : ℕ) (x : List ℕ) where
   pub processor-short : length state < fixed → GivesProcessor state k x x fixed 13

@@ -1,4 +1,4 @@
--- What the functions of the stepping machine give. How its state is kept in words is `Keeps` of loaded/specs/Keeps.
+-- What the functions of the stepping machine give. How its state is kept in words is `Represents` of stepping_machine/specs/Represents.
 use Prim.Native.Nat.{ℕ, suc, _≤_, _<_}
 use mathlib.Core.Path.{_≡_}
 use mathlib.Core.Option.{Option, none, some}
@@ -13,8 +13,9 @@ use Rattle.bundle.specs.Bundle.{Bundle}
 use Rattle.messages.specs.Counting.{each}
 use Rattle.machine.specs.Machine.{State, freshState, stampOf, step, canStep}
 use Rattle.machine.specs.Runs.{chosen, runOf, left}
-use Rattle.loaded.specs.Keeps.{Keeps}
-use Rattle.starting.specs.Starts.{starting}
+use Rattle.stepping_machine.specs.Words.{Blank}
+use Rattle.stepping_machine.specs.Represents.{Represents}
+use Rattle.stepping_machine.specs.Starts.{starting}
 use Rattle.answers.specs.Values.{steppedIn, numbersOf}
 
 -- zeldrupa_start, zeldrupa_run: 13 for the work area, then for the state's
@@ -28,7 +29,7 @@ pub record GivesState (f : Sheet × Bundle → ℕ) (τ : Sheet → Bundle → S
   pub area : work′ ≡ pick (ltb (length state) fixed) work (cleared fixed work)
   pub long : length state′ ≡ length state
   pub untouched : (n at : ℕ) → startAnswer sheet bundle (length work) (length state) ≡ refused n at → state′ ≡ state
-  pub keeps : (s : Sheet) (b : Bundle) → startAnswer sheet bundle (length work) (length state) ≡ value (s, b) → Keeps s b state′ (τ s b)
+  pub keeps : (s : Sheet) (b : Bundle) → startAnswer sheet bundle (length work) (length state) ≡ value (s, b) → Represents s b state′ (τ s b)
 
 -- zeldrupa_start: the fresh state
 abbrev pub GivesStart : List ℕ → List ℕ → List ℕ → List ℕ → List ℕ → List ℕ → ℕ → ℕ → Type 0
@@ -48,21 +49,24 @@ pub record GivesStep (state state′ : List ℕ) (k p r : ℕ) : Type 0 where
   pub short : length state < fixed → (p ≡ fixed) × (state′ ≡ state)
   pub long : length state′ ≡ length state
   pub stays : p ≡ 0 → state′ ≡ state
-  pub agrees : fixed ≤ length state → (s : Sheet) (b : Bundle) (σ : State) → Keeps s b state σ
-      → (p ≡ bit (canStep s b σ k)) × Keeps s b state′ (chosen σ (step s b σ k))
+  -- a state that was never started: words that are all 0
+  pub blank : fixed ≤ length state → Blank state → p ≡ 0
+  pub agrees : fixed ≤ length state → (s : Sheet) (b : Bundle) (σ : State) → Represents s b state σ
+      → (p ≡ bit (canStep s b σ k)) × Represents s b state′ (chosen σ (step s b σ k))
 
 -- zeldrupa_left: the commands still to do
 pub record GivesLeft (state : List ℕ) (p r : ℕ) : Type 0 where
   pub returns : r ≡ stateNumber state
   pub short : length state < fixed → p ≡ fixed
-  pub agrees : fixed ≤ length state → (s : Sheet) (b : Bundle) (σ : State) → Keeps s b state σ → p ≡ left b σ each
+  pub blank : fixed ≤ length state → Blank state → p ≡ 0
+  pub agrees : fixed ≤ length state → (s : Sheet) (b : Bundle) (σ : State) → Represents s b state σ → p ≡ left b σ each
 
 -- zeldrupa_processor: clock, position and store in use of processor k, each 0 where it has no programme
 pub record GivesProcessor (state : List ℕ) (k : ℕ) (x x′ : List ℕ) (p r : ℕ) : Type 0 where
   pub returns : r ≡ stateNumber state
   pub place : p ≡ pick (ltb (length state) fixed) fixed 0
   pub short : length state < fixed → x′ ≡ x
-  pub agrees : fixed ≤ length state → (s : Sheet) (b : Bundle) (σ : State) → Keeps s b state σ → x′ ≡ numbersOf σ k
+  pub agrees : fixed ≤ length state → (s : Sheet) (b : Bundle) (σ : State) → Represents s b state σ → x′ ≡ numbersOf σ k
 
 -- zeldrupa_stamp: one more than the stamp of link l, or 0 while its message is not sent
 abbrev pub stampNumber : Option ℕ → ℕ
@@ -72,4 +76,4 @@ stampNumber (some x) = suc x
 pub record GivesStamp (state : List ℕ) (l p r : ℕ) : Type 0 where
   pub returns : r ≡ stateNumber state
   pub short : length state < fixed → p ≡ fixed
-  pub agrees : fixed ≤ length state → (s : Sheet) (b : Bundle) (σ : State) → Keeps s b state σ → p ≡ stampNumber (stampOf σ l)
+  pub agrees : fixed ≤ length state → (s : Sheet) (b : Bundle) (σ : State) → Represents s b state σ → p ≡ stampNumber (stampOf σ l)

@@ -1,6 +1,6 @@
 // The interface for C and Rust. Every function refuses a short work area first (13), then in the document's order; a refusal changes no
-// output, and the work area is all zero afterwards. What each of them gives is in specs/Promises.antt,
-// and of the stepping machine in specs/Stepping.antt.
+// output, and the work area is all zero afterwards, except under 13, where it is untouched. What each of them gives is in
+// specs/Promises.antt, and of the stepping machine in specs/Stepping.antt.
 ghost use lib.ListN.{length};
 ghost use Rattle.zeldrupa.specs.Promises.{Gives, GivesSheet, GivesBundle, GivesCheck, GivesPlan, GivesListing, levelsAnswer, writeSheetAnswer, readSheetAnswer, readBundleAnswer, writeBundleAnswer};
 ghost use Rattle.zeldrupa.specs.Stepping.{GivesStart, GivesRun, GivesStep, GivesLeft, GivesProcessor, GivesStamp};
@@ -21,8 +21,8 @@ pub extern "C" fn zeldrupa_read_sheet(
 ) -> u8
     ensures { λ r. ⌜ GivesSheet (readSheetAnswer (now (sheet .entry)) (length (now (work .entry))) (length (now (tasks .entry))) (length (now (links .entry)))) (now (work .entry)) (now (work .exit)) (now (tasks .entry)) (now (tasks .exit)) (now (links .entry)) (now (links .exit)) (now (board .entry)) (now (board .exit)) (now (place .exit)) r ⌝ }
 {
-    if work.len() < 4384 {
-        *place = 4384;
+    if work.len() < workspace::LENGTH {
+        *place = workspace::LENGTH as u64;
         return 13;
     }
     let o = sheets::read(sheet, work, tasks, links, board);
@@ -43,8 +43,8 @@ pub extern "C" fn zeldrupa_write_sheet(
 ) -> u8
     ensures { λ r. ⌜ Gives (writeSheetAnswer processors limit (now (tasks .entry)) (now (links .entry)) (length (now (work .entry))) (length (now (out .entry)))) (now (work .entry)) (now (work .exit)) (now (out .entry)) (now (out .exit)) (now (place .exit)) r ⌝ }
 {
-    if work.len() < 4384 {
-        *place = 4384;
+    if work.len() < workspace::LENGTH {
+        *place = workspace::LENGTH as u64;
         return 13;
     }
     let o = sheets::write(processors, limit, tasks, links, work, out);
@@ -62,8 +62,8 @@ pub extern "C" fn zeldrupa_levels(
 ) -> u8
     ensures { λ r. ⌜ Gives (levelsAnswer (now (sheet .entry)) (length (now (work .entry))) (length (now (out .entry)))) (now (work .entry)) (now (work .exit)) (now (out .entry)) (now (out .exit)) (now (place .exit)) r ⌝ }
 {
-    if work.len() < 4384 {
-        *place = 4384;
+    if work.len() < workspace::LENGTH {
+        *place = workspace::LENGTH as u64;
         return 13;
     }
     let o = sheets::levels(sheet, work, out);
@@ -83,8 +83,8 @@ pub extern "C" fn zeldrupa_read_bundle(
 ) -> u8
     ensures { λ r. ⌜ GivesBundle (readBundleAnswer (now (sheet .entry)) (now (bundle .entry)) (length (now (work .entry))) (length (now (commands .entry)))) (now (work .entry)) (now (work .exit)) (now (commands .entry)) (now (commands .exit)) (now (claim .entry)) (now (claim .exit)) (now (place .exit)) r ⌝ }
 {
-    if work.len() < 4384 {
-        *place = 4384;
+    if work.len() < workspace::LENGTH {
+        *place = workspace::LENGTH as u64;
         return 13;
     }
     let o = bundles::read(sheet, bundle, work, commands, claim);
@@ -104,8 +104,8 @@ pub extern "C" fn zeldrupa_write_bundle(
 ) -> u8
     ensures { λ r. ⌜ Gives (writeBundleAnswer (now (sheet .entry)) (now (commands .entry)) claim (length (now (work .entry))) (length (now (out .entry)))) (now (work .entry)) (now (work .exit)) (now (out .entry)) (now (out .exit)) (now (place .exit)) r ⌝ }
 {
-    if work.len() < 4384 {
-        *place = 4384;
+    if work.len() < workspace::LENGTH {
+        *place = workspace::LENGTH as u64;
         return 13;
     }
     let o = bundles::write(sheet, commands, claim, work, out);
@@ -123,8 +123,8 @@ pub extern "C" fn zeldrupa_check(
 ) -> u8
     ensures { λ r. ⌜ GivesCheck (now (sheet .entry)) (now (bundle .entry)) (now (work .entry)) (now (work .exit)) (now (place .exit)) r ⌝ }
 {
-    if work.len() < 4384 {
-        *place = 4384;
+    if work.len() < workspace::LENGTH {
+        *place = workspace::LENGTH as u64;
         return 13;
     }
     let o = bundles::check(sheet, bundle, work);
@@ -142,8 +142,8 @@ pub extern "C" fn zeldrupa_plan(
 ) -> u8
     ensures { λ r. ⌜ GivesPlan (now (sheet .entry)) (now (work .entry)) (now (work .exit)) (now (out .entry)) (now (out .exit)) (now (place .exit)) r ⌝ }
 {
-    if work.len() < 4384 {
-        *place = 4384;
+    if work.len() < workspace::LENGTH {
+        *place = workspace::LENGTH as u64;
         return 13;
     }
     let o = plans::write(sheet, work, out);
@@ -161,8 +161,8 @@ pub extern "C" fn zeldrupa_listing(
 ) -> u8
     ensures { λ r. ⌜ GivesListing (now (sheet .entry)) (now (work .entry)) (now (work .exit)) (now (out .entry)) (now (out .exit)) (now (place .exit)) r ⌝ }
 {
-    if work.len() < 4384 {
-        *place = 4384;
+    if work.len() < workspace::LENGTH {
+        *place = workspace::LENGTH as u64;
         return 13;
     }
     let o = plans::list(sheet, work, out);
@@ -181,12 +181,12 @@ pub extern "C" fn zeldrupa_start(
 ) -> u8
     ensures { λ r. ⌜ GivesStart (now (sheet .entry)) (now (bundle .entry)) (now (work .entry)) (now (work .exit)) (now (state .entry)) (now (state .exit)) (now (place .exit)) r ⌝ }
 {
-    if work.len() < 4384 {
-        *place = 4384;
+    if work.len() < workspace::LENGTH {
+        *place = workspace::LENGTH as u64;
         return 13;
     }
-    if state.len() < 4384 {
-        *place = 4384;
+    if state.len() < workspace::LENGTH {
+        *place = workspace::LENGTH as u64;
         return 13;
     }
     let o = runs::start(sheet, bundle, work, state);
@@ -206,12 +206,12 @@ pub extern "C" fn zeldrupa_run(
 ) -> u8
     ensures { λ r. ⌜ GivesRun (now (choices .entry)) (now (sheet .entry)) (now (bundle .entry)) (now (work .entry)) (now (work .exit)) (now (state .entry)) (now (state .exit)) (now (place .exit)) r ⌝ }
 {
-    if work.len() < 4384 {
-        *place = 4384;
+    if work.len() < workspace::LENGTH {
+        *place = workspace::LENGTH as u64;
         return 13;
     }
-    if state.len() < 4384 {
-        *place = 4384;
+    if state.len() < workspace::LENGTH {
+        *place = workspace::LENGTH as u64;
         return 13;
     }
     let o = runs::run(sheet, bundle, choices, work, state);
@@ -230,12 +230,12 @@ pub extern "C" fn zeldrupa_step(
 ) -> u8
     ensures { λ r. ⌜ GivesStep (now (state .entry)) (now (state .exit)) choice (now (place .exit)) r ⌝ }
 {
-    if 4384 <= state.len() {
-        let stepped = loaded::steps::step(state, choice as usize);
-        *place = loaded::steps::counted(stepped) as u64;
+    if workspace::LENGTH <= state.len() {
+        let stepped = stepping_machine::steps::step(state, choice as usize);
+        *place = stepping_machine::steps::counted(stepped) as u64;
         return 0;
     }
-    *place = 4384;
+    *place = workspace::LENGTH as u64;
     13
 }
 
@@ -244,11 +244,11 @@ pub extern "C" fn zeldrupa_step(
 pub extern "C" fn zeldrupa_left(bundle: &[u8], state: &[u32], place: &mut u64) -> u8
     ensures { λ r. ⌜ GivesLeft (now (state .entry)) (now (place .exit)) r ⌝ }
 {
-    if state.len() < 4384 {
-        *place = 4384;
+    if state.len() < workspace::LENGTH {
+        *place = workspace::LENGTH as u64;
         return 13;
     }
-    *place = loaded::asks::left(state) as u64;
+    *place = stepping_machine::asks::left(state) as u64;
     0
 }
 
@@ -263,8 +263,8 @@ pub extern "C" fn zeldrupa_processor(
 ) -> u8
     ensures { λ r. ⌜ GivesProcessor (now (state .entry)) k (now (processor .entry)) (now (processor .exit)) (now (place .exit)) r ⌝ }
 {
-    if state.len() < 4384 {
-        *place = 4384;
+    if state.len() < workspace::LENGTH {
+        *place = workspace::LENGTH as u64;
         return 13;
     }
     runs::numbers(state, k as usize, processor);
@@ -277,10 +277,10 @@ pub extern "C" fn zeldrupa_processor(
 pub extern "C" fn zeldrupa_stamp(state: &[u32], link: u64, place: &mut u64) -> u8
     ensures { λ r. ⌜ GivesStamp (now (state .entry)) link (now (place .exit)) r ⌝ }
 {
-    if state.len() < 4384 {
-        *place = 4384;
+    if state.len() < workspace::LENGTH {
+        *place = workspace::LENGTH as u64;
         return 13;
     }
-    *place = loaded::asks::stamp(state, link as usize) as u64;
+    *place = stepping_machine::asks::stamp(state, link as usize) as u64;
     0
 }

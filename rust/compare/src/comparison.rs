@@ -1,9 +1,11 @@
-//! One call of the product against the reference: number, place, and every lent byte afterwards.
+//! One call of the product against the rules: number, place, and every lent byte afterwards.
 
 use crate::lent::{Area, Element, Output};
+use crate::rules::{Answered, Fast, Rules};
 use crate::tally::{Function, Tally};
 use inputs::Random;
-use reference::refusal::{room, Refusal, SHORT_WORK_AREA};
+use literal::refusal::{area, output};
+use std::marker::PhantomData;
 use zeldrupa::raw::{self as product, Answer};
 
 /// The most words that an area has beyond the fixed length.
@@ -11,7 +13,10 @@ const LONGEST_EXTRA: usize = 4096;
 /// The result's length that outputs are made for where there is none.
 pub const NO_RESULT: usize = 24;
 
-/// A call in which the product and the reference differ, in words.
+/// The number of a work area that is too short.
+pub const SHORT_WORK_AREA: u8 = 13;
+
+/// A call in which the product and the rules differ, in words.
 pub struct Difference(pub String);
 
 /// Whether all agreed.
@@ -29,8 +34,8 @@ pub struct Call<'a> {
     pub answer: Answer,
 }
 
-/// What is kept from call to call.
-pub struct Comparison {
+/// What is kept from call to call, against these rules.
+pub struct Comparison<R = Fast> {
     pub random: Random,
     pub tally: Tally,
     pub work: Area,
@@ -38,9 +43,10 @@ pub struct Comparison {
     pub state: Area,
     /// The fixed length of both areas.
     pub work_length: usize,
+    rules: PhantomData<R>,
 }
 
-impl Comparison {
+impl<R: Rules> Comparison<R> {
     /// A comparison that makes the same calls for the same seed.
     pub fn new(seed: u64) -> Self {
         let mut random = Random::new(seed);
@@ -48,7 +54,7 @@ impl Comparison {
         assert!(work_length <= 1_048_576, "the fixed length {work_length} is too long");
         let mut area = || Area::new(&mut random, work_length + LONGEST_EXTRA);
         let (work, state) = (area(), area());
-        Comparison { random, tally: Tally::default(), work, state, work_length }
+        Comparison { random, tally: Tally::default(), work, state, work_length, rules: PhantomData }
     }
 
     /// The length of the next work area or state: the fixed one, a longer one, or now and then a shorter one.
@@ -77,22 +83,19 @@ impl Comparison {
         }
     }
 
-    /// The reference's answer in a call with a work area or a state of this length (13).
-    pub fn with_work<T>(&self, work: usize, answer: Result<T, Refusal>) -> Result<T, Refusal> {
-        match work < self.work_length {
-            true => Err(Refusal::new(SHORT_WORK_AREA, self.work_length)),
-            false => answer,
-        }
+    /// The right answer in a call with a work area or a state of this length (13).
+    pub fn with_work<T>(&self, work: usize, answer: Answered<T>) -> Answered<T> {
+        area(self.work_length, work).and(answer)
     }
 
-    /// Makes and judges a call with one output. `whole` is the reference's answer to a caller who
+    /// Makes and judges a call with one output. `whole` is the rules' answer to a caller who
     /// lends enough; `others` names an input, or an output beside this one, that is not as it
     /// should be where there is a result or where there is none.
     pub fn one_output<T: Element>(
         &mut self,
         function: Function,
         inputs: &[Input],
-        whole: &Result<Vec<T>, Refusal>,
+        whole: &Answered<Vec<T>>,
         call: impl FnOnce(&mut [u32], &mut [T]) -> Answer,
         others: impl FnOnce(bool) -> Option<&'static str>,
     ) -> Outcome {
@@ -100,7 +103,7 @@ impl Comparison {
         let length = self.next_length(whole.as_ref().map_or(NO_RESULT, Vec::len));
         let mut out = Output::new(&mut self.random, length);
         let whole = whole.as_ref().map_err(|&refusal| refusal);
-        let fitting = whole.and_then(|result| room(result.len(), out.lend()).map(|()| result));
+        let fitting = whole.and_then(|result| output(result.len(), length).map(|()| result));
         let expected = self.with_work(work, fitting);
 
         let answer = call(self.work.lend(work), out.lend());
@@ -119,7 +122,7 @@ impl Comparison {
     pub fn judge(
         &mut self,
         call: Call,
-        right: Result<u64, Refusal>,
+        right: Answered<u64>,
         wrong: Option<&'static str>,
     ) -> Outcome {
         let Call { function, inputs, work, answer } = call;
@@ -140,9 +143,10 @@ impl Comparison {
         };
         let mut text = format!(
             "zeldrupa_{}: {wrong} is not as it should be\n\
-             number and place: {answer:?} from the product, {right:?} from the reference\n\
+             number and place: {answer:?} from the product, {right:?} from {}\n\
              work area: {} words\n",
             function.name(),
+            R::NAME,
             work.unwrap_or(0),
         );
         for (name, input) in inputs {

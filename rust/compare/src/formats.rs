@@ -2,30 +2,24 @@
 
 use crate::comparison::{Call, Comparison, Outcome, NO_RESULT};
 use crate::lent::Output;
+use crate::rules::Rules;
 use crate::tally::Function;
 use inputs::{bundles, sheets};
-use reference::bundle::{from_values, Bundle};
-use reference::graph;
-use reference::sheet::Sheet;
 use std::array;
 use std::cell::Cell;
 use zeldrupa::raw as product;
 
-impl Comparison {
+impl<R: Rules> Comparison<R> {
     /// Reads a sheet.
     pub fn read_sheet(&mut self, sheet: &[u8]) -> Outcome {
-        let whole = Sheet::read(sheet);
-        let needs = whole.as_ref().map(|sheet| (2 * sheet.tasks.len(), 4 * sheet.links.len()));
+        let whole = R::read_sheet(sheet);
+        let needs = whole.as_ref().map(|tables| (tables.tasks.len(), tables.links.len()));
         let needs = needs.unwrap_or((NO_RESULT, NO_RESULT));
-        let mut tasks = Output::new_for(self, needs.0);
-        let mut links = Output::new_for(self, needs.1);
+        let lengths = (self.next_length(needs.0), self.next_length(needs.1));
+        let mut tasks = Output::new(&mut self.random, lengths.0);
+        let mut links = Output::new(&mut self.random, lengths.1);
         let work = self.next_work();
-        let (mut task_values, mut link_values) = (tasks.lend().to_vec(), links.lend().to_vec());
-        let fitting = whole.and_then(|sheet| {
-            sheet.put_values(&mut task_values, &mut link_values)?;
-            let counts = [sheet.tasks.len(), sheet.links.len()].map(|count| count as u32);
-            Ok([sheet.processors.into(), sheet.limit, counts[0], counts[1]])
-        });
+        let fitting = whole.and_then(|tables| tables.lent(lengths.0, lengths.1).map(|()| tables));
         let expected = self.with_work(work, fitting);
 
         let before = sheet.to_vec();
@@ -34,14 +28,14 @@ impl Comparison {
         let area = self.work.lend(work);
         let answer = product::read_sheet(sheet, area, tasks.lend(), links.lend(), &mut board);
 
-        let (right_tasks, right_links) = match expected {
-            Ok(_) => (&task_values[..needs.0], &link_values[..needs.1]),
-            Err(_) => (&[][..], &[][..]),
+        let (right_tasks, right_links, right_board) = match &expected {
+            Ok(tables) => (&tables.tasks[..], &tables.links[..], tables.board),
+            Err(_) => (&[][..], &[][..], old_board),
         };
         let wrong = [
             ("the table of tasks", tasks.holds(right_tasks)),
             ("the table of links", links.holds(right_links)),
-            ("the board", board == expected.unwrap_or(old_board)),
+            ("the board", board == right_board),
             ("the input", sheet == before),
         ];
         let wrong = wrong.into_iter().find(|(_, right)| !right).map(|(name, _)| name);
@@ -54,7 +48,6 @@ impl Comparison {
     /// Writes the sheet of these values.
     pub fn write_sheet(&mut self, values: &sheets::Sheet) -> Outcome {
         let sheets::Sheet { processors, limit, ref tasks, ref links } = *values;
-        let whole = Sheet::from_values(processors, limit, tasks, links);
         let before = (tasks.clone(), links.clone());
         self.one_output(
             Function::WriteSheet,
@@ -64,7 +57,7 @@ impl Comparison {
                 ("tasks", &tasks.as_slice()),
                 ("links", &links.as_slice()),
             ],
-            &whole.map(|sheet| sheet.to_bytes()),
+            &R::write_sheet(values),
             |work, out| product::write_sheet(processors, limit, tasks, links, work, out),
             |_| (*tasks != before.0 || *links != before.1).then_some("the input"),
         )
@@ -76,7 +69,7 @@ impl Comparison {
         self.one_output(
             Function::Levels,
             &[("sheet", &sheet)],
-            &Sheet::read(sheet).map(|sheet| graph::levels(&sheet)),
+            &R::levels(sheet),
             |work, out| product::levels(sheet, work, out),
             |_| (sheet != before).then_some("the input"),
         )
@@ -84,19 +77,15 @@ impl Comparison {
 
     /// Reads a bundle for a sheet.
     pub fn read_bundle(&mut self, sheet: &[u8], bundle: &[u8]) -> Outcome {
-        let valid = Sheet::read(sheet);
-        let whole = match &valid {
-            Ok(sheet) => Bundle::read(sheet, bundle),
-            Err(refusal) => Err(*refusal),
-        };
+        let whole = R::read_bundle(sheet, bundle);
         let before = (sheet.to_vec(), bundle.to_vec());
         let old_claim = self.random.bits() as u32;
-        let right_claim = whole.as_ref().map_or(old_claim, |bundle| bundle.claim);
+        let right_claim = whole.as_ref().map_or(old_claim, |(_, claim)| *claim);
         let claim = Cell::new(old_claim);
         self.one_output(
             Function::ReadBundle,
             &[("sheet", &sheet), ("bundle", &bundle)],
-            &whole.map(|bundle| bundle.values()),
+            &whole.map(|(values, _)| values),
             |work, out| {
                 let mut lent = claim.get();
                 let answer = product::read_bundle(sheet, bundle, work, out, &mut lent);
@@ -118,17 +107,9 @@ impl Comparison {
         self.one_output(
             Function::WriteBundle,
             &[("sheet", &sheet), ("commands", &commands.as_slice()), ("claim", &claim)],
-            &Sheet::read(sheet).and_then(|sheet| from_values(&sheet, commands, claim)),
+            &R::write_bundle(sheet, values),
             |work, out| product::write_bundle(sheet, commands, claim, work, out),
             |_| (sheet != before.0 || *commands != before.1).then_some("the input"),
         )
-    }
-}
-
-impl Output<u16> {
-    /// The next output for a result of this length.
-    fn new_for(comparison: &mut Comparison, need: usize) -> Self {
-        let length = comparison.next_length(need);
-        Output::new(&mut comparison.random, length)
     }
 }

@@ -1,12 +1,10 @@
 //! The comparison of the checker and the stepping machine.
 
 use crate::comparison::{Call, Comparison, Difference, Hex, Input, Outcome};
+use crate::rules::{Answered, Machine, Rules};
 use crate::tally::Function;
 use inputs::Random;
-use reference::interface;
-use reference::machine::Machine;
-use reference::refusal::{Refusal, SHORT_WORK_AREA};
-use reference::sheet::Sheet;
+use literal::refusal::area;
 use zeldrupa::raw::{self as product, Answer};
 
 /// The longest list of choices.
@@ -29,39 +27,21 @@ impl Pair<'_> {
     }
 }
 
-/// A machine of the product, whose state is in the comparison's area, beside the reference's.
+/// A machine of the product, whose state is in the comparison's area, beside that of the rules.
 struct Session<'a> {
     pair: Pair<'a>,
-    machine: Machine<'a>,
+    machine: &'a mut dyn Machine,
     /// The length of the state's area.
     state: usize,
     /// The choices so far.
     choices: Vec<u64>,
 }
 
-impl Session<'_> {
-    fn programmes(&self) -> usize {
-        self.machine.processors().len()
-    }
-
-    /// Clock, position and store in use of a processor, 0 where it has no programme.
-    fn numbers(&self, k: u64) -> [u32; 3] {
-        let processor = usize::try_from(k).ok().and_then(|k| self.machine.processors().get(k));
-        processor.map_or([0; 3], |p| [p.clock, p.position as u32, p.store])
-    }
-
-    /// One more than a link's stamp, 0 while its message is not sent or where there is no such link.
-    fn stamp(&self, link: u64) -> u64 {
-        let stamp = usize::try_from(link).ok().and_then(|link| self.machine.stamp(link));
-        stamp.map_or(0, |stamp| u64::from(stamp) + 1)
-    }
-}
-
-impl Comparison {
+impl<R: Rules> Comparison<R> {
     /// Checks a bundle for a sheet.
     pub fn check(&mut self, sheet: &[u8], bundle: &[u8]) -> Outcome {
         let work = self.next_work();
-        let right = self.with_work(work, interface::check(sheet, bundle)).map(|()| 0);
+        let right = self.with_work(work, R::check(sheet, bundle)).map(|()| 0);
         let before = (sheet.to_vec(), bundle.to_vec());
         let answer = product::check(sheet, bundle, self.work.lend(work));
         let wrong = (sheet != before.0 || bundle != before.1).then_some("the input");
@@ -72,11 +52,9 @@ impl Comparison {
 
     /// Starts the machine and makes choices one by one, then the same choices in one run.
     pub fn machine(&mut self, sheet: &[u8], bundle: &[u8]) -> Outcome {
-        let valid = Sheet::read(sheet);
-        let start = || Machine::start(valid.as_ref().map_err(|&refusal| refusal)?, bundle);
         let pair = Pair { sheet, bundle };
-        let choices = self.steps(pair, start())?;
-        self.run(pair, start(), choices)
+        let choices = R::start(sheet, bundle, |machine| self.steps(pair, machine))?;
+        R::start(sheet, bundle, |machine| self.run(pair, machine, choices))
     }
 
     /// Starts the machine and makes lists of choices, looking at all of it after each; gives the
@@ -84,7 +62,7 @@ impl Comparison {
     fn steps(
         &mut self,
         pair: Pair,
-        machine: Result<Machine, Refusal>,
+        machine: Answered<&mut dyn Machine>,
     ) -> Result<Vec<u64>, Difference> {
         let fresh = machine.as_ref().map(|_| 0).map_err(|&refusal| refusal);
         let state = self.begin(Function::Start, pair, &[], fresh, |work, state| {
@@ -96,8 +74,9 @@ impl Comparison {
         let mut session = Session { pair, machine, state, choices: Vec::new() };
         self.look(&session)?;
         for _ in 0..self.random.within(1..=3) {
-            let count = self.random.below(3 * session.machine.left() + 8).min(MOST_CHOICES);
-            for choice in choices(&mut self.random, session.programmes(), count) {
+            let most = 3 * session.machine.left() as usize + 8;
+            let count = self.random.below(most).min(MOST_CHOICES);
+            for choice in choices(&mut self.random, session.machine.programmes(), count) {
                 self.step(&mut session, choice)?;
                 if self.random.once_in(64) {
                     self.look(&session)?;
@@ -118,15 +97,14 @@ impl Comparison {
     fn run(
         &mut self,
         pair: Pair,
-        mut machine: Result<Machine, Refusal>,
+        mut machine: Answered<&mut dyn Machine>,
         choices: Vec<u64>,
     ) -> Outcome {
-        let stepped = machine.as_mut().map_err(|refusal| *refusal).map(|machine| {
-            choices.iter().filter(|&&choice| machine.step(choice).stepped()).count() as u64
-        });
         // What names no programme still names none.
         let bytes: Vec<u8> =
             choices.iter().map(|&choice| u8::try_from(choice).unwrap_or(u8::MAX)).collect();
+        let stepped = machine.as_mut().map(|machine| machine.run(&bytes));
+        let stepped = stepped.map_err(|refusal| *refusal);
         let state = self.begin(Function::Run, pair, &bytes, stepped, |work, state| {
             product::run(pair.sheet, pair.bundle, &bytes, work, state)
         })?;
@@ -142,7 +120,7 @@ impl Comparison {
         function: Function,
         pair: Pair,
         choices: &[u8],
-        right: Result<u64, Refusal>,
+        right: Answered<u64>,
         call: impl FnOnce(&mut [u32], &mut [u32]) -> Answer,
     ) -> Result<Option<usize>, Difference> {
         let (work, state) = (self.next_work(), self.next_work());
@@ -165,7 +143,7 @@ impl Comparison {
     /// Makes one choice; whether it stepped.
     fn step(&mut self, session: &mut Session, choice: u64) -> Result<bool, Difference> {
         session.choices.push(choice);
-        let stepped = session.machine.step(choice).stepped();
+        let stepped = session.machine.step(choice);
         // All words are compared only now and then, since there are many.
         let before =
             (!stepped && self.random.once_in(32)).then(|| self.state.kept(session.state).to_vec());
@@ -182,7 +160,7 @@ impl Comparison {
         let mut stepped = true;
         while stepped {
             stepped = false;
-            for k in 0..session.programmes() {
+            for k in 0..session.machine.programmes() {
                 stepped |= self.step(session, k as u64)?;
             }
         }
@@ -194,19 +172,19 @@ impl Comparison {
         let length = session.state;
         let around = (!self.state.around_untouched(length)).then_some("what is around the state");
         let answer = product::left(session.pair.bundle, self.state.kept(length));
-        let left = session.machine.left() as u64;
+        let left = session.machine.left();
         self.judge_state(Function::Left, session, answer, Ok(left), around)?;
         let beyond = self.random.pick(&NO_NUMBERS);
-        for k in (0..session.programmes() as u64 + 2).chain([beyond]) {
+        for k in (0..session.machine.programmes() as u64 + 2).chain([beyond]) {
             let mut numbers = [0; 3].map(|_: u32| self.random.bits() as u32);
             let state = self.state.kept(length);
             let answer = product::processor(session.pair.bundle, state, k, &mut numbers);
-            let wrong = (numbers != session.numbers(k)).then_some("the processor");
+            let wrong = (numbers != session.machine.processor(k)).then_some("the processor");
             self.judge_state(Function::Processor, session, answer, Ok(0), wrong)?;
         }
         for link in (0..session.machine.links() as u64 + 2).chain([beyond]) {
             let answer = product::stamp(self.state.kept(length), link);
-            let right = Ok(session.stamp(link));
+            let right = Ok(session.machine.stamp(link));
             self.judge_state(Function::Stamp, session, answer, right, None)?;
         }
         Ok(())
@@ -215,8 +193,8 @@ impl Comparison {
     /// Lends the state at a length below the fixed one (13).
     fn short_states(&mut self, session: &Session) -> Outcome {
         let any = self.random.below(self.work_length);
-        let right = Err(Refusal::new(SHORT_WORK_AREA, self.work_length));
         for length in [0, any, self.work_length - 1] {
+            let right = area(self.work_length, length).map(|()| 0);
             let Pair { sheet, bundle } = session.pair;
             let before = self.state.kept(session.state).to_vec();
             let mut numbers = [7; 3];
@@ -242,7 +220,7 @@ impl Comparison {
         function: Function,
         session: &Session,
         answer: Answer,
-        right: Result<u64, Refusal>,
+        right: Answered<u64>,
         wrong: Option<&'static str>,
     ) -> Outcome {
         let choices = session.choices.as_slice();

@@ -1,4 +1,5 @@
-//! Holds the product against the reference on made-up inputs, and fails on the first difference.
+//! Holds the product against the fast rewrite on inputs of all sizes, and against the literal rules
+//! on small ones; fails on the first difference.
 //!
 //! `compare [SEED]`: the same seed makes the same inputs.
 
@@ -8,14 +9,16 @@ mod formats;
 mod lent;
 mod machine;
 mod planner;
+mod rules;
 mod tally;
 
 use comparison::Difference;
-use families::Report;
+use families::{Family, Report};
 use reference::refusal::STUCK;
+use rules::Rules;
 use std::env;
 use std::process::ExitCode;
-use tally::{Function, Tally};
+use tally::{Function, Tally, FUNCTIONS};
 
 const THREADS: usize = 2;
 /// The fewest calls that count as a comparison.
@@ -25,6 +28,10 @@ const FEWEST_PLANS: usize = 50_000;
 /// The fewest pairs of a sheet and a bundle, and how many of them have to get stuck.
 const FEWEST_PAIRS: usize = 200_000;
 const FEWEST_STUCK: usize = 3000;
+/// The fewest calls of each function that are held against the literal rules.
+const FEWEST_OF_EACH: usize = 1_000_000;
+/// How often each family of small inputs is run, so that they share the threads evenly.
+const SMALL_RUNS: usize = 20;
 
 fn main() -> ExitCode {
     let seed = match env::args().nth(1).map(|seed| seed.parse()) {
@@ -35,25 +42,51 @@ fn main() -> ExitCode {
             return ExitCode::FAILURE;
         }
     };
-    let reports = families::run(seed, THREADS);
+    match compare(seed) {
+        Ok(calls) => {
+            println!("compare: {calls} calls, 0 differences");
+            ExitCode::SUCCESS
+        }
+        Err(failure) => {
+            println!("{failure}");
+            ExitCode::FAILURE
+        }
+    }
+}
+
+/// Both comparisons: how many calls they made, or why they do not count.
+fn compare(seed: u64) -> Result<usize, String> {
+    let fast = hold(families::FAST, 1, seed, fast_shortfalls)?;
+    let literal = hold(families::LITERAL, SMALL_RUNS, seed, literal_shortfalls)?;
+    Ok(fast + literal)
+}
+
+/// Holds the product against some rules on these families, and prints what came; how many calls it
+/// made.
+fn hold<R: Rules>(
+    families: &[Family<R>],
+    times: usize,
+    seed: u64,
+    shortfalls: fn(&Tally) -> Vec<String>,
+) -> Result<usize, String> {
+    println!("against {}", R::NAME);
+    let reports = families::run(families, times, seed, THREADS);
     let mut tally = Tally::default();
     for Report { name, tally: calls, .. } in &reports {
         println!("{name:<26}{:>9} calls", calls.calls());
         tally.add(calls);
     }
-    let calls = tally.calls();
     if let Some((name, text)) = reports.iter().find_map(difference) {
-        println!("{text}compare: a difference among {name}, seed {seed}");
-        return ExitCode::FAILURE;
+        return Err(format!("{text}compare: a difference among {name}, seed {seed}"));
     }
     tally.print();
-    let shortfalls = shortfalls(&tally);
-    if !shortfalls.is_empty() {
-        println!("{}\ncompare: {calls} calls are not enough", shortfalls.join("\n"));
-        return ExitCode::FAILURE;
+    let calls = tally.calls();
+    let mut missing = tally.missed();
+    missing.extend(shortfalls(&tally));
+    match missing.is_empty() {
+        true => Ok(calls),
+        false => Err(format!("{}\ncompare: {calls} calls are not enough", missing.join("\n"))),
     }
-    println!("compare: {calls} calls, 0 differences");
-    ExitCode::SUCCESS
 }
 
 fn difference(report: &Report) -> Option<(&'static str, &str)> {
@@ -61,18 +94,24 @@ fn difference(report: &Report) -> Option<(&'static str, &str)> {
     Some((report.name, text))
 }
 
-/// What was compared too seldom.
-fn shortfalls(tally: &Tally) -> Vec<String> {
-    let mut shortfalls = tally.missed();
-    for (what, count, fewest) in [
+/// What was held against the fast rewrite too seldom.
+fn fast_shortfalls(tally: &Tally) -> Vec<String> {
+    let counts = [
         ("calls", tally.calls(), FEWEST_CALLS),
         ("plans", tally.calls_of(Function::Plan), FEWEST_PLANS),
         ("pairs", tally.calls_of(Function::Check), FEWEST_PAIRS),
         ("pairs that get stuck", tally.answers(Function::Check, STUCK), FEWEST_STUCK),
-    ] {
-        if count < fewest {
-            shortfalls.push(format!("{what}: {count}, fewer than {fewest}"));
-        }
-    }
-    shortfalls
+    ];
+    counts.into_iter().filter_map(shortfall).collect()
+}
+
+/// What was held against the literal rules too seldom.
+fn literal_shortfalls(tally: &Tally) -> Vec<String> {
+    let counts = FUNCTIONS.map(|f| (f.name(), tally.calls_of(f), FEWEST_OF_EACH));
+    counts.into_iter().filter_map(shortfall).collect()
+}
+
+/// Something that came less often than it has to.
+fn shortfall((what, count, fewest): (&str, usize, usize)) -> Option<String> {
+    (count < fewest).then(|| format!("{what}: {count}, fewer than {fewest}"))
 }

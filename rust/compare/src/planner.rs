@@ -1,38 +1,28 @@
 //! The comparison of the planner and the listing.
 
 use crate::comparison::{Comparison, Outcome};
+use crate::rules::Rules;
 use crate::tally::Function;
-use reference::listing;
-use reference::planner::plan_with;
-use reference::sheet::Sheet;
 use zeldrupa::raw as product;
 
-impl Comparison {
+impl<R: Rules> Comparison<R> {
     /// Plans a sheet, and lists its plan or its refusal.
-    pub fn plan(&mut self, bytes: &[u8]) -> Outcome {
-        let before = bytes.to_vec();
-        let sheet = Sheet::read(bytes);
-        let plan = match &sheet {
-            Ok(sheet) => plan_with(sheet, |turn| self.tally.count_turn(turn)),
-            Err(refusal) => Err(*refusal),
-        };
-        let bundle = match (&sheet, &plan) {
-            (Ok(sheet), Ok(plan)) => Ok(plan.to_bundle(sheet)),
-            (Err(refusal), _) | (_, Err(refusal)) => Err(*refusal),
-        };
+    pub fn plan(&mut self, sheet: &[u8]) -> Outcome {
+        let before = sheet.to_vec();
+        let (bundle, lines) = R::plan(sheet, &mut self.tally);
         self.one_output(
             Function::Plan,
-            &[("sheet", &bytes)],
+            &[("sheet", &sheet)],
             &bundle,
-            |work, out| product::plan(bytes, work, out),
-            |_| (bytes != before).then_some("the input"),
+            |work, out| product::plan(sheet, work, out),
+            |_| (sheet != before).then_some("the input"),
         )?;
         self.one_output(
             Function::Listing,
-            &[("sheet", &bytes)],
-            &Ok(listing::lines(&plan)),
-            |work, out| product::listing(bytes, work, out),
-            |_| (bytes != before).then_some("the input"),
+            &[("sheet", &sheet)],
+            &Ok(lines),
+            |work, out| product::listing(sheet, work, out),
+            |_| (sheet != before).then_some("the input"),
         )
     }
 }

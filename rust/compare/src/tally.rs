@@ -1,8 +1,6 @@
 //! How often each function gave each answer and each rule of placing decided, and which of them have to
 //! at least once.
 
-use reference::planner::{Step, Turn};
-
 /// A function of the interface.
 #[derive(Clone, Copy, Debug, PartialEq, Eq)]
 pub enum Function {
@@ -104,16 +102,10 @@ impl Tally {
         self.counts[function as usize][usize::from(number)] += 1;
     }
 
-    /// Counts the rules that decided in a turn of the planner.
-    pub fn count_turn(&mut self, turn: Turn) {
-        let step = match turn.step {
-            Step::Join => 0,
-            Step::Idle => 1,
-            Step::Open => 2,
-            Step::LastResort => 3,
-        };
+    /// Counts a turn of the planner by the step that decided, from 0, and whether the guard did.
+    pub fn count_turn(&mut self, step: usize, barred: bool) {
         self.rules[step] += 1;
-        self.rules[4] += usize::from(turn.barred);
+        self.rules[4] += usize::from(barred);
     }
 
     /// Adds another tally's counts.

@@ -123,6 +123,11 @@ pub fn telling(random: &mut Random, most: usize) -> Sheet {
 /// least four processors.
 pub fn guarded(random: &mut Random) -> Sheet {
     let tasks = random.within(6..=48);
+    guarded_of(random, tasks)
+}
+
+/// The same with so many tasks.
+fn guarded_of(random: &mut Random, tasks: usize) -> Sheet {
     let tries = distinct(random, 4 * tasks, 1, |random| [0; 2].map(|_| random.below(tasks)));
     let mut sheet = with_pairs(random, tasks, tries);
     weigh(random, &mut sheet, 8, 60);
@@ -131,6 +136,31 @@ pub fn guarded(random: &mut Random) -> Sheet {
         sheet.limit = u32::MAX;
     }
     sheet
+}
+
+/// A valid sheet of at most eight tasks on at most four processors, with ties, free and dear
+/// messages, and store enough or hardly enough.
+pub fn small_board(random: &mut Random) -> Sheet {
+    let mut sheet = match random.below(4) {
+        0 => small(random),
+        1 => {
+            let tasks = random.within(4..=8);
+            guarded_of(random, tasks)
+        }
+        _ => telling(random, 8),
+    };
+    sheet.processors = random.within(1..=4) as u8;
+    if random.once_in(4) {
+        tighten(random, &mut sheet);
+    }
+    sheet
+}
+
+/// Gives a limit between what the greatest task needs and all tasks need together.
+pub fn tighten(random: &mut Random, sheet: &mut Sheet) {
+    let stores = sheet.tasks.iter().skip(1).step_by(2).map(|&store| usize::from(store));
+    let (greatest, all) = (stores.clone().max().unwrap_or(0), stores.sum());
+    sheet.limit = random.within(greatest..=all) as u32;
 }
 
 /// Gives all works up to `works`, and all costs below `costs`.

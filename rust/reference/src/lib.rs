@@ -1,4 +1,6 @@
-//! An independent rewrite of the planner's rules in plain Rust, which the proved product is held against.
+//! The rules rewritten to be fast: the opponent of the benchmark, which the proved product is also
+//! held against on inputs of all sizes. It shares many of the planner's shortcuts, so it is itself
+//! held against the crate `literal`, which has none, in `tests/plain.rs`.
 //!
 //! Each module has one part of the rules over typed values; [`interface`] has the same parts from
 //! bytes to lent buffers, as the product's C interface has them.

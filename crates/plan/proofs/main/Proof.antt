@@ -1,7 +1,7 @@
 -- `plan::main` meets its contract.
 use mathlib.Core.Path.{sym}
 use lib.Seq.{length-take-le}
-use Rattle.console.proofs.Pieces.{input-within}
+use Rattle.plan.proofs.Pieces.{input-within}
 use borrow.Author.Needs.{needs}
 use Rattle.plan.proofs.main.Statement.{statement}
 use Rattle.plan.proofs.main.Tie as tie

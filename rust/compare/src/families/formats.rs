@@ -1,12 +1,19 @@
 //! The families of the formats: which sheets, bundles and values the readers and writers get.
 
-use super::{mostly_small, planned, seldom_largest, trial_files};
+use super::{
+    damage_bundle, damage_sheet, mostly_small, over_full, planned, seldom_largest, trial_files,
+};
 use crate::comparison::{Comparison, Outcome};
+use crate::rules::Rules;
 use inputs::{bundles, damage, sheets};
 use reference::trials;
 
 /// Everything that reads a sheet, with this one.
-fn every_reader(c: &mut Comparison, sheet: &[u8], bundle: &bundles::Bundle) -> Outcome {
+fn every_reader<R: Rules>(
+    c: &mut Comparison<R>,
+    sheet: &[u8],
+    bundle: &bundles::Bundle,
+) -> Outcome {
     c.read_sheet(sheet)?;
     c.levels(sheet)?;
     c.read_bundle(sheet, &bundle.encode())?;
@@ -26,7 +33,7 @@ pub fn trial_sheets(c: &mut Comparison) -> Outcome {
 }
 
 /// A sheet for each refusal of sheets, with every function.
-pub fn refused_sheets(c: &mut Comparison) -> Outcome {
+pub fn refused_sheets<R: Rules>(c: &mut Comparison<R>) -> Outcome {
     let task: &[u8] = &[0x54, 1, 0, 1, 0];
     let link: &[u8] = &[0x45, 0, 1, 1, 0, 1, 0];
     let full = task.repeat(257);
@@ -97,14 +104,7 @@ pub fn damaged_sheets(c: &mut Comparison) -> Outcome {
 pub fn damaged_sheet_values(c: &mut Comparison) -> Outcome {
     for round in 0..16_000 {
         let mut values = mostly_small(c, round);
-        for _ in 0..c.random.within(1..=3) {
-            match c.random.below(8) {
-                0 => values.processors = c.random.bits() as u8,
-                1 => values.limit = c.random.bits() as u32,
-                2..=3 => damage::values(&mut c.random, &mut values.tasks, 2),
-                _ => damage::values(&mut c.random, &mut values.links, 4),
-            }
-        }
+        damage_sheet(&mut c.random, &mut values);
         c.write_sheet(&values)?;
     }
     Ok(())
@@ -137,10 +137,7 @@ pub fn circles(c: &mut Comparison) -> Outcome {
 pub fn brimful_sheets(c: &mut Comparison) -> Outcome {
     for _ in 0..20 {
         let full = sheets::largest(&mut c.random);
-        let mut more_tasks = full.clone();
-        more_tasks.tasks.extend([c.random.below(2) as u16, 7]);
-        let mut more_links = full.clone();
-        more_links.links.extend([3, c.random.below(300) as u16, 0, 0]);
+        let [more_tasks, more_links] = over_full(&mut c.random, &full);
         let mut doubled = full.clone();
         let at = 4 * c.random.below(full.link_count() - 1);
         doubled.links.copy_within(at..at + 4, full.links.len() - 4);
@@ -235,13 +232,7 @@ pub fn damaged_bundle_values(c: &mut Comparison) -> Outcome {
     for round in 0..16_000 {
         let values = mostly_small(c, round);
         let mut bundle = formed(c, &values);
-        for _ in 0..c.random.within(1..=3) {
-            damage::values(&mut c.random, &mut bundle.commands, 2);
-        }
-        if c.random.once_in(8) {
-            let at = 2 * c.random.below(bundle.commands.len() / 2 + 1);
-            bundle.commands.splice(at..at, [0x5A, c.random.bits() as u16]);
-        }
+        damage_bundle(&mut c.random, &mut bundle);
         c.write_bundle(&values.encode(), &bundle)?;
     }
     Ok(())

@@ -1,6 +1,8 @@
 //! The families of the checker and the machine: pairs of a sheet and a bundle, and states.
 
-use super::{faulty_sheet, mostly_small, planned, trial_files};
+use super::{
+    claim_wrongly, faulty_sheet, limit_as_needed, mostly_small, planned, right_bundle, trial_files,
+};
 use crate::comparison::{Comparison, Outcome};
 use inputs::{bundles, damage, sheets, Random};
 use zeldrupa::raw as product;
@@ -23,14 +25,6 @@ fn roomy(c: &mut Comparison, round: usize) -> sheets::Sheet {
     values
 }
 
-/// A bundle with every run and message right: of the planner or of a random run.
-fn right_bundle(c: &mut Comparison, values: &sheets::Sheet) -> bundles::Bundle {
-    match c.random.once_in(2) {
-        true => planned(&mut c.random, values),
-        false => bundles::orderly(&mut c.random, values),
-    }
-}
-
 /// Every trial sheet with every trial bundle.
 pub fn trial_pairs(c: &mut Comparison) -> Outcome {
     for sheet in trial_files(".sheet") {
@@ -49,7 +43,7 @@ fn edited(
 ) -> Outcome {
     for round in 0..rounds {
         let mut values = roomy(c, round);
-        let mut bundle = right_bundle(c, &values);
+        let mut bundle = right_bundle(&mut c.random, &values);
         edit(&mut c.random, &mut values, &mut bundle);
         pair(c, &values.encode(), &bundle.encode())?;
     }
@@ -63,13 +57,7 @@ pub fn right(c: &mut Comparison) -> Outcome {
 
 /// Right bundles with another claim, mostly off by one.
 pub fn wrong_claims(c: &mut Comparison) -> Outcome {
-    edited(c, 15_000, |random, _, bundle| {
-        bundle.claim = match random.below(5) {
-            0..=1 => bundle.claim.wrapping_sub(1),
-            2..=3 => bundle.claim.wrapping_add(1),
-            _ => random.bits() as u32,
-        }
-    })
+    edited(c, 15_000, |random, _, bundle| claim_wrongly(random, bundle))
 }
 
 /// Right bundles with commands swapped, moved, dropped or doubled.
@@ -96,21 +84,14 @@ pub fn tangled(c: &mut Comparison) -> Outcome {
 
 /// Sheets whose limit is just what one of the programmes needs, or one less or more.
 pub fn stores_at_the_limit(c: &mut Comparison) -> Outcome {
-    edited(c, 20_000, |random, values, bundle| {
-        let needs = bundles::needs(values, bundle);
-        let need = match random.once_in(3) {
-            true => random.pick(&needs),
-            false => needs.into_iter().max().unwrap_or(0),
-        };
-        values.limit = (need + random.below(3) as u32).saturating_sub(1);
-    })
+    edited(c, 20_000, limit_as_needed)
 }
 
 /// Right bundles with one to three damages in their bytes.
 pub fn damaged(c: &mut Comparison) -> Outcome {
     for round in 0..30_000 {
         let values = roomy(c, round);
-        let bundle = right_bundle(c, &values).encode();
+        let bundle = right_bundle(&mut c.random, &values).encode();
         let bundle = damage::few(&mut c.random, bundle, damage::bundle_command);
         pair(c, &values.encode(), &bundle)?;
     }
@@ -121,8 +102,8 @@ pub fn damaged(c: &mut Comparison) -> Outcome {
 pub fn sheets_in_fault(c: &mut Comparison) -> Outcome {
     for round in 0..15_000 {
         let values = mostly_small(c, round);
-        let sheet = faulty_sheet(c, &values, round);
-        let bundle = right_bundle(c, &values).encode();
+        let sheet = faulty_sheet(&mut c.random, &values, round);
+        let bundle = right_bundle(&mut c.random, &values).encode();
         pair(c, &sheet, &bundle)?;
     }
     Ok(())
@@ -132,7 +113,7 @@ pub fn sheets_in_fault(c: &mut Comparison) -> Outcome {
 pub fn other_sheets(c: &mut Comparison) -> Outcome {
     for round in 0..5000 {
         let (values, other) = (roomy(c, round), roomy(c, round));
-        let bundle = right_bundle(c, &other);
+        let bundle = right_bundle(&mut c.random, &other);
         pair(c, &values.encode(), &bundle.encode())?;
     }
     Ok(())
@@ -142,7 +123,7 @@ pub fn other_sheets(c: &mut Comparison) -> Outcome {
 pub fn cut(c: &mut Comparison) -> Outcome {
     for round in 0..200 {
         let values = mostly_small(c, round % 100);
-        let (sheet, bundle) = (values.encode(), right_bundle(c, &values).encode());
+        let (sheet, bundle) = (values.encode(), right_bundle(&mut c.random, &values).encode());
         for length in 0..=bundle.len() {
             pair(c, &sheet, &bundle[..length])?;
         }
@@ -175,7 +156,8 @@ pub fn largest(c: &mut Comparison) -> Outcome {
 pub fn any_states(c: &mut Comparison) -> Outcome {
     for round in 0..400 {
         let values = mostly_small(c, round);
-        let (mut sheet, mut bundle) = (values.encode(), right_bundle(c, &values).encode());
+        let (mut sheet, mut bundle) =
+            (values.encode(), right_bundle(&mut c.random, &values).encode());
         let mut words = vec![0; c.work_length + round % 3];
         product::start(&sheet, &bundle, &mut vec![0; c.work_length], &mut words);
         let random = &mut c.random;

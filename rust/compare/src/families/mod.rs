@@ -4,8 +4,10 @@
 mod formats;
 mod machine;
 mod plans;
+mod small;
 
 use crate::comparison::{Comparison, Outcome};
+use crate::rules::{Fast, Literal, Rules};
 use crate::tally::Tally;
 use inputs::{bundles, damage, sheets, Random};
 use reference::planner;
@@ -16,9 +18,10 @@ use std::sync::Mutex;
 use std::thread;
 
 /// A family: its name, and what makes its inputs and compares on each.
-type Family = (&'static str, fn(&mut Comparison) -> Outcome);
+pub type Family<R> = (&'static str, fn(&mut Comparison<R>) -> Outcome);
 
-const FAMILIES: &[Family] = &[
+/// The families of all sizes.
+pub const FAST: &[Family<Fast>] = &[
     ("trial sheets", formats::trial_sheets),
     ("refused sheets", formats::refused_sheets),
     ("valid sheets", formats::valid_sheets),
@@ -55,6 +58,19 @@ const FAMILIES: &[Family] = &[
     ("any words as state", machine::any_states),
 ];
 
+/// The families of small inputs, each of which is for several runs.
+pub const LITERAL: &[Family<Literal>] = &[
+    ("refused sheets", formats::refused_sheets),
+    ("small boards", small::boards),
+    ("damaged small sheets", small::damaged_sheets),
+    ("over-full sheets", small::over_full_sheets),
+    ("small circles", small::circles),
+    ("right small bundles", small::right_bundles),
+    ("arranged small bundles", small::arranged_bundles),
+    ("damaged small bundles", small::damaged_bundles),
+    ("small sheets in fault", small::sheets_in_fault),
+];
+
 /// What came of a family.
 pub struct Report {
     pub name: &'static str,
@@ -62,22 +78,40 @@ pub struct Report {
     pub outcome: Outcome,
 }
 
-/// Runs every family, on so many threads; the reports are in the order of the families.
-pub fn run(seed: u64, threads: usize) -> Vec<Report> {
+/// Runs every family so many times over, on so many threads; the reports are in the order of the
+/// families.
+pub fn run<R: Rules>(
+    families: &[Family<R>],
+    times: usize,
+    seed: u64,
+    threads: usize,
+) -> Vec<Report> {
     let next = AtomicUsize::new(0);
-    let reports = Mutex::new(Vec::new());
+    let parts = Mutex::new(Vec::new());
     let work = || loop {
         let number = next.fetch_add(1, Ordering::Relaxed);
-        let Some(&(name, family)) = FAMILIES.get(number) else { return };
+        let Some((_, family)) = families.get(number / times) else { return };
         let mut comparison = Comparison::new(seed.wrapping_mul(1000).wrapping_add(number as u64));
         let outcome = family(&mut comparison);
-        let report = Report { name, tally: comparison.tally, outcome };
-        reports.lock().expect("no family panics").push((number, report));
+        if outcome.is_err() {
+            // Nothing more is started.
+            next.store(families.len() * times, Ordering::Relaxed);
+        }
+        parts.lock().expect("no family panics").push((number, comparison.tally, outcome));
     };
     thread::scope(|scope| (0..threads).for_each(|_| drop(scope.spawn(work))));
-    let mut reports = reports.into_inner().expect("no family panics");
-    reports.sort_by_key(|&(number, _)| number);
-    reports.into_iter().map(|(_, report)| report).collect()
+    let mut parts = parts.into_inner().expect("no family panics");
+    parts.sort_by_key(|&(number, ..)| number);
+    let report = |&(name, _): &Family<R>| Report { name, tally: Tally::default(), outcome: Ok(()) };
+    let mut reports: Vec<Report> = families.iter().map(report).collect();
+    for (number, tally, outcome) in parts {
+        let report = &mut reports[number / times];
+        report.tally.add(&tally);
+        if report.outcome.is_ok() {
+            report.outcome = outcome;
+        }
+    }
+    reports
 }
 
 /// The trial files whose names end so.
@@ -87,11 +121,71 @@ fn trial_files(end: &str) -> Vec<Vec<u8>> {
 }
 
 /// A sheet in fault: a circle, a task too many, or the damaged bytes of these values.
-fn faulty_sheet(c: &mut Comparison, values: &sheets::Sheet, round: usize) -> Vec<u8> {
+fn faulty_sheet(random: &mut Random, values: &sheets::Sheet, round: usize) -> Vec<u8> {
     match round % 8 {
-        1 => sheets::circle(&mut c.random, 1 + round % 40).encode(),
+        1 => sheets::circle(random, 1 + round % 40).encode(),
         2 => sheets::Sheet { tasks: [1, 1].repeat(257), ..values.clone() }.encode(),
-        _ => damage::few(&mut c.random, values.encode(), damage::sheet_command),
+        _ => damage::few(random, values.encode(), damage::sheet_command),
+    }
+}
+
+/// A largest sheet with a task more, perhaps out of range, and with a link more, perhaps loose or
+/// doubled.
+fn over_full(random: &mut Random, full: &sheets::Sheet) -> [sheets::Sheet; 2] {
+    let mut more_tasks = full.clone();
+    more_tasks.tasks.extend([random.below(2) as u16, 7]);
+    let mut more_links = full.clone();
+    more_links.links.extend([3, random.below(300) as u16, 0, 0]);
+    [more_tasks, more_links]
+}
+
+/// Damages the values of a sheet one to three times.
+fn damage_sheet(random: &mut Random, values: &mut sheets::Sheet) {
+    for _ in 0..random.within(1..=3) {
+        match random.below(8) {
+            0 => values.processors = random.bits() as u8,
+            1 => values.limit = random.bits() as u32,
+            2..=3 => damage::values(random, &mut values.tasks, 2),
+            _ => damage::values(random, &mut values.links, 4),
+        }
+    }
+}
+
+/// Damages the values of a bundle one to three times, and now and then puts a claim among them.
+fn damage_bundle(random: &mut Random, bundle: &mut bundles::Bundle) {
+    for _ in 0..random.within(1..=3) {
+        damage::values(random, &mut bundle.commands, 2);
+    }
+    if random.once_in(8) {
+        let at = 2 * random.below(bundle.commands.len() / 2 + 1);
+        bundle.commands.splice(at..at, [0x5A, random.bits() as u16]);
+    }
+}
+
+/// Gives another claim, mostly off by one.
+fn claim_wrongly(random: &mut Random, bundle: &mut bundles::Bundle) {
+    bundle.claim = match random.below(5) {
+        0..=1 => bundle.claim.wrapping_sub(1),
+        2..=3 => bundle.claim.wrapping_add(1),
+        _ => random.bits() as u32,
+    }
+}
+
+/// Gives the limit that one of the programmes just needs, or one less or more.
+fn limit_as_needed(random: &mut Random, sheet: &mut sheets::Sheet, bundle: &mut bundles::Bundle) {
+    let needs = bundles::needs(sheet, bundle);
+    let need = match random.once_in(3) {
+        true => random.pick(&needs),
+        false => needs.into_iter().max().unwrap_or(0),
+    };
+    sheet.limit = (need + random.below(3) as u32).saturating_sub(1);
+}
+
+/// A bundle with every run and message right: of the planner or of a random run.
+fn right_bundle(random: &mut Random, values: &sheets::Sheet) -> bundles::Bundle {
+    match random.once_in(2) {
+        true => planned(random, values),
+        false => bundles::orderly(random, values),
     }
 }
 

@@ -63,9 +63,7 @@ pub fn little_store(c: &mut Comparison) -> Outcome {
             0 => mostly_small(c, round / 2),
             _ => sheets::guarded(&mut c.random),
         };
-        let stores = values.tasks.iter().skip(1).step_by(2).map(|&store| usize::from(store));
-        let (greatest, all) = (stores.clone().max().unwrap_or(0), stores.sum());
-        values.limit = c.random.within(greatest..=all) as u32;
+        sheets::tighten(&mut c.random, &mut values);
         values
     })
 }
@@ -108,7 +106,7 @@ pub fn greatest_values(c: &mut Comparison) -> Outcome {
 pub fn faulty_sheets(c: &mut Comparison) -> Outcome {
     for round in 0..8000 {
         let values = mostly_small(c, round);
-        let sheet = faulty_sheet(c, &values, round);
+        let sheet = faulty_sheet(&mut c.random, &values, round);
         c.plan(&sheet)?;
     }
     let whole = sheets::largest(&mut c.random).encode();

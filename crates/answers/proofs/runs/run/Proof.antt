@@ -9,7 +9,7 @@ returns : tie.Need-returns
 returns c = state-refused _ _ _ _ _ _ (c .before .before .before .before .before .before .before .start .ensures) _ _ _ _ (c .before .r .given .1)
 
 returns-2 : tie.Need-returns-2
-returns-2 c = state-ran _ _ _ _ _ _ (c .before .before .before .before .before .before .before .before .before .before .start .ensures) (omega (arith, c .before .before .before .before .before .before .before .before .before .before .before .before .before .before .before .before .before .before .pre)) _ _ _ _ _ _ (c .before .before .before .before .enum-told .given .1) (c .before .before .run .ensures)
+returns-2 c = state-ran _ _ _ _ _ _ (c .before .before .before .before .before .before .before .before .before .before .start .ensures) (omega (arith, c .before .before .before .before .before .before .before .before .before .before .before .before .before .before .before .before .before .before .pre)) _ _ _ _ _ _ (c .before .before .before .before .enum-told .given .1) (c .before .before .run-all .ensures)
 
 pub run-spec : {M : Type 1} → statement M
 run-spec =

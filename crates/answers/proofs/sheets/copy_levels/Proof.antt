@@ -1,5 +1,6 @@
 -- `copy_levels` (src/sheets.rt) keeps its contract.
 use Prim.Native.Nat.{_+_, _-_, _≤_, ℕ}
+use Rattle.workspace.specs.Area.{levelsAt}
 use Rattle.folds.specs.Folds.{listed}
 use Rattle.graph.specs.Graph.{level}
 use Rattle.numbers.specs.Number.{stored}
@@ -53,7 +54,7 @@ loop-again c =
     let s = sheetIn (now (c .before .before .before .before .before .before .args .w)) in
     let t = c .before .before .loop .t in (
       omega (arith, c .before .loop-test .taken),
-      length-set (c .before .before .loop .out) t (getD (now (c .before .before .before .before .before .before .args .w)) (2320 + t) 0) ∙ c .before .before .loop .inv .1,
+      length-set (c .before .before .loop .out) t (getD (now (c .before .before .before .before .before .before .args .w)) (levelsAt + t) 0) ∙ c .before .before .loop .inv .1,
       level-next (level s) (now (c .before .before .before .before .before .before .args .out)) (c .before .before .loop .out) t _ (c .before .before .loop .inv .2) (omega (arith, c .before .before .before .tasks .ensures .0, c .before .before .before .before .before .before .pre .1 .1, c .before .before .loop .inv .1, c .before .loop-test .taken)) (c .before .before .before .before .before .before .pre .1 .0 .levels t (omega (arith, c .before .before .before .tasks .ensures .0, c .before .loop-test .taken))),
     )
 

@@ -1,6 +1,7 @@
 -- `latest` (src/whole.rt) keeps its contract.
 use Prim.Native.Nat.{_-_, _≤_}
-use Rattle.checker.proofs.Closing.{clockIn, latest-is, latest-more, latest-none}
+use Rattle.stepping_machine.specs.Words.{clockIn}
+use Rattle.checker.proofs.Closing.{latest-is, latest-more, latest-none}
 use Rattle.folds.specs.Folds.{greatest}
 use borrow.Author.Needs.{needs}
 use denote.Ref.{now}

@@ -5,12 +5,11 @@ use Rattle.messages.proofs.judge.messages.Statement.{statement}
 use Rattle.messages.proofs.judge.messages.Tie as tie
 
 returns : tie.Need-returns
-returns c = message-wrong _ _ _ _ _ _ _ _ _ _ (c .before .before .before .wrong-message .ensures) _ (c .before .i .given .1)
+returns c = message-wrong _ _ _ _ _ _ _ _ (c .before .before .before .wrong-message .ensures) _ (c .before .i .given .1)
 
 returns-2 : tie.Need-returns-2
-returns-2 c = message-right _ _ _ _ _ _ _ _ _ _ (c .before .before .before .wrong-message .ensures) _ (c .before .enum-told .given .1) (c .stores .ensures)
+returns-2 c = message-right _ _ _ _ _ _ _ _ (c .before .before .wrong-message .ensures) (c .enum-told .given .1)
 
 pub messages-spec : {M : Type 1} → statement M
 messages-spec =
-    tie.close
-    (tie.spec (λ c κs. search needs) (λ c. search needs) (λ c. search needs) (λ c κs. search needs) returns returns-2)
+    tie.close (tie.spec (λ c κs. search needs) (λ c. search needs) (λ c. search needs) returns returns-2)

@@ -1,16 +1,16 @@
 -- `wrong_message` (src/rules.rt) keeps its contract.
-use Prim.Native.Nat.{_-_, _≤_}
 use Rattle.messages.proofs.Ruled.{Oks, oks-found, oks-more, oks-none, oks-start}
-use borrow.Author.Needs.{needs}
+use Prim.Native.Nat.{_-_, _≤_}
 use native.Mathlib.Omega.{arith}
+use borrow.Author.Needs.{needs}
 use Rattle.messages.proofs.rules.wrong_message.Statement.{statement}
 use Rattle.messages.proofs.rules.wrong_message.Tie as tie
 
 abbrev Inv-loop : tie.InvT-loop
-Inv-loop sheet w n m l₀ l = (Oks sheet w n l) × (l ≤ m)
+Inv-loop sheet w v l₀ l = (Oks sheet w v l) × (l ≤ v .links)
 
 abbrev μ-loop : tie.MeasureT-loop
-μ-loop sheet w n m l₀ l = m - l
+μ-loop sheet w v l₀ l = v .links - l
 
 loop-holds : tie.Need-loop-holds Inv-loop μ-loop
 loop-holds c = (oks-start _ _ _, omega arith)
@@ -19,13 +19,13 @@ loop-less : tie.Need-loop-less Inv-loop μ-loop
 loop-less c = omega arith
 
 loop-again : tie.Need-loop-again Inv-loop μ-loop
-loop-again c = (oks-more _ (c .before .before .before .loop .inv .0) (c .if1 .taken) (c .before .link-ok .ensures), omega arith)
+loop-again c = (oks-more _ (c .before .before .before .before .loop .inv .0) (c .if2 .taken) (c .before .link-ok .ensures), omega arith)
 
 returns : tie.Need-returns Inv-loop μ-loop
-returns c = oks-found _ _ _ _ _ _ (c .before .before .before .loop .inv .0) (c .before .before .loop-test .taken) (c .if1 .left) (c .before .link-ok .ensures)
+returns c = oks-found _ _ _ _ _ (c .before .before .before .before .loop .inv .0) (c .before .before .if1 .taken) (c .if2 .left) (c .before .link-ok .ensures)
 
 returns-2 : tie.Need-returns-2 Inv-loop μ-loop
-returns-2 c = oks-none _ _ _ _ _ (c .before .loop .inv .0) (c .loop-test .left)
+returns-2 c = oks-none _ _ _ _ (c .before .before .loop .inv .0) (c .if1 .left)
 
 pub wrong-message-spec : {M : Type 1} → statement M
 wrong-message-spec =

@@ -5,6 +5,7 @@ use native.Mathlib.Omega.{arith}
 use lib.ListN.{length-set, set}
 use borrow.Author.Needs.{needs}
 use denote.Ref.{now}
+use Rattle.workspace.specs.Area.{marksAt, queueAt}
 use Rattle.peeling.specs.Words.{pushed}
 use Rattle.peeling.proofs.queue.push.Statement.{statement}
 use Rattle.peeling.proofs.queue.push.Tie as tie
@@ -14,7 +15,7 @@ slice-write-w-2 c = simp length-set (omega arith)
 
 returns : tie.Need-returns
 unfolding pushed
-returns c = let a = c .before .before .before in ap₂ (λ (x y : ℕ). set (set (now (a .args .w)) (4112 + a .args .k) x) (3856 + a .args .u) y) (c .before .narrow .ensures) (c .narrow2 .ensures)
+returns c = let a = c .before .before .before in ap₂ (λ (x y : ℕ). set (set (now (a .args .w)) (queueAt + a .args .k) x) (marksAt + a .args .u) y) (c .before .narrow .ensures) (c .narrow2 .ensures)
 
 pub push-spec : {M : Type 1} → statement M
 push-spec =

@@ -13,30 +13,39 @@ use Rattle.programmes.proofs.whole.plan.Tie as tie
 
 schedule-requires : tie.Need-schedule-requires
 schedule-requires c κs =
+    let entry = c .before .before .before .before .before .before .before .before .before .before in
     let h = c .before .before .before .before .before .read .ensures in
     let e = c .before .enum-told .given .1 in
-    (open-loaded h e, (open-levelled h e, read-single (now (c .before .before .before .before .before .before .before .before .before .before .args .sheet)) _ (open-value h e)))
+    (open-loaded h e, (open-levelled h e, read-single (now (entry .args .sheet)) _ (open-value h e)))
 
 write-requires : tie.Need-write-requires
 write-requires c κs =
+    let entry = c .before .before .before .before .before .before .before .before .before .before .before .before .before .before .before .before .before in
     let h = c .before .before .before .before .before .before .before .before .before .before .before .before .read .ensures in
     let e = c .before .before .before .before .before .before .before .before .enum-told .given .1 in
-    plan-scheduled (now (c .before .before .before .before .before .before .before .before .before .before .before .before .before .before .before .before .before .args .sheet)) h e (c .before .before .before .before .before .before .schedule .ensures .1) (ap (λ (x : Planned). answerOf x (scheduleIn (c .before .before .before .before .before .before .schedule .last .0))) (sym (c .before .before .enum-told2 .given .1)) ∙ c .before .before .before .before .before .before .schedule .ensures .0)
+    let planned = c .before .before .before .before .before .before .schedule in
+    plan-scheduled (now (entry .args .sheet)) h e (planned .ensures .1) (ap (λ (x : Planned). answerOf x (scheduleIn (planned .last .0))) (sym (c .before .before .enum-told2 .given .1)) ∙ planned .ensures .0)
 
 returns : tie.Need-returns
-returns c = plan-refused (now (c .before .before .before .before .before .before .before .before .before .before .args .sheet)) (c .before .before .before .before .before .read .ensures) (now (c .before .before .before .before .before .before .before .before .before .before .args .out)) _ _ (c .before .r .given .1)
+returns c =
+    let called = c .before .before .before .before .before .before .before .before .before .before in
+    plan-refused (now (called .args .sheet)) (c .before .before .before .before .before .read .ensures) (now (called .args .out)) _ _ (c .before .r .given .1)
 
 returns-2 : tie.Need-returns-2
 returns-2 c =
+    let entry = c .before .before .before .before .before .before .before .before .before .before .before .before .before .before .before .before in
     let h = c .before .before .before .before .before .before .before .before .before .before .before .read .ensures in
     let e = c .before .before .before .before .before .before .before .enum-told .given .1 in
-    plan-none (now (c .before .before .before .before .before .before .before .before .before .before .before .before .before .before .before .before .args .sheet)) h e (c .before .before .before .before .before .schedule .ensures .1) (now (c .before .before .before .before .before .before .before .before .before .before .before .before .before .before .before .before .args .out)) _ (ap (λ (x : Planned). answerOf x (scheduleIn (c .before .before .before .before .before .schedule .last .0))) (sym (c .before .t .given .1)) ∙ c .before .before .before .before .before .schedule .ensures .0)
+    let planned = c .before .before .before .before .before .schedule in
+    plan-none (now (entry .args .sheet)) h e (planned .ensures .1) (now (entry .args .out)) _ (ap (λ (x : Planned). answerOf x (scheduleIn (planned .last .0))) (sym (c .before .t .given .1)) ∙ planned .ensures .0)
 
 returns-3 : tie.Need-returns-3
 returns-3 c =
+    let entry = c .before .before .before .before .before .before .before .before .before .before .before .before .before .before .before .before .before .before .before .before in
     let h = c .before .before .before .before .before .before .before .before .before .before .before .before .before .before .before .read .ensures in
     let e = c .before .before .before .before .before .before .before .before .before .before .before .enum-told .given .1 in
-    plan-done (now (c .before .before .before .before .before .before .before .before .before .before .before .before .before .before .before .before .before .before .before .before .args .sheet)) h e (c .before .before .before .before .before .before .before .before .before .schedule .ensures .1) (ap (λ (x : Planned). answerOf x (scheduleIn (c .before .before .before .before .before .before .before .before .before .schedule .last .0))) (sym (c .before .before .before .before .before .enum-told2 .given .1)) ∙ c .before .before .before .before .before .before .before .before .before .schedule .ensures .0) (now (c .before .before .before .before .before .before .before .before .before .before .before .before .before .before .before .before .before .before .before .before .args .out)) _ (c .before .before .write .ensures)
+    let planned = c .before .before .before .before .before .before .before .before .before .schedule in
+    plan-done (now (entry .args .sheet)) h e (planned .ensures .1) (ap (λ (x : Planned). answerOf x (scheduleIn (planned .last .0))) (sym (c .before .before .before .before .before .enum-told2 .given .1)) ∙ planned .ensures .0) (now (entry .args .out)) _ (c .before .before .write .ensures)
 
 pub plan-spec : {M : Type 1} → statement M
 plan-spec =

@@ -3,6 +3,7 @@ use borrow.Author.Needs.{needs}
 use Prim.Native.Nat.{_+_, _*_, _/_}
 use native.Mathlib.Omega.{arith}
 use denote.Ref.{now}
+use Rattle.workspace.specs.Area.{pairsAt}
 use Rattle.sheet.specs.Tables.{pairWords}
 use Rattle.sheet.proofs.Fills.{pair-room}
 use Rattle.sheet.proofs.pairs.join.Statement.{statement}
@@ -11,7 +12,7 @@ use Rattle.sheet.proofs.pairs.join.Tie as tie
 add-w : tie.Need-add-w
 add-w c =
     let a = c .before .before .before in
-    omega (arith, c .power .ensures, pair-room (now (a .args .w)) (a .args .a) (a .args .b) (a .pre .3) (omega (arith, c .before .slice-known2 .given (2320 + (8 * a .args .a + a .args .b / 32)))))
+    omega (arith, c .power .ensures, pair-room (now (a .args .w)) (a .args .a) (a .args .b) (a .pre .3) (omega (arith, c .before .slice-known2 .given (pairsAt + (8 * a .args .a + a .args .b / 32)))))
 
 returns : tie.Need-returns
 unfolding pairWords

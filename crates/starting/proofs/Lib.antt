@@ -1,3 +1,0 @@
--- The laws of `starting`.
-pub mod Opens
-pub mod Begins

@@ -1,2 +1,0 @@
--- The definitions of `starting`.
-pub mod Starts

@@ -1,0 +1,409 @@
+-- Programmes opened one behind the other, and the fresh state beside them.
+use Prim.Native.Nat.{ℕ, suc, _+_, _*_, _%_, _≤_, _<_}
+use mathlib.Core.Path.{_≡_, refl, sym, ap, _∙_, subst}
+use mathlib.Core.Bool.{false}
+use mathlib.Core.Logic.{_⊎_, inl, inr, ⊎-elim}
+use mathlib.Core.List.{List, []}
+use native.Mathlib.Omega.{arith}
+use native.Mathlib.Numerals.{add-one}
+use native.Mathlib.Decide.{decLt}
+use borrow.Author.Tests.{lt-ltb, le-ltb}
+use lib.ListN.{length, getD, set, length-set, List·getD-eq-default}
+use lib.Seq.{getD-set-same, getD-set-other}
+use Rattle.folds.specs.Folds.{sum}
+use Rattle.folds.proofs.Tests.{below-suc}
+use Rattle.folds.proofs.Laws.{sum-rises, none-first, first-found}
+use Rattle.workspace.specs.Area.{ClearIs}
+use Rattle.words.specs.declared.Found.{Found}
+use Rattle.words.specs.declared.Found.the-variants.{At, Nothing}
+use Rattle.numbers.specs.Number.{numberAt}
+use Rattle.sheet.specs.Sheet.{Sheet, taskCount, linkCount}
+use Rattle.bundle.specs.Bundle.{Command, Bundle, programmeCount, programmeOf}
+use Rattle.bundle.specs.Lies.{Lies}
+use Rattle.messages.specs.Counting.{weigh, wholeOf, whole, each, need}
+use Rattle.messages.specs.Messages.{overStore, at28}
+use Rattle.messages.specs.Fields.{storeAt}
+use Rattle.messages.specs.declared.view.View.{View}
+use Rattle.messages.proofs.Weights.{weigh-each}
+use Rattle.machine.specs.Machine.{freshState}
+use Rattle.stepping_machine.specs.Layout as lay
+use Rattle.stepping_machine.specs.Words.{nextIn, firstIn, lastIn, openedWords}
+use Rattle.stepping_machine.specs.Represents.{Decoded, Programmed, Represents, Within}
+use Rattle.stepping_machine.specs.Loads.{Decodable, Ready, ProgrammeIs, Opens, OneIs, LaidOut, AllIs, RestIs, WipeIs, NeedsIs, LoadIs}
+use Rattle.stepping_machine.proofs.Moves.{decoded-same}
+use Rattle.stepping_machine.proofs.Fresh.{fresh-represented}
+
+-- a processor stands so in words that are the same where it stands and where its programme does
+pub opens-same : (s : Sheet) (w u : List ℕ) (c d k : ℕ) (cs : List Command) → nextIn u k ≡ nextIn w k → firstIn u k ≡ firstIn w k → lastIn u k ≡ lastIn w k
+    → ((i : ℕ) → lay.commands ≤ i → i < c → getD u i 0 ≡ getD w i 0) → c ≤ d → Opens s w c k cs → Opens s u d k cs
+opens-same s w u c d k cs en ef el same more h =
+    record {
+      next = en ∙ h .next ∙ sym ef;
+      low = omega (arith, h .low);
+      high = omega (arith, h .high);
+      last = el ∙ h .last ∙ ap (λ (i : ℕ). i + length cs) (sym ef);
+      decoded = rw ef (decoded-same s w u (firstIn w k) cs (λ i l m. same i (omega (arith, h .low)) (omega (arith, h .high))) (h .decoded));
+    }
+
+-- the words of a processor that was opened, and the others
+module _ (w u : List ℕ) (k first last : ℕ) (e : u ≡ openedWords w k first last) (near : k < 16) where
+  pub opened-long : length u ≡ length w
+  unfolding openedWords
+  opened-long = ap length e ∙ simp length-set
+
+  pub opened-else : (i : ℕ) → (i ≡ k → ⊥) → (i ≡ lay.firsts + k → ⊥) → (i ≡ lay.lasts + k → ⊥) → getD u i 0 ≡ getD w i 0
+  unfolding openedWords
+  opened-else i a b d = ap (λ (l : List ℕ). getD l i 0) e ∙ simp getD-set-other
+
+  module _ (long : lay.extent ≤ length w) where
+    pub opened-next : nextIn u k ≡ first
+    unfolding openedWords
+    opened-next =
+        let a : k ≡ lay.firsts + k → ⊥ = λ q. omega arith in
+        let b : k ≡ lay.lasts + k → ⊥ = λ q. omega arith in
+        let l : k < length w = omega arith in
+        ap (λ (x : List ℕ). getD x k 0) e ∙ simp (getD-set-other, getD-set-same)
+
+    pub opened-first : firstIn u k ≡ first
+    unfolding openedWords
+    opened-first =
+        let b : lay.firsts + k ≡ lay.lasts + k → ⊥ = λ q. omega arith in
+        let l : lay.firsts + k < length (set w k first) = simp length-set (omega arith) in
+        ap (λ (x : List ℕ). getD x (lay.firsts + k) 0) e ∙ simp (getD-set-other, getD-set-same)
+
+    pub opened-last : lastIn u k ≡ last
+    unfolding openedWords
+    opened-last =
+        let l : lay.lasts + k < length (set (set w k first) (lay.firsts + k) first) = simp length-set (omega arith) in
+        ap (λ (x : List ℕ). getD x (lay.lasts + k) 0) e ∙ simp getD-set-same
+
+-- where the offsets are read
+pub decodable-at : (sheet bundle w : List ℕ) (v : View) (k x e : ℕ) → x ≡ getD w k 0 → e ≡ getD w (k + 1) 0 → Decodable sheet bundle v (getD w k 0 + 2) (getD w (suc k) 0) → Decodable sheet bundle v (x + 2) e
+decodable-at sheet bundle w v k x e ex ee g = rw (ex, ee, add-one) g
+
+-- one programme, from the index c on
+pub one-loaded : (sheet bundle w u last : List ℕ) (v : View) (k c x e r n : ℕ) → k < 16 → lay.extent ≤ length w → lay.commands ≤ c → x ≡ getD w k 0 → e ≡ getD w (k + 1) 0 → e < 4294967296
+    → ProgrammeIs sheet bundle w u v (x + 2) e c r n → last ≡ openedWords u k (c % 4294967296) (r % 4294967296) → OneIs sheet bundle w last v k c (r + 1) n
+one-loaded sheet bundle w u last v k c x e r n near long behind ex ee fe p el =
+    record {
+      long = opened-long u last k _ _ el near ∙ p .long;
+      ahead = omega (arith, p .ahead);
+      few = omega (arith, p .far);
+      low = λ i l a b d. opened-else u last k _ _ el near i a b d ∙ p .low i l;
+      is =
+          λ s cs known lies room.
+          let ek : e ≡ getD w (suc k) 0 = ee ∙ ap (λ (i : ℕ). getD w i 0) (add-one k) in
+          let there : Lies (taskCount s) (linkCount s) bundle (x + 2) e cs = rw (ex, ek) lies in
+          let y = p .is s cs known there (omega arith) in
+          let fits : lay.extent ≤ length u = omega (arith, p .long) in
+          let fc : c % 4294967296 ≡ c = omega arith in
+          let fr : r % 4294967296 ≡ c + length cs = omega (arith, y .0) in
+          let f : firstIn last k ≡ c = opened-first u last k _ _ el near fits ∙ fc in (
+            omega (arith, y .0),
+            record {
+              next = opened-next u last k _ _ el near fits ∙ fc ∙ sym f;
+              low = omega arith;
+              high = omega (arith, y .0);
+              last = opened-last u last k _ _ el near fits ∙ fr ∙ ap (λ (i : ℕ). i + length cs) (sym f);
+              decoded = rw f (decoded-same s u last c cs (λ i l m. opened-else u last k _ _ el near i (λ q. omega arith) (λ q. omega arith) (λ q. omega arith)) (y .1));
+            },
+            y .2,
+          );
+    }
+
+-- the first k programmes are opened up to the index c, in the words w that were u, and none of them needs too much
+pub record Going (sheet bundle u w : List ℕ) (v : View) (m c k : ℕ) : Type 0 where
+  pub long : length w ≡ length u
+  pub behind : lay.commands ≤ c
+  pub few : c ≤ lay.commands + k * 4294967300
+  pub rest : (i : ℕ) → k ≤ i → i < 17 → getD w i 0 ≡ getD u i 0
+  pub is : (s : Sheet) (b : Bundle) → LaidOut sheet bundle u v m s b
+      → (c ≡ lay.commands + sum k (wholeOf b each) + k) × ((j : ℕ) → j < k → Opens s w c j (programmeOf b j)) × ((j : ℕ) → j < k → overStore s b j ≡ false)
+
+module _ (sheet bundle u : List ℕ) (v : View) (m : ℕ) (few : m ≤ 16) where
+  pub going-starts : Going sheet bundle u u v m lay.commands 0
+  unfolding sum
+  going-starts =
+      record {
+        long = refl;
+        behind = omega arith;
+        few = omega arith;
+        rest = λ i a b. refl;
+        is = λ s b given. (omega arith, λ j h. absurd (omega arith), λ j h. absurd (omega arith));
+      }
+
+  -- what the next programme asks
+  pub going-decodable : (w : List ℕ) (c k : ℕ) → Ready sheet bundle u v m → Going sheet bundle u w v m c k → k < m → Decodable sheet bundle v (getD w k 0 + 2) (getD w (suc k) 0)
+  going-decodable w c k y g below =
+      record {
+        bounded = y .bounded;
+        inside = y .inside;
+        commands = getD (y .programmes) k [];
+        lies = rw (g .rest k (omega arith) (omega arith), g .rest (suc k) (omega arith) (omega arith)) (y .laid .lies k (omega (arith, y .count)));
+      }
+
+  -- the room for programme k
+  room-for : (b : Bundle) (k : ℕ) → k < programmeCount b → whole b each ≤ 2304 → sum k (wholeOf b each) + length (programmeOf b k) ≤ 2304
+  unfolding sum whole wholeOf
+  room-for b k h short = omega (arith, sum-rises (suc k) (programmeCount b) (wholeOf b each) h, weigh-each (programmeOf b k))
+
+  sum-all : (b : Bundle) (k : ℕ) → k ≡ programmeCount b → sum k (wholeOf b each) ≡ whole b each
+  unfolding whole
+  sum-all b k e = ap (λ (i : ℕ). sum i (wholeOf b each)) e
+
+  sum-more : (b : Bundle) (k : ℕ) → sum (k + 1) (wholeOf b each) ≡ sum k (wholeOf b each) + length (programmeOf b k)
+  unfolding sum wholeOf
+  sum-more b k = rw add-one (omega (arith, weigh-each (programmeOf b k)))
+
+  module _ (w x : List ℕ) (c k r n : ℕ) (g : Going sheet bundle u w v m c k) (below : k < m) (h : OneIs sheet bundle w x v k c r n) where
+    module _ (s : Sheet) (b : Bundle) (given : LaidOut sheet bundle u v m s b) where
+      done : (r ≡ c + length (programmeOf b k) + 1) × Opens s x r k (programmeOf b k) × (n ≡ weigh (need s) (programmeOf b k))
+      unfolding programmeCount programmeOf
+      done =
+          let inside : k < length (b .programmes) = omega (arith, given .programmes) in
+          let lies = given .laid .lies k inside in
+          let p = g .is s b given in
+          h .is s (programmeOf b k) (given .known) (rw (g .rest k (omega arith) (omega arith), g .rest (suc k) (omega arith) (omega arith)) lies)
+          (omega (arith, p .0, room-for b k inside (given .short)))
+
+      opened : (j : ℕ) → j < k + 1 → Opens s x r j (programmeOf b j)
+      opened j l =
+          let d = done in
+          let p = g .is s b given in
+          let q = g .behind in
+          ⊎-elim
+          (λ (i : j < k).
+          opens-same s w x c r j (programmeOf b j) (h .low j (omega arith) (λ z. omega arith) (λ z. omega arith) (λ z. omega arith))
+          (h .low (lay.firsts + j) (omega arith) (λ z. omega arith) (λ z. omega arith) (λ z. omega arith))
+          (h .low (lay.lasts + j) (omega arith) (λ z. omega arith) (λ z. omega arith) (λ z. omega arith))
+          (λ i a b. h .low i b (λ z. omega arith) (λ z. omega arith) (λ z. omega arith)) (omega (arith, d .0)) (p .1 j i))
+          (λ (i : j ≡ k). rw i (d .1)) (below-suc (rw add-one at l))
+
+      needs : n ≡ wholeOf b (need s) k
+      unfolding wholeOf
+      needs = done .2
+
+    pub going-more : n ≤ v .limit → Going sheet bundle u x v m r (k + 1)
+    unfolding overStore
+    going-more fits =
+        record {
+          long = h .long ∙ g .long;
+          behind = omega (arith, g .behind, h .ahead);
+          few = omega (arith, g .few, h .few);
+          rest = λ i a b. let q = g .behind in h .low i (omega arith) (λ z. omega arith) (λ z. omega arith) (λ z. omega arith) ∙ g .rest i (omega arith) b;
+          is =
+              λ s b given.
+              let p = g .is s b given in (
+                omega (arith, p .0, done s b given .0, sum-more b k),
+                opened s b given,
+                λ j l.
+                    ⊎-elim (λ (i : j < k). p .2 j i) (λ (i : j ≡ k). rw i (le-ltb (s .limit) (wholeOf b (need s) k) (omega (arith, needs s b given, given .known .limited)))) (below-suc (rw add-one at l)),
+              );
+        }
+
+    pub going-over : v .limit < n → AllIs sheet bundle u x v m (At k)
+    unfolding at28 overStore
+    going-over over =
+        record {
+          long = h .long ∙ g .long;
+          is-28 =
+              λ s b given.
+              let p = g .is s b given in
+              sym
+              (first-found (programmeCount b) (overStore s b) k (p .2)
+              (lt-ltb (s .limit) (wholeOf b (need s) k) (omega (arith, needs s b given, given .known .limited))) (omega (arith, given .programmes)));
+          opens = λ q. apart q;
+        }
+      where
+        apart : {X : Type 0} → At k ≡ Nothing → X
+        apart z = let y : _≡_ {A = ℕ} 0 1 = cc in absurd (omega arith)
+
+  pub going-ends : (w : List ℕ) (c k : ℕ) → k ≡ m → Going sheet bundle u w v m c k → AllIs sheet bundle u w v m Nothing
+  unfolding at28 programmeOf
+  going-ends w c k e g =
+      record {
+        long = g .long;
+        is-28 = λ s b given. sym (none-first (programmeCount b) (overStore s b) (λ j l. g .is s b given .2 j (omega (arith, given .programmes))));
+        opens =
+            λ q s b given j l.
+            let p = g .is s b given in
+            opens-same s w w c (lay.commands + whole b each + m) j (programmeOf b j) refl refl refl (λ i a b. refl) (omega (arith, p .0, sum-all b k (omega (arith, given .programmes)))) (p .1 j (omega arith));
+      }
+
+-- processors without commands, one by one
+pub rest-starts : (w : List ℕ) (m : ℕ) → RestIs w w m m
+rest-starts w m = record { long = refl; idle = λ k a b. absurd (omega arith); kept = λ k l. (refl, refl, refl); other = λ i l. refl }
+
+pub rest-more : (w u x : List ℕ) (m k : ℕ) → m ≤ k → k < 16 → lay.extent ≤ length w → RestIs w u m k → x ≡ openedWords u k (lay.idle % 4294967296) (lay.idle % 4294967296) → RestIs w x m (k + 1)
+rest-more w u x m k from near long g e =
+    let fits : lay.extent ≤ length u = omega (arith, g .long) in
+    let else : (i : ℕ) → (i ≡ k → ⊥) → (i ≡ lay.firsts + k → ⊥) → (i ≡ lay.lasts + k → ⊥) → getD x i 0 ≡ getD u i 0 = opened-else u x k _ _ e near in
+    record {
+      long = opened-long u x k _ _ e near ∙ g .long;
+      idle =
+          λ j a l.
+          ⊎-elim
+          (λ (i : j < k).
+          let y = g .idle j a i in (
+            else j (λ z. omega arith) (λ z. omega arith) (λ z. omega arith) ∙ y .0,
+            else (lay.firsts + j) (λ z. omega arith) (λ z. omega arith) (λ z. omega arith) ∙ y .1,
+            else (lay.lasts + j) (λ z. omega arith) (λ z. omega arith) (λ z. omega arith) ∙ y .2,
+          ))
+          (λ (i : j ≡ k). rw i (opened-next u x k _ _ e near fits, opened-first u x k _ _ e near fits, opened-last u x k _ _ e near fits)) (below-suc (rw add-one at l));
+      kept =
+          λ j l.
+          let y = g .kept j l in (
+            else j (λ z. omega arith) (λ z. omega arith) (λ z. omega arith) ∙ y .0,
+            else (lay.firsts + j) (λ z. omega arith) (λ z. omega arith) (λ z. omega arith) ∙ y .1,
+            else (lay.lasts + j) (λ z. omega arith) (λ z. omega arith) (λ z. omega arith) ∙ y .2,
+          );
+      other = λ i l. else i (λ z. omega arith) (λ z. omega arith) (λ z. omega arith) ∙ g .other i l;
+    }
+
+-- two parts are cleared, and two counts are put
+pub wiped : (w a b d last : List ℕ) (m l : ℕ) → m ≤ 16 → l ≤ 1024 → lay.extent ≤ length w → ClearIs w a lay.clocks lay.firsts → ClearIs a b lay.idle (lay.stamps + l) → d ≡ set b lay.count (m % 4294967296)
+    → last ≡ set d lay.links (l % 4294967296) → WipeIs w last m l
+wiped w a b d last m l fm fl long p q ed el =
+    let ld : length d ≡ length b = ap length ed ∙ length-set b lay.count _ in
+    let here : (i : ℕ) → (i ≡ lay.count → ⊥) → (i ≡ lay.links → ⊥) → getD last i 0 ≡ getD b i 0 =
+    λ i x y. ap (λ (z : List ℕ). getD z i 0) el ∙ getD-set-other d lay.links i _ 0 y ∙ ap (λ (z : List ℕ). getD z i 0) ed ∙ getD-set-other b lay.count i _ 0 x
+    in
+    let low : (i : ℕ) → lay.clocks ≤ i → i < lay.firsts → getD last i 0 ≡ 0 =
+    λ i x y. here i (λ z. omega arith) (λ z. omega arith) ∙ q .other i (inl (omega arith)) ∙ p .zeros i x y
+    in
+    let high : (i : ℕ) → lay.idle ≤ i → i < lay.stamps + l → getD last i 0 ≡ 0 = λ i x y. here i (λ z. omega arith) (λ z. omega arith) ∙ q .zeros i x y in
+    record {
+      long = ap length el ∙ length-set d lay.links _ ∙ ld ∙ q .long ∙ p .long;
+      count =
+          ap (λ (z : List ℕ). getD z lay.count 0) el ∙ getD-set-other d lay.links lay.count _ 0 (λ z. omega arith) ∙ ap (λ (z : List ℕ). getD z lay.count 0) ed
+          ∙ getD-set-same b lay.count _ 0 (omega (arith, q .long, p .long)) ∙ omega arith;
+      links = ap (λ (z : List ℕ). getD z lay.links 0) el ∙ getD-set-same d lay.links _ 0 (omega (arith, ld, q .long, p .long)) ∙ omega arith;
+      clock = λ k h. low (lay.clocks + k) (omega arith) (omega arith);
+      store = λ k h. low (lay.stores + k) (omega arith) (omega arith);
+      idle = high lay.idle (omega arith) (omega arith);
+      stamp = λ i h. high (lay.stamps + i) (omega arith) (omega arith);
+      other =
+          λ i x.
+          ⊎-elim (λ (z : i < lay.clocks). here i (λ u. omega arith) (λ u. omega arith) ∙ q .other i (inl (omega arith)) ∙ p .other i (inl (omega arith)))
+          (⊎-elim (λ (z : (lay.firsts ≤ i) × (i < lay.count)). here i (λ u. omega arith) (λ u. omega arith) ∙ q .other i (inl (omega arith)) ∙ p .other i (inr (omega arith)))
+          (λ (z : lay.needs ≤ i). here i (λ u. omega arith) (λ u. omega arith) ∙ q .other i (inr (omega arith)) ∙ p .other i (inr (omega arith)))) x;
+    }
+
+-- the needs of the tasks, one by one
+pub needs-none : (sheet w : List ℕ) (front : ℕ) → NeedsIs sheet w w front 0
+needs-none sheet w front = record { long = refl; needs = λ t h. absurd (omega arith); other = λ i h. refl }
+
+pub needs-more : (sheet w u x : List ℕ) (front t need : ℕ) → t < 256 → lay.extent ≤ length w → NeedsIs sheet w u front t → need ≡ numberAt 2 sheet (storeAt front t) → need < 65536
+    → x ≡ set u (lay.needs + t) (need % 4294967296) → NeedsIs sheet w x front (t + 1)
+needs-more sheet w u x front t need near long g es fs el =
+    let same : (i : ℕ) → (i ≡ lay.needs + t → ⊥) → getD x i 0 ≡ getD u i 0 = λ i d. ap (λ (z : List ℕ). getD z i 0) el ∙ getD-set-other u (lay.needs + t) i _ 0 d in
+    record {
+      long = ap length el ∙ length-set u (lay.needs + t) _ ∙ g .long;
+      needs =
+          λ j below.
+          ⊎-elim (λ (h : j < t). same (lay.needs + j) (λ z. omega arith) ∙ g .needs j h)
+          (λ (q : j ≡ t). rw q (ap (λ (z : List ℕ). getD z (lay.needs + t) 0) el ∙ getD-set-same u (lay.needs + t) _ 0 (omega (arith, g .long)) ∙ omega arith)) (below-suc (rw add-one at below));
+      other = λ i h. same i (λ z. ⊎-elim (λ (a : i < lay.needs). omega arith) (λ (a : lay.commands ≤ i). omega arith) h) ∙ g .other i h;
+    }
+
+-- processor k before the first command of its programme, which may be empty
+pub record Waiting (s : Sheet) (b : Bundle) (w : List ℕ) (e k : ℕ) : Type 0 where
+  pub next : nextIn w k ≡ firstIn w k
+  pub low : lay.idle ≤ firstIn w k
+  pub within : (firstIn w k + length (programmeOf b k) < lay.stamps) ⊎ ((lay.commands ≤ firstIn w k) × (firstIn w k + length (programmeOf b k) < e))
+  pub high : firstIn w k + length (programmeOf b k) < lay.extent
+  pub last : lastIn w k ≡ firstIn w k + length (programmeOf b k)
+  pub decoded : Decoded s w (firstIn w k) (programmeOf b k)
+
+-- all together: the fresh state
+module _ (sheet bundle w a r d last : List ℕ) (v : View) (m : ℕ) (long : lay.extent ≤ length w) (p : AllIs sheet bundle w a v m Nothing) (q : RestIs a r m 16) (z : WipeIs r d m (v .links))
+    (n : NeedsIs sheet d last (v .front) (v .tasks)) (s : Sheet) (b : Bundle) (given : LaidOut sheet bundle w v m s b) where
+  -- the index behind all commands
+  abbrev end : ℕ
+  end = lay.commands + whole b each + m
+
+  -- words that neither wiping nor the needs change
+  stays : (i : ℕ) → (i < lay.clocks) ⊎ ((lay.firsts ≤ i) × (i < lay.count)) ⊎ (lay.commands ≤ i) → getD last i 0 ≡ getD r i 0
+  stays i h =
+      ⊎-elim (λ (x : i < lay.clocks). n .other i (inl (omega arith)) ∙ z .other i (inl x))
+      (⊎-elim (λ (x : (lay.firsts ≤ i) × (i < lay.count)). n .other i (inl (omega arith)) ∙ z .other i (inr (inl x)))
+      (λ (x : lay.commands ≤ i). n .other i (inr x) ∙ z .other i (inr (inr (omega arith))))) h
+
+  low : (i : ℕ) → i < lay.needs → getD last i 0 ≡ getD d i 0
+  low i h = n .other i (inl h)
+
+  busy : (k : ℕ) → k < m → Waiting s b last end k
+  busy k l =
+      let few = given .few in
+      let em = given .programmes in
+      let y = q .kept k l in
+      let short = given .short in
+      let o : Opens s last end k (programmeOf b k) =
+      opens-same s a last end end k (programmeOf b k) (stays k (inl (omega arith)) ∙ y .0) (stays (lay.firsts + k) (inr (inl (omega arith, omega arith))) ∙ y .1)
+      (stays (lay.lasts + k) (inr (inl (omega arith, omega arith))) ∙ y .2) (λ i x h. stays i (inr (inr x)) ∙ q .other i (omega arith)) (omega arith) (p .opens refl s b given k l)
+      in
+      record { next = o .next; low = omega (arith, o .low); within = inr (o .low, o .high); high = omega (arith, o .high); last = o .last; decoded = o .decoded }
+
+  none-there : (k : ℕ) → m ≤ k → length (programmeOf b k) ≡ 0
+  unfolding programmeOf programmeCount
+  none-there k l = ap length (List·getD-eq-default (b .programmes) [] {n = k} (omega (arith, given .programmes)))
+
+  still : (k : ℕ) → m ≤ k → k < 16 → Waiting s b last end k
+  still k l h =
+      let y = q .idle k l h in
+      let c : length (programmeOf b k) ≡ 0 = none-there k l in
+      let f : firstIn last k ≡ lay.idle = stays (lay.firsts + k) (inr (inl (omega arith, omega arith))) ∙ y .1 in
+      let e : getD last (firstIn last k + length (programmeOf b k)) 0 ≡ 0 =
+      ap (λ (i : ℕ). getD last i 0) (omega (arith, f, c)) ∙ low lay.idle (omega arith) ∙ z .idle
+      in
+      record {
+        next = stays k (inl (omega arith)) ∙ y .0 ∙ sym f;
+        low = omega arith;
+        within = inl (omega arith);
+        high = omega arith;
+        last = stays (lay.lasts + k) (inr (inl (omega arith, omega arith))) ∙ y .2 ∙ omega arith;
+        decoded = record { known = λ i l. absurd (omega arith); word = λ i l. absurd (omega arith); end = e };
+      }
+
+  every : (k : ℕ) → k < 16 → Waiting s b last end k
+  every k l = elim (decLt k m) [ yes h ↦ busy k h | no h ↦ still k (omega arith) l ]
+
+  programmed : Programmed s b last
+  programmed =
+      record {
+        long = omega (arith, n .long, z .long, q .long, p .long);
+        few = given .few;
+        ranged = given .known .ranged;
+        programmes = low lay.count (omega arith) ∙ z .count ∙ sym (given .programmes);
+        links = low lay.links (omega arith) ∙ z .links ∙ sym (given .known .links);
+        needs = λ t h. n .needs t (omega (arith, given .known .tasks)) ∙ given .known .fields .store t h;
+        low = λ k h. every k h .low;
+        apart = λ k h. ⊎-elim (λ x. inl x) (λ x. inr (omega (arith, x .0))) (every k h .within);
+        high = λ k h. every k h .high;
+        last = λ k h. every k h .last;
+        decoded = λ k h. every k h .decoded;
+      }
+
+  pub loaded-fresh : Represents s b last (freshState s b)
+  loaded-fresh =
+      fresh-represented s b last programmed (λ k h. every k h .next) (λ k h. low (lay.clocks + k) (omega arith) ∙ z .clock k h) (λ k h. low (lay.stores + k) (omega arith) ∙ z .store k h)
+      (λ l h. let e = given .known .links in let f = given .known .ranged .few-links in low (lay.stamps + l) (omega arith) ∙ z .stamp l (omega arith)) (omega (arith, given .short))
+
+  pub loaded-within : Within b last end
+  loaded-within = record { within = λ k h. every k h .within }
+
+pub load-over : (sheet bundle w last : List ℕ) (v : View) (m k : ℕ) (f : Found) → f ≡ At k → AllIs sheet bundle w last v m f → LoadIs sheet bundle w last v m (At k)
+load-over sheet bundle w last v m k f e p = record { long = p .long; is-28 = λ s b given. rw e at (p .is-28 s b given); represents = λ q. apart q }
+  where
+    apart : {X : Type 0} → At k ≡ Nothing → X
+    apart z = let y : _≡_ {A = ℕ} 0 1 = cc in absurd (omega arith)
+
+pub load-fits : (sheet bundle w a r d last : List ℕ) (v : View) (m : ℕ) (f : Found) → lay.extent ≤ length w → f ≡ Nothing → AllIs sheet bundle w a v m f → RestIs a r m 16 → WipeIs r d m (v .links)
+    → NeedsIs sheet d last (v .front) (v .tasks) → LoadIs sheet bundle w last v m Nothing
+load-fits sheet bundle w a r d last v m f long e p q z n =
+    let p′ : AllIs sheet bundle w a v m Nothing = subst (AllIs sheet bundle w a v m) e p in
+    record {
+      long = n .long ∙ z .long ∙ q .long ∙ p .long;
+      is-28 = p′ .is-28;
+      represents = λ i s b given. (loaded-fresh sheet bundle w a r d last v m long p′ q z n s b given, loaded-within sheet bundle w a r d last v m long p′ q z n s b given);
+    }

@@ -1,0 +1,117 @@
+-- What loading promises: the programmes of a bundle, decoded from its bytes and its sheet's, their needs of the store, and the fresh state beside them.
+use Prim.Native.Nat.{ℕ, suc, _+_, _*_, _≤_, _<_}
+use mathlib.Core.Path.{_≡_}
+use mathlib.Core.Logic.{_⊎_}
+use mathlib.Core.List.{List}
+use lib.ListN.{length, getD}
+use Rattle.words.specs.Found.{foundOf}
+use Rattle.words.specs.declared.Found.{Found}
+use Rattle.words.specs.declared.Found.the-variants.{Nothing}
+use Rattle.numbers.specs.Number.{numberAt}
+use Rattle.sheet.specs.Sheet.{Sheet, taskCount, linkCount}
+use Rattle.bundle.specs.Bundle.{Command, Bundle, programmeCount, programmeOf}
+use Rattle.bundle.specs.Lies.{sizeOf, Stands, Lies, Laid}
+use Rattle.messages.specs.Counting.{weigh, whole, each, need}
+use Rattle.messages.specs.Messages.{at28}
+use Rattle.messages.specs.Fields.{storeAt, Bounded, Known}
+use Rattle.messages.specs.declared.view.View.{View}
+use Rattle.machine.specs.Machine.{freshState}
+use Rattle.stepping_machine.specs.declared.decoding.Coded.{Coded}
+use Rattle.stepping_machine.specs.Layout as lay
+use Rattle.stepping_machine.specs.Words.{nextIn, clockIn, storeIn, firstIn, lastIn, countIn, linksIn, stampedIn, needIn, wordOf}
+use Rattle.stepping_machine.specs.Represents.{Decoded, Represents, Within}
+
+-- some commands lie from the offset o to the offset e, and the numbers that they name inside the sheet: what decoding asks, so that it tests nothing
+pub record Decodable (sheet bundle : List ℕ) (v : View) (o e : ℕ) : Type 0 where
+  pub bounded : Bounded v
+  pub inside : v .middle + 7 * v .links ≤ length sheet
+  pub commands : List Command
+  pub lies : Lies (v .tasks) (v .links) bundle o e commands
+
+-- some programmes lie as the words w say
+pub record Ready (sheet bundle w : List ℕ) (v : View) (m : ℕ) : Type 0 where
+  pub bounded : Bounded v
+  pub inside : v .middle + 7 * v .links ≤ length sheet
+  pub programmes : List (List Command)
+  pub count : length programmes ≡ m
+  pub few : m ≤ 16
+  pub laid : Laid (v .tasks) (v .links) bundle w programmes
+  pub long : lay.extent ≤ length w
+
+-- the command at the offset o: its word, its bytes, and what it needs of the store
+pub record CodeIs (sheet bundle : List ℕ) (v : View) (o : ℕ) (x : Coded) : Type 0 where
+  pub some : 2 ≤ x .size
+  pub few : x .size ≤ 3
+  pub small : x .need < 65536
+  pub sized : (t l : ℕ) (c : Command) → Stands t l bundle o c → x .size ≡ sizeOf c
+  pub is : (s : Sheet) (c : Command) → Known s sheet v → Stands (taskCount s) (linkCount s) bundle o c → (x .word ≡ wordOf s c) × (x .need ≡ need s c)
+
+-- the programme from the offset o to the offset e in the words from the index a on, a 0 at the index r behind it, and what it needs; the others stay
+pub record ProgrammeIs (sheet bundle w last : List ℕ) (v : View) (o e a r n : ℕ) : Type 0 where
+  pub long : length last ≡ length w
+  pub ahead : a ≤ r
+  pub far : r ≤ a + e + 2
+  pub low : (i : ℕ) → i < a → getD last i 0 ≡ getD w i 0
+  pub is : (s : Sheet) (cs : List Command) → Known s sheet v → Lies (taskCount s) (linkCount s) bundle o e cs → a + length cs < length w
+      → (r ≡ a + length cs) × Decoded s last a cs × (n ≡ weigh (need s) cs)
+
+-- processor k stands before the first of the commands cs, whose indices and the end's are below c
+pub record Opens (s : Sheet) (w : List ℕ) (c k : ℕ) (cs : List Command) : Type 0 where
+  pub next : nextIn w k ≡ firstIn w k
+  pub low : lay.commands ≤ firstIn w k
+  pub high : firstIn w k + length cs < c
+  pub last : lastIn w k ≡ firstIn w k + length cs
+  pub decoded : Decoded s w (firstIn w k) cs
+
+-- processor k, whose programme lies as the words say, opened from the index c on; the index r behind it, and what it needs
+pub record OneIs (sheet bundle w last : List ℕ) (v : View) (k c r n : ℕ) : Type 0 where
+  pub long : length last ≡ length w
+  pub ahead : c ≤ r
+  pub few : r ≤ c + 4294967300
+  pub low : (i : ℕ) → i < c → (i ≡ k → ⊥) → (i ≡ lay.firsts + k → ⊥) → (i ≡ lay.lasts + k → ⊥) → getD last i 0 ≡ getD w i 0
+  pub is : (s : Sheet) (cs : List Command) → Known s sheet v → Lies (taskCount s) (linkCount s) bundle (getD w k 0 + 2) (getD w (suc k) 0) cs → c + length cs + 1 < lay.extent
+      → (r ≡ c + length cs + 1) × Opens s last r k cs × (n ≡ weigh (need s) cs)
+
+-- the sheet s and the bundle b of m programmes are those of the bytes and of the offsets in w
+pub record LaidOut (sheet bundle w : List ℕ) (v : View) (m : ℕ) (s : Sheet) (b : Bundle) : Type 0 where
+  pub known : Known s sheet v
+  pub programmes : programmeCount b ≡ m
+  pub few : programmeCount b ≤ 16
+  pub short : whole b each ≤ 2304
+  pub laid : Laid (taskCount s) (linkCount s) bundle w (b .programmes)
+
+-- all programmes opened, or 28
+pub record AllIs (sheet bundle w last : List ℕ) (v : View) (m : ℕ) (r : Found) : Type 0 where
+  pub long : length last ≡ length w
+  pub is-28 : (s : Sheet) (b : Bundle) → LaidOut sheet bundle w v m s b → foundOf r ≡ at28 s b
+  pub opens : r ≡ Nothing → (s : Sheet) (b : Bundle) → LaidOut sheet bundle w v m s b → (k : ℕ) → k < m → Opens s last (lay.commands + whole b each + m) k (programmeOf b k)
+
+-- every processor from m up to e has no command; the others stay
+pub record RestIs (w last : List ℕ) (m e : ℕ) : Type 0 where
+  pub long : length last ≡ length w
+  pub idle : (k : ℕ) → m ≤ k → k < e → (nextIn last k ≡ lay.idle) × (firstIn last k ≡ lay.idle) × (lastIn last k ≡ lay.idle)
+  pub kept : (k : ℕ) → k < m → (nextIn last k ≡ nextIn w k) × (firstIn last k ≡ firstIn w k) × (lastIn last k ≡ lastIn w k)
+  pub other : (i : ℕ) → lay.count ≤ i → getD last i 0 ≡ getD w i 0
+
+-- clocks, stores and l stamps are 0, and m programmes and l links are counted; the others stay
+pub record WipeIs (w last : List ℕ) (m l : ℕ) : Type 0 where
+  pub long : length last ≡ length w
+  pub count : countIn last ≡ m
+  pub links : linksIn last ≡ l
+  pub clock : (k : ℕ) → k < 16 → clockIn last k ≡ 0
+  pub store : (k : ℕ) → k < 16 → storeIn last k ≡ 0
+  pub idle : getD last lay.idle 0 ≡ 0
+  pub stamp : (i : ℕ) → i < l → stampedIn last i ≡ 0
+  pub other : (i : ℕ) → (i < lay.clocks) ⊎ ((lay.firsts ≤ i) × (i < lay.count)) ⊎ (lay.needs ≤ i) → getD last i 0 ≡ getD w i 0
+
+-- what each of n tasks needs of the store, as the sheet's bytes have it; the others stay
+pub record NeedsIs (sheet w last : List ℕ) (front n : ℕ) : Type 0 where
+  pub long : length last ≡ length w
+  pub needs : (t : ℕ) → t < n → needIn last t ≡ numberAt 2 sheet (storeAt front t)
+  pub other : (i : ℕ) → (i < lay.needs) ⊎ (lay.commands ≤ i) → getD last i 0 ≡ getD w i 0
+
+-- m programmes whose offsets stand in the words: 28, or the fresh state
+pub record LoadIs (sheet bundle w last : List ℕ) (v : View) (m : ℕ) (r : Found) : Type 0 where
+  pub long : length last ≡ length w
+  pub is-28 : (s : Sheet) (b : Bundle) → LaidOut sheet bundle w v m s b → foundOf r ≡ at28 s b
+  pub represents : r ≡ Nothing → (s : Sheet) (b : Bundle) → LaidOut sheet bundle w v m s b → Represents s b last (freshState s b) × Within b last (lay.commands + whole b each + m)

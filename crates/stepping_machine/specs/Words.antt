@@ -1,0 +1,96 @@
+-- What the machine's words say of a processor and of a command, and what a step makes of them.
+use Prim.Native.Nat.{ℕ, _+_, _*_, _/_, _%_, _-_, max}
+use mathlib.Core.Path.{_≡_}
+use mathlib.Core.List.{List}
+use lib.ListN.{getD, set}
+use Rattle.sheet.specs.Sheet.{Sheet, workOf, costOf, bytesOf}
+use Rattle.bundle.specs.Bundle.{Command, run, send, receive}
+use Rattle.stepping_machine.specs.Layout as lay
+
+-- all words are 0
+abbrev pub Blank : List ℕ → Type 0
+Blank w = (i : ℕ) → getD w i 0 ≡ 0
+
+-- processor k in the words w
+abbrev pub nextIn : List ℕ → ℕ → ℕ
+nextIn w k = getD w k 0
+
+abbrev pub clockIn : List ℕ → ℕ → ℕ
+clockIn w k = getD w (lay.clocks + k) 0
+
+abbrev pub storeIn : List ℕ → ℕ → ℕ
+storeIn w k = getD w (lay.stores + k) 0
+
+abbrev pub firstIn : List ℕ → ℕ → ℕ
+firstIn w k = getD w (lay.firsts + k) 0
+
+abbrev pub lastIn : List ℕ → ℕ → ℕ
+lastIn w k = getD w (lay.lasts + k) 0
+
+-- how many programmes and links there are, what stands for link l, and what task t needs
+abbrev pub countIn : List ℕ → ℕ
+countIn w = getD w lay.count 0
+
+abbrev pub linksIn : List ℕ → ℕ
+linksIn w = getD w lay.links 0
+
+abbrev pub stampedIn : List ℕ → ℕ → ℕ
+stampedIn w l = getD w (lay.stamps + l) 0
+
+abbrev pub needIn : List ℕ → ℕ → ℕ
+needIn w t = getD w (lay.needs + t) 0
+
+-- the fields of a command's word
+abbrev pub codeOf : ℕ → ℕ → ℕ → ℕ
+codeOf kind number amount = lay.kinds * kind + lay.numbers * number + amount
+
+abbrev pub kindIn : ℕ → ℕ
+kindIn x = x / lay.kinds
+
+abbrev pub numberIn : ℕ → ℕ
+numberIn x = x / lay.numbers % lay.span
+
+abbrev pub amountIn : ℕ → ℕ
+amountIn x = x % lay.numbers
+
+-- the same of a command
+abbrev pub kindOf : Command → ℕ
+kindOf (run t) = 1
+kindOf (send l) = 2
+kindOf (receive l) = 3
+
+abbrev pub numberOf : Command → ℕ
+numberOf (run t) = lay.tasks + t
+numberOf (send l) = l
+numberOf (receive l) = l
+
+abbrev pub amountOf : Sheet → Command → ℕ
+amountOf s (run t) = workOf s t
+amountOf s (send l) = costOf s l
+amountOf s (receive l) = bytesOf s l
+
+unfoldable pub wordOf : Sheet → Command → ℕ
+wordOf s c = codeOf (kindOf c) (numberOf c) (amountOf s c)
+
+-- processor k at a command, a clock and a store
+unfoldable pub placedWords : List ℕ → ℕ → ℕ → ℕ → ℕ → List ℕ
+placedWords w k c clock store = set (set (set w (lay.clocks + k) (clock % 4294967296)) (lay.stores + k) (store % 4294967296)) k (c % 4294967296)
+
+-- processor k behind its next command, which waits for a time, takes a time and needs a store
+unfoldable pub steppedWords : List ℕ → ℕ → ℕ → ℕ → ℕ → List ℕ
+steppedWords w k wait work need = placedWords w k (nextIn w k + 1) (max (clockIn w k) wait + work) (storeIn w k + need)
+
+-- the same of a run, a send and a receive, by the index i of its need's or its stamp's word
+module _ (w : List ℕ) (k amount : ℕ) where
+  unfoldable pub ranWords : ℕ → List ℕ
+  ranWords i = steppedWords w k 0 amount (getD w i 0)
+
+  unfoldable pub sentWords : ℕ → List ℕ
+  sentWords i = set (steppedWords w k 0 0 0) i ((clockIn w k + amount + 1) % 4294967296)
+
+  unfoldable pub gotWords : ℕ → List ℕ
+  gotWords i = steppedWords w k (getD w i 0 - 1) 0 amount
+
+-- processor k before the first command of a programme between two indices
+unfoldable pub openedWords : List ℕ → ℕ → ℕ → ℕ → List ℕ
+openedWords w k first last = set (set (set w k first) (lay.firsts + k) first) (lay.lasts + k) last

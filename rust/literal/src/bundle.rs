@@ -1,0 +1,165 @@
+//! The bundle: "`50` (u8) opens a processor's programme, numbered 0, 1, 2 and so on with no gap,
+//! below the sheet's processors. A programme may be empty. In it stand `52` run (task u8), `53`
+//! send (link u16), `56` receive (link u16). `5A` (claimed time u32) ends the bundle."
+
+use crate::commands::{count, Command, Format, Text};
+use crate::placing::Placed;
+use crate::refusal::Refusal;
+use crate::sheet::Sheet;
+
+const OPEN: u8 = 0x50;
+const RUN: u8 = 0x52;
+const SEND: u8 = 0x53;
+const RECEIVE: u8 = 0x56;
+const CLAIM: u8 = 0x5A;
+
+/// "per command 22, 23 (no programme open), 21, 23 (number), 25; then 24".
+static BUNDLE: Format<Sheet> = Format {
+    kinds: &[(OPEN, &[1]), (RUN, &[1]), (SEND, &[2]), (RECEIVE, &[2]), (CLAIM, &[4])],
+    end: CLAIM,
+    rules: &[
+        (22, strange),
+        (23, no_programme_open),
+        (21, cut),
+        (23, wrong_number),
+        (25, unknown_number),
+    ],
+    cut: 21,
+    tail: 24,
+};
+
+/// 22, strange command: "not a command byte of a bundle".
+fn strange(_: &Sheet, _: &[Command], command: &Command) -> bool {
+    BUNDLE.widths(command.byte).is_none()
+}
+
+/// 23, out of turn: "before the first `50`".
+fn no_programme_open(_: &Sheet, before: &[Command], command: &Command) -> bool {
+    !command.is(OPEN) && count(before, OPEN) == 0
+}
+
+/// 21, cut bundle: "as 1".
+fn cut(_: &Sheet, _: &[Command], command: &Command) -> bool {
+    command.operands.is_none()
+}
+
+/// 23, out of turn: "wrong number in `50`".
+fn wrong_number(sheet: &Sheet, before: &[Command], command: &Command) -> bool {
+    command.is(OPEN) && {
+        let number = command.operand(0) as usize;
+        number != count(before, OPEN) || number >= sheet.processors
+    }
+}
+
+/// 25, unknown number: "undeclared task or link".
+fn unknown_number(sheet: &Sheet, _: &[Command], command: &Command) -> bool {
+    let declared = match command.byte as u8 {
+        RUN => sheet.tasks.len(),
+        SEND | RECEIVE => sheet.links.len(),
+        _ => return false,
+    };
+    command.operand(0) as usize >= declared
+}
+
+/// A command that stands in a programme.
+#[derive(Clone, Copy, Debug, PartialEq, Eq)]
+pub enum Action {
+    /// Runs a task.
+    Run(usize),
+    /// Sends a link's message.
+    Send(usize),
+    /// Receives a link's message.
+    Receive(usize),
+}
+
+/// A bundle of the published form.
+#[derive(Clone, Debug, PartialEq, Eq)]
+pub struct Bundle {
+    pub programmes: Vec<Vec<Action>>,
+    /// "claimed time".
+    pub claim: u64,
+}
+
+impl Bundle {
+    /// Reads a bundle for a sheet.
+    pub fn read(sheet: &Sheet, bytes: &[u8]) -> Result<Bundle, Refusal> {
+        let text = BUNDLE.split(bytes);
+        let (commands, claim) = BUNDLE.judge(sheet, &text)?;
+        let mut programmes: Vec<Vec<Action>> = Vec::new();
+        for command in commands {
+            match (action(command), programmes.last_mut()) {
+                (Some(action), Some(programme)) => programme.push(action),
+                _ => programmes.push(Vec::new()),
+            }
+        }
+        Ok(Bundle { programmes, claim: claim.operand(0).into() })
+    }
+
+    /// The values of a bundle's bytes: docs/INTERFACE.md: "two values a command, its byte and its
+    /// operand, each `50` with the number of its programme among them", and the claim.
+    pub fn values(sheet: &Sheet, bytes: &[u8]) -> Result<(Vec<u16>, u32), Refusal> {
+        let text = BUNDLE.split(bytes);
+        let (commands, claim) = BUNDLE.judge(sheet, &text)?;
+        let pairs = commands.iter().flat_map(|command| [command.byte, command.operand(0) as u16]);
+        Ok((pairs.collect(), claim.operand(0)))
+    }
+
+    /// The bytes of such values: "A writer refuses values as the reader would refuse their bytes".
+    pub fn write(sheet: &Sheet, commands: &[u16], claim: u32) -> Result<Vec<u8>, Refusal> {
+        let mut text = Text::default();
+        for pair in commands.chunks(2) {
+            let operand: Vec<u32> = pair[1..].iter().map(|&value| value.into()).collect();
+            BUNDLE.push(&mut text, pair[0], &operand);
+        }
+        BUNDLE.push(&mut text, CLAIM.into(), &[claim]);
+        BUNDLE.judge(sheet, &text)?;
+        Ok(BUNDLE.bytes(&text))
+    }
+
+    /// The bytes of a plan. "Programmes list tasks in placing order." "Each programme is written
+    /// directly behind the one before it. The claim is the latest finish."
+    pub fn of_plan(sheet: &Sheet, placed: &[Placed]) -> Vec<u8> {
+        let mut text = Text::default();
+        let highest = placed.iter().map(|placed| placed.processor).max();
+        for k in 0..highest.map_or(0, |k| k + 1) {
+            BUNDLE.push(&mut text, OPEN.into(), &[k as u32]);
+            for one in placed.iter().filter(|placed| placed.processor == k) {
+                push_task(&mut text, sheet, placed, one);
+            }
+        }
+        BUNDLE.push(&mut text, CLAIM.into(), &[latest_finish(placed) as u32]);
+        BUNDLE.bytes(&text)
+    }
+}
+
+/// "For each task: receives of its links from other processors in rising link number, run, sends of
+/// its links to other processors likewise."
+fn push_task(text: &mut Text, sheet: &Sheet, placed: &[Placed], one: &Placed) {
+    let elsewhere = |task| {
+        let there = placed.iter().find(|placed| placed.task == task);
+        there.is_some_and(|there| there.processor != one.processor)
+    };
+    for (link, _) in sheet.links_into(one.task).filter(|(_, link)| elsewhere(link.from)) {
+        BUNDLE.push(text, RECEIVE.into(), &[link as u32]);
+    }
+    BUNDLE.push(text, RUN.into(), &[one.task as u32]);
+    for (link, _) in sheet.links_out_of(one.task).filter(|(_, link)| elsewhere(link.to)) {
+        BUNDLE.push(text, SEND.into(), &[link as u32]);
+    }
+}
+
+/// "the latest finish".
+pub fn latest_finish(placed: &[Placed]) -> u64 {
+    placed.iter().map(|placed| placed.finish).max().unwrap_or(0)
+}
+
+/// What a command does in its programme, if it does not open one.
+fn action(command: &Command) -> Option<Action> {
+    let number = command.operand(0) as usize;
+    match command.byte as u8 {
+        RUN => Some(Action::Run(number)),
+        SEND => Some(Action::Send(number)),
+        RECEIVE => Some(Action::Receive(number)),
+        _ => None,
+    }
+}

@@ -1,0 +1,115 @@
+//! The checker behind the form: "26 to 30".
+
+use crate::bundle::{Action, Bundle};
+use crate::machine::Machine;
+use crate::refusal::Refusal;
+use crate::sheet::Sheet;
+
+/// A rule of the checker: the refusal of a bundle that breaks it.
+type Rule = fn(&Sheet, &Bundle) -> Option<Refusal>;
+
+/// "A bundle has [..] the published messages if 26 and 27 don't" apply; the public machine starts if
+/// none of "21 to 28" does.
+const STANDING: [Rule; 3] = [run_count, message, over_store];
+
+/// What only shows when it runs.
+const RUNNING: [Rule; 2] = [stuck, wrong_claim];
+
+/// Whether a bundle is accepted.
+pub fn check(sheet: &Sheet, bundle: &Bundle) -> Result<(), Refusal> {
+    startable(sheet, bundle)?;
+    none_broken(&RUNNING, sheet, bundle)
+}
+
+/// Whether the public machine starts.
+pub fn startable(sheet: &Sheet, bundle: &Bundle) -> Result<(), Refusal> {
+    none_broken(&STANDING, sheet, bundle)
+}
+
+/// The refusal of the first of these rules that is broken.
+fn none_broken(rules: &[Rule], sheet: &Sheet, bundle: &Bundle) -> Result<(), Refusal> {
+    rules.iter().find_map(|rule| rule(sheet, bundle)).map_or(Ok(()), Err)
+}
+
+/// Where a command stands: its programme, and its position in it.
+type Stand = (usize, usize);
+
+/// Wherever this command stands in the whole bundle.
+fn stands(bundle: &Bundle, action: Action) -> Vec<Stand> {
+    let mut stands = Vec::new();
+    for (k, programme) in bundle.programmes.iter().enumerate() {
+        for (position, &other) in programme.iter().enumerate() {
+            if other == action {
+                stands.push((k, position));
+            }
+        }
+    }
+    stands
+}
+
+/// 26, run count: "task not run just once", "lowest task".
+fn run_count(sheet: &Sheet, bundle: &Bundle) -> Option<Refusal> {
+    let once = |task| stands(bundle, Action::Run(task)).len() == 1;
+    (0..sheet.tasks.len()).find(|&task| !once(task)).map(|task| Refusal::new(26, task))
+}
+
+/// 27, message, "lowest link".
+fn message(sheet: &Sheet, bundle: &Bundle) -> Option<Refusal> {
+    let wrong = |&link: &usize| message_wrong(sheet, bundle, link);
+    (0..sheet.links.len()).find(wrong).map(|link| Refusal::new(27, link))
+}
+
+/// "27 is given when a link between processors has not exactly one send and one receive in the
+/// whole bundle, or its send isn't after its source's run in that run's programme, or its receive
+/// isn't before its target's run in that run's programme; or when a link inside one processor has
+/// any message, or its source runs after its target."
+fn message_wrong(sheet: &Sheet, bundle: &Bundle, link: usize) -> bool {
+    let run_of = |task| stands(bundle, Action::Run(task))[0];
+    let (source, target) = (run_of(sheet.links[link].from), run_of(sheet.links[link].to));
+    let sends = stands(bundle, Action::Send(link));
+    let receives = stands(bundle, Action::Receive(link));
+    if source.0 == target.0 {
+        return !sends.is_empty() || !receives.is_empty() || source.1 > target.1;
+    }
+    sends.len() != 1
+        || receives.len() != 1
+        || !before(source, sends[0])
+        || !before(receives[0], target)
+}
+
+/// Whether one command stands before another in the same programme.
+fn before(one: Stand, other: Stand) -> bool {
+    one.0 == other.0 && one.1 < other.1
+}
+
+/// 28, over store: "stores of a programme's tasks plus bytes of its receives above M", "lowest
+/// processor".
+fn over_store(sheet: &Sheet, bundle: &Bundle) -> Option<Refusal> {
+    let store = |action: &Action| match *action {
+        Action::Run(task) => sheet.tasks[task].store,
+        Action::Receive(link) => sheet.links[link].bytes,
+        Action::Send(_) => 0,
+    };
+    let above = |programme: &Vec<Action>| programme.iter().map(store).sum::<u64>() > sheet.limit;
+    bundle.programmes.iter().position(above).map(|k| Refusal::new(28, k))
+}
+
+/// 29, stuck: "no one can step, commands left", "lowest unfinished processor".
+fn stuck(sheet: &Sheet, bundle: &Bundle) -> Option<Refusal> {
+    let machine = run_out(sheet, bundle);
+    let unfinished = |&k: &usize| machine.next(k).is_some();
+    (0..bundle.programmes.len()).find(unfinished).map(|k| Refusal::new(29, k))
+}
+
+/// 30, wrong claim: "claim is not the latest clock", "that clock".
+fn wrong_claim(sheet: &Sheet, bundle: &Bundle) -> Option<Refusal> {
+    let clock = run_out(sheet, bundle).latest_clock();
+    (clock != bundle.claim).then_some(Refusal { number: 30, place: clock })
+}
+
+/// The machine when no one can step; "Any processor able to step may be next", here the lowest.
+fn run_out<'a>(sheet: &'a Sheet, bundle: &'a Bundle) -> Machine<'a> {
+    let mut machine = Machine::fresh(sheet, bundle);
+    while (0..bundle.programmes.len()).any(|k| machine.step(k as u64)) {}
+    machine
+}

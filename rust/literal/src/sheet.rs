@@ -1,0 +1,199 @@
+//! The sheet: "in this order: one `4D` (processors u8, 1 to 16; store limit M u32); then tasks `54`
+//! (work u16, 1 to 65,535; store u16), numbered from 0, at most 256; then links `45` (from u8, to
+//! u8, cost u16, bytes u16), numbered from 0, at most 1,024; then `51`, the end."
+
+use crate::commands::{count, Command, Format, Text};
+use crate::refusal::Refusal;
+
+const BOARD: u8 = 0x4D;
+const TASK: u8 = 0x54;
+const LINK: u8 = 0x45;
+const END: u8 = 0x51;
+
+/// "the sheet from its first byte, in one command 2, 3, 1, 5, 6, 7, 8; then 4".
+static SHEET: Format<()> = Format {
+    kinds: &[(BOARD, &[1, 4]), (TASK, &[2, 2]), (LINK, &[1, 1, 2, 2]), (END, &[])],
+    end: END,
+    rules: &[
+        (2, strange),
+        (3, out_of_turn),
+        (1, cut),
+        (5, over_full),
+        (6, out_of_range),
+        (7, loose_link),
+        (8, doubled_link),
+    ],
+    cut: 1,
+    tail: 4,
+};
+
+/// 2, strange command: "not a command byte of a sheet".
+fn strange(_: &(), _: &[Command], command: &Command) -> bool {
+    SHEET.widths(command.byte).is_none()
+}
+
+/// 3, out of turn: "order of kinds broken".
+fn out_of_turn(_: &(), before: &[Command], command: &Command) -> bool {
+    let ranks = [BOARD, TASK, LINK, END];
+    let rank = |command: &Command| ranks.iter().position(|&kind| command.is(kind));
+    match before.last() {
+        None => !command.is(BOARD),
+        Some(last) => command.is(BOARD) || rank(command) < rank(last),
+    }
+}
+
+/// 1, cut sheet: "operands [..] missing".
+fn cut(_: &(), _: &[Command], command: &Command) -> bool {
+    command.operands.is_none()
+}
+
+/// 5, over-full: "257th task, 1,025th link".
+fn over_full(_: &(), before: &[Command], command: &Command) -> bool {
+    command.is(TASK) && count(before, TASK) == 256
+        || command.is(LINK) && count(before, LINK) == 1024
+}
+
+/// 6, range: "processors or work".
+fn out_of_range(_: &(), _: &[Command], command: &Command) -> bool {
+    command.is(BOARD) && !(1..=16).contains(&command.operand(0))
+        || command.is(TASK) && !(1..=65_535).contains(&command.operand(0))
+}
+
+/// 7, loose link: "undeclared task".
+fn loose_link(_: &(), before: &[Command], command: &Command) -> bool {
+    let undeclared = |end| command.operand(end) as usize >= count(before, TASK);
+    command.is(LINK) && (undeclared(0) || undeclared(1))
+}
+
+/// 8, doubled link: "same from and to again".
+fn doubled_link(_: &(), before: &[Command], command: &Command) -> bool {
+    let ends = |link: &Command| [link.operand(0), link.operand(1)];
+    command.is(LINK) && before.iter().any(|link| link.is(LINK) && ends(link) == ends(command))
+}
+
+/// A task: "work u16, 1 to 65,535; store u16".
+#[derive(Clone, Copy, Debug, PartialEq, Eq)]
+pub struct Task {
+    pub work: u64,
+    pub store: u64,
+}
+
+/// A link: "from u8, to u8, cost u16, bytes u16".
+#[derive(Clone, Copy, Debug, PartialEq, Eq)]
+pub struct Link {
+    pub from: usize,
+    pub to: usize,
+    pub cost: u64,
+    pub bytes: u64,
+}
+
+/// A sheet without fault.
+#[derive(Clone, Debug, PartialEq, Eq)]
+pub struct Sheet {
+    pub processors: usize,
+    /// "store limit M".
+    pub limit: u64,
+    pub tasks: Vec<Task>,
+    pub links: Vec<Link>,
+}
+
+impl Sheet {
+    /// Reads a sheet.
+    pub fn read(bytes: &[u8]) -> Result<Sheet, Refusal> {
+        judged(&SHEET.split(bytes))
+    }
+
+    /// The bytes of these values: "A writer refuses values as the reader would refuse their bytes".
+    pub fn write(
+        processors: u8,
+        limit: u32,
+        tasks: &[u16],
+        links: &[u16],
+    ) -> Result<Vec<u8>, Refusal> {
+        let text = text_of(processors, limit, tasks, links);
+        judged(&text)?;
+        Ok(SHEET.bytes(&text))
+    }
+
+    /// Whether one task is a successor of the other.
+    pub fn linked(&self, from: usize, to: usize) -> bool {
+        self.links.iter().any(|link| (link.from, link.to) == (from, to))
+    }
+
+    /// The links into a task, with their numbers.
+    pub fn links_into(&self, task: usize) -> impl Iterator<Item = (usize, &Link)> {
+        self.links.iter().enumerate().filter(move |(_, link)| link.to == task)
+    }
+
+    /// The links out of a task, with their numbers.
+    pub fn links_out_of(&self, task: usize) -> impl Iterator<Item = (usize, &Link)> {
+        self.links.iter().enumerate().filter(move |(_, link)| link.from == task)
+    }
+}
+
+/// The text of a sheet's values: two for a task, four for a link; docs/INTERFACE.md: "A list of
+/// values that stops inside a record stands for a command that is cut there".
+fn text_of(processors: u8, limit: u32, tasks: &[u16], links: &[u16]) -> Text {
+    let mut text = Text::default();
+    SHEET.push(&mut text, BOARD.into(), &[processors.into(), limit]);
+    for (kind, values, width) in [(TASK, tasks, 2), (LINK, links, 4)] {
+        for record in values.chunks(width) {
+            let operands: Vec<u32> = record.iter().map(|&value| value.into()).collect();
+            SHEET.push(&mut text, kind.into(), &operands);
+        }
+    }
+    SHEET.push(&mut text, END.into(), &[]);
+    text
+}
+
+/// The sheet of a text: per command, "then 4, 9, 10".
+fn judged(text: &Text) -> Result<Sheet, Refusal> {
+    let (commands, end) = SHEET.judge(&(), text)?;
+    let sheet = declared(commands);
+    if sheet.tasks.is_empty() {
+        // 9, bare sheet: "no task", "offset of `51`".
+        return Err(Refusal::new(9, end.offset));
+    }
+    // 10, loop: "tasks in a circle", "lowest task on one".
+    match (0..sheet.tasks.len()).find(|&task| on_a_circle(&sheet, task)) {
+        Some(task) => Err(Refusal::new(10, task)),
+        None => Ok(sheet),
+    }
+}
+
+/// What the commands before the end declare.
+fn declared(commands: &[Command]) -> Sheet {
+    let mut sheet = Sheet { processors: 0, limit: 0, tasks: Vec::new(), links: Vec::new() };
+    for command in commands {
+        let number = |operand| u64::from(command.operand(operand));
+        match command.byte as u8 {
+            BOARD => (sheet.processors, sheet.limit) = (number(0) as usize, number(1)),
+            TASK => sheet.tasks.push(Task { work: number(0), store: number(1) }),
+            _ => sheet.links.push(Link {
+                from: number(0) as usize,
+                to: number(1) as usize,
+                cost: number(2),
+                bytes: number(3),
+            }),
+        }
+    }
+    sheet
+}
+
+/// Whether links lead from a task back to it.
+fn on_a_circle(sheet: &Sheet, task: usize) -> bool {
+    let mut reached = vec![task];
+    let mut next = 0;
+    while let Some(&from) = reached.get(next) {
+        for (_, link) in sheet.links_out_of(from) {
+            if link.to == task {
+                return true;
+            }
+            if !reached.contains(&link.to) {
+                reached.push(link.to);
+            }
+        }
+        next += 1;
+    }
+    false
+}

@@ -1,0 +1,85 @@
+//! The trial sheets of document 01 on the literal rules.
+
+use literal::interface::{check, levels, listing, placed, plan, read_bundle, read_sheet};
+use literal::interface::{start, write_bundle, write_sheet};
+use literal::placing::place;
+use literal::sheet::Sheet;
+use literal::Refusal;
+use std::fs;
+
+/// An example file.
+fn example(name: &str) -> Vec<u8> {
+    fs::read(format!("{}/../../examples/{name}", env!("CARGO_MANIFEST_DIR"))).unwrap()
+}
+
+fn refused<T>(number: u8, place: usize) -> Result<T, Refusal> {
+    Err(Refusal::new(number, place))
+}
+
+/// A plan's rows: task, processor, start.
+fn rows(sheet: &[u8]) -> Vec<(usize, usize, u64)> {
+    placed(sheet).unwrap().iter().map(|row| (row.task, row.processor, row.start)).collect()
+}
+
+#[test]
+fn k1_whole() {
+    let (sheet, bundle) = (example("k1.sheet"), example("k1.bundle"));
+    assert_eq!(plan(&sheet), Ok(bundle.clone()));
+    assert_eq!(listing(&sheet), b"PLAN 2 5\n0 1 0 1\n1 0 2 5\n2 1 3 5\n3 0 0 2\n");
+    assert_eq!(levels(&sheet), Ok(vec![5, 3, 2, 7]));
+    assert_eq!(check(&sheet, &bundle), Ok(()));
+    let tables = read_sheet(&sheet).unwrap();
+    assert_eq!(tables.board, [3, 100, 4, 3]);
+    assert_eq!(write_sheet(3, 100, &tables.tasks, &tables.links), Ok(sheet.clone()));
+    let (commands, claim) = read_bundle(&sheet, &bundle).unwrap();
+    assert_eq!(write_bundle(&sheet, &commands, claim), Ok(bundle.clone()));
+    start(&sheet, &bundle, |machine| {
+        let machine = machine.unwrap();
+        assert_eq!((machine.left(), machine.step(2), machine.step(u64::MAX)), (8, false, false));
+        assert!([1, 1, 0, 0, 0, 0, 1, 1].into_iter().all(|choice| machine.step(choice)));
+        assert_eq!((machine.left(), machine.latest_clock()), (0, 5));
+    });
+}
+
+#[test]
+fn k2_to_k4() {
+    assert_eq!(rows(&example("k2.sheet")), [(3, 0, 0), (0, 0, 2), (1, 0, 3), (2, 0, 6)]);
+    let k3 = example("k3.sheet");
+    assert!(rows(&k3).contains(&(2, 1, 3)) && rows(&k3).contains(&(0, 2, 0)));
+    assert!(placed(&k3).unwrap().iter().any(|row| row.guarded));
+    let claim = |guard| {
+        let placed = place(&Sheet::read(&k3).unwrap(), guard).unwrap();
+        placed.iter().map(|row| row.finish).max()
+    };
+    assert_eq!([claim(true), claim(false)], [Some(6), Some(7)]);
+    assert_eq!(plan(&example("k4-24.sheet")), Ok(example("k1.bundle")));
+    let k4 = rows(&example("k4-23.sheet"));
+    assert!(k4.contains(&(1, 2, 4)) && k4.contains(&(2, 0, 2)));
+    assert_eq!(plan(&example("k4-23.sheet")), Ok(example("k4-23.bundle")));
+}
+
+#[test]
+fn k5_to_k8() {
+    let k5 = example("k5.sheet");
+    assert_eq!(plan(&k5), refused(11, 4));
+    assert_eq!(listing(&k5), b"REFUSED 11 4\n");
+    assert_eq!(check(&k5, &example("k5.bundle")), Ok(()));
+    assert_eq!(check(&example("k6.sheet"), &example("k6.bundle")), refused(29, 0));
+    assert_eq!(check(&example("k1.sheet"), &example("k7.bundle")), refused(30, 5));
+    assert_eq!(read_sheet(&example("k8-self.sheet")), refused(10, 0));
+    assert_eq!(read_sheet(&example("k8-circle.sheet")), refused(10, 1));
+}
+
+#[test]
+fn k9_and_k10() {
+    let mut sheet = example("k1.sheet");
+    assert_eq!(read_sheet(&sheet[..47]), refused(1, 47));
+    sheet.push(0);
+    assert_eq!(read_sheet(&sheet), refused(4, 48));
+    sheet.pop();
+    for (processors, passes) in [(0, false), (1, true), (16, true), (17, false)] {
+        sheet[1] = processors;
+        assert_eq!(read_sheet(&sheet).map(|_| ()), if passes { Ok(()) } else { refused(6, 0) });
+    }
+    assert_eq!(read_sheet(&[]), refused(1, 0));
+}
