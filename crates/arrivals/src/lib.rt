@@ -16,7 +16,7 @@ ghost use Rattle.chains.specs.Chains.{Chained};
 ghost use Rattle.chains.specs.declared.End.the-variants.{Target};
 ghost use Rattle.arrivals.specs.Layout.{seenFrom, endsFrom, waitingFrom, turnBytesFrom, packedFrom, keptLength};
 ghost use Rattle.arrivals.specs.Kept.{Single, Gathered, Counted, SurveyedTo, Surveyed, Ends, Kept};
-ghost use Rattle.arrivals.specs.Lanes.{Lanes, Steps, startPast, Started, Early};
+ghost use Rattle.arrivals.specs.Lanes.{lane, Lanes, Steps, startPast, Started, Early};
 ghost use Rattle.arrivals.specs.Reach.{further};
 ghost use Rattle.arrivals.specs.Steps.{countWords, upTo, Beside, Placeable, Landed, Released, Enough, GatheredTo};
 use chains::End;
@@ -168,6 +168,14 @@ fn survey_link(w: &[u32], kept: &mut [u32], t: usize, l: usize)
 // The start of a task on each of the sixteen processors.
 pub struct Starts {
     pub at: [u32; 16],
+}
+
+// The start on k.
+pub fn start_of(starts: Starts, k: usize) -> usize
+    requires { ⌜ k < 16 ⌝ }
+    ensures { λ r. ⌜ (r ≡ lane starts k) × (r < 4294967296) ⌝ }
+{
+    workspace::wide(starts.at[k])
 }
 
 // The later of two times; without a branch.
