@@ -23,7 +23,7 @@ pub record Lanes (f : ℕ → ℕ) (r : Starts) : Type 0 where
 abbrev pub Steps : (ℕ → ℕ → ℕ) → Starts → Starts → Type 0
 Steps g q r = Lanes (λ k. g k (lane q k)) r
 
--- a start x on k, past a link whose source ends at finish on another processor or on k, and whose message takes a time: "finish + (0 if on k, else cost)"
+-- a start x on k, past one link more, whose source ends at finish, and whose message takes a time: "finish + (0 if on k, else cost)"
 unfoldable pub startPast : ℕ → ℕ → ℕ → ℕ → ℕ → ℕ
 startPast source finish time k x = max x (finish + pick (eqb source k) 0 time)
 

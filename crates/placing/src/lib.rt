@@ -210,12 +210,9 @@ fn bars_on(w: &[u32], kept: &[u32], t: usize, starts: Starts, u: usize, a: usize
     requires { ⌜ (k ≡ getD (now kept) (sendersFrom + u) 0) × (k < 16) ⌝ }
     ensures { λ r. ⌜ BarsFor (sheetIn (now (w .entry))) (scheduleIn (now (w .entry))) t u r ⌝ }
 {
-    let best = arrivals::start_on(w, kept, u, k);
-    let finish = arrivals::start_of(starts, k) + tables::work(w, t);
-    if best < a {
-        if best < finish {
-            return k;
-        }
+    let finish = workspace::wide(starts.at[k]) + tables::work(w, t);
+    if arrivals::starts_before(w, kept, u, k, words::smaller(a, finish)) {
+        return k;
     }
     16
 }
@@ -281,7 +278,7 @@ fn join_on(w: &[u32], kept: &[u32], t: usize, starts: Starts, bars: usize, a: us
     let mut i: usize = 0;
     while i < n {
         let k = schedule::place(w, tables::source(w, l));
-        let x = arrivals::start_of(starts, k);
+        let x = workspace::wide(starts.at[k]);
         best = words::later(best, join_key(w, kept, t, bars, a, k, x));
         l = chains::next(w, End::Target, l);
         i += 1;
@@ -385,7 +382,7 @@ fn last_on(w: &[u32], kept: &[u32], t: usize, starts: Starts) -> Found
     let mut best: usize = 0;
     let mut k: usize = 0;
     while k < n {
-        let x = arrivals::start_of(starts, k);
+        let x = workspace::wide(starts.at[k]);
         best = words::later(best, low_key(fits_on(w, kept, t, k), x, k));
         k += 1;
     }

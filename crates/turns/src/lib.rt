@@ -70,7 +70,7 @@ fn place_surveyed(
     match placing::choice_of(w, kept, q, t, starts) {
         Found::Nothing => Planned::Refused(t),
         Found::At(k) => {
-            let start = arrivals::start_of(starts, k);
+            let start = workspace::wide(starts.at[k]);
             put_on(w, kept, q, j, t, k, start);
             Planned::Done
         }

@@ -36,43 +36,51 @@ source-requires c κs =
 place-requires : tie.Need-place-requires Inv-loop μ-loop
 place-requires c κs = (c .before .before .before .before .before .before .before .pre .0 .0 .kept .loaded, c .source .ensures .1)
 
-start-of-requires : tie.Need-start-of-requires Inv-loop μ-loop
-start-of-requires c κs =
+mul-wide : tie.Need-mul-wide Inv-loop μ-loop
+mul-wide c =
     let s = c .before .before .before .before .before .before .before .before in
     let a = s .args in
     let g = c .before .before .before .loop .inv in
     let m = join-there (now (a .w)) (now (a .kept)) (a .t) (s .pre .0 .0) g (c .before .before .before .before .before .word .ensures .0) (c .before .before .loop-test .taken) in
-    join-can (now (a .w)) (now (a .kept)) (a .t) (s .pre .0 .0) g m (c .before .source .ensures .0) (c .place .ensures .0) .0
+    omega (arith, join-can (now (a .w)) (now (a .kept)) (a .t) (s .pre .0 .0) g m (c .before .source .ensures .0) (c .place .ensures .0) .0)
+
+element-copy-out-wide : tie.Need-element-copy-out-wide Inv-loop μ-loop
+element-copy-out-wide c =
+    let s = c .before .before .before .before .before .before .before .before in
+    let a = s .args in
+    let g = c .before .before .before .loop .inv in
+    let m = join-there (now (a .w)) (now (a .kept)) (a .t) (s .pre .0 .0) g (c .before .before .before .before .before .word .ensures .0) (c .before .before .loop-test .taken) in
+    omega (arith, join-can (now (a .w)) (now (a .kept)) (a .t) (s .pre .0 .0) g m (c .before .source .ensures .0) (c .place .ensures .0) .0)
 
 join-key-requires : tie.Need-join-key-requires Inv-loop μ-loop
 join-key-requires c κs =
-    let s = c .before .before .before .before .before .before .before .before .before in
+    let s = c .before .before .before .before .before .before .before .before .before .before in
     let a = s .args in
-    let g = c .before .before .before .before .loop .inv in
-    let m = join-there (now (a .w)) (now (a .kept)) (a .t) (s .pre .0 .0) g (c .before .before .before .before .before .before .word .ensures .0) (c .before .before .before .loop-test .taken) in
-    let can = join-can (now (a .w)) (now (a .kept)) (a .t) (s .pre .0 .0) g m (c .before .before .source .ensures .0) (c .before .place .ensures .0) in
-    (s .pre .0 .0, ((s .pre .1 .0, can .0, can .1), (s .pre .1 .1, c .start-of .ensures .0 ∙ s .pre .0 .1 .on _ (can .0), c .start-of .ensures .1)))
+    let g = c .before .before .before .before .before .loop .inv in
+    let m = join-there (now (a .w)) (now (a .kept)) (a .t) (s .pre .0 .0) g (c .before .before .before .before .before .before .before .word .ensures .0) (c .before .before .before .before .loop-test .taken) in
+    let can = join-can (now (a .w)) (now (a .kept)) (a .t) (s .pre .0 .0) g m (c .before .before .before .source .ensures .0) (c .before .before .place .ensures .0) in
+    (s .pre .0 .0, ((s .pre .1 .0, can .0, can .1), (s .pre .1 .1, c .wide .ensures .0 ∙ s .pre .0 .1 .on _ (can .0), c .wide .ensures .1)))
 
 next-requires : tie.Need-next-requires Inv-loop μ-loop
 next-requires c κs =
-    let s = c .before .before .before .before .before .before .before .before .before .before .before in
+    let s = c .before .before .before .before .before .before .before .before .before .before .before .before in
     let a = s .args in
     let d = s .pre .0 .0 .kept in
-    (d .loaded, (d .caches .inward, join-there (now (a .w)) (now (a .kept)) (a .t) (s .pre .0 .0) (c .before .before .before .before .before .before .loop .inv) (c .before .before .before .before .before .before .before .before .word .ensures .0) (c .before .before .before .before .before .loop-test .taken)))
+    (d .loaded, (d .caches .inward, join-there (now (a .w)) (now (a .kept)) (a .t) (s .pre .0 .0) (c .before .before .before .before .before .before .before .loop .inv) (c .before .before .before .before .before .before .before .before .before .word .ensures .0) (c .before .before .before .before .before .before .loop-test .taken)))
 
 add-i : tie.Need-add-i Inv-loop μ-loop
-add-i c = omega (arith, c .before .before .before .before .before .before .loop-test .taken, c .before .before .before .before .before .before .before .before .before .word .ensures .1)
+add-i c = omega (arith, c .before .before .before .before .before .before .before .loop-test .taken, c .before .before .before .before .before .before .before .before .before .before .word .ensures .1)
 
 loop-less : tie.Need-loop-less Inv-loop μ-loop
-loop-less c = omega (arith, c .before .before .before .before .before .before .loop-test .taken)
+loop-less c = omega (arith, c .before .before .before .before .before .before .before .loop-test .taken)
 
 loop-again : tie.Need-loop-again Inv-loop μ-loop
 loop-again c =
-    let s = c .before .before .before .before .before .before .before .before .before .before .before .before in
+    let s = c .before .before .before .before .before .before .before .before .before .before .before .before .before in
     let a = s .args in
-    let g = c .before .before .before .before .before .before .before .loop .inv in
-    let m = join-there (now (a .w)) (now (a .kept)) (a .t) (s .pre .0 .0) g (c .before .before .before .before .before .before .before .before .before .word .ensures .0) (c .before .before .before .before .before .before .loop-test .taken) in
-    join-more (now (a .w)) (now (a .kept)) (a .t) (s .pre .0 .0) g m (c .next .ensures .0) (c .next .ensures .2) (c .next .ensures .1) (c .before .before .before .before .before .source .ensures .0) (c .before .before .before .before .place .ensures .0) (c .before .before .join-key .ensures) (c .before .later .ensures)
+    let g = c .before .before .before .before .before .before .before .before .loop .inv in
+    let m = join-there (now (a .w)) (now (a .kept)) (a .t) (s .pre .0 .0) g (c .before .before .before .before .before .before .before .before .before .before .word .ensures .0) (c .before .before .before .before .before .before .before .loop-test .taken) in
+    join-more (now (a .w)) (now (a .kept)) (a .t) (s .pre .0 .0) g m (c .next .ensures .0) (c .next .ensures .2) (c .next .ensures .1) (c .before .before .before .before .before .before .source .ensures .0) (c .before .before .before .before .before .place .ensures .0) (c .before .before .join-key .ensures) (c .before .later .ensures)
 
 returns : tie.Need-returns Inv-loop μ-loop
 returns c =
@@ -92,7 +100,9 @@ join-on-spec =
     loop-holds
     source-requires
     place-requires
-    start-of-requires
+    mul-wide
+    element-copy-out-wide
+    (λ c κs. search needs)
     join-key-requires
     (λ c κs. search needs)
     next-requires

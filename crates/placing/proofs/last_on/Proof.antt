@@ -23,21 +23,24 @@ abbrev μ-loop : tie.MeasureT-loop
 loop-holds : tie.Need-loop-holds Inv-loop μ-loop
 loop-holds c = (omega arith, sym (greatest-zero _))
 
-start-of-requires : tie.Need-start-of-requires Inv-loop μ-loop
-start-of-requires c κs = omega (arith, c .loop-test .taken, c .before .before .opened .ensures .1)
+mul-wide : tie.Need-mul-wide Inv-loop μ-loop
+mul-wide c = omega (arith, c .loop-test .taken, c .before .before .opened .ensures .1)
+
+element-copy-out-wide : tie.Need-element-copy-out-wide Inv-loop μ-loop
+element-copy-out-wide c = omega (arith, c .loop-test .taken, c .before .before .opened .ensures .1)
 
 fits-on-requires : tie.Need-fits-on-requires Inv-loop μ-loop
-fits-on-requires c κs = (c .before .before .before .before .before .before .pre .0, omega (arith, c .before .loop-test .taken, c .before .before .before .opened .ensures .1))
+fits-on-requires c κs = (c .before .before .before .before .before .before .before .pre .0, omega (arith, c .before .before .loop-test .taken, c .before .before .before .before .opened .ensures .1))
 
 low-key-requires : tie.Need-low-key-requires Inv-loop μ-loop
-low-key-requires c κs = (c .before .start-of .ensures .1, omega (arith, c .before .before .loop-test .taken, c .before .before .before .before .opened .ensures .1))
+low-key-requires c κs = (c .before .wide .ensures .1, omega (arith, c .before .before .before .loop-test .taken, c .before .before .before .before .before .opened .ensures .1))
 
 loop-again : tie.Need-loop-again Inv-loop μ-loop
 loop-again c =
-    let s = c .before .before .before .before .before .before .before .before .before in
-    let loop = c .before .before .before .before .before .loop in
-    let start = c .before .before .before .start-of .ensures .0 ∙ s .pre .1 .on (loop .k) (omega (arith, c .before .before .before .before .loop-test .taken, c .before .before .before .before .before .before .opened .ensures .1)) in
-    (omega (arith, c .before .before .before .before .loop-test .taken), greatest-more _ _ (loop .inv .1) (last-key-is _ _ (s .args .t) (loop .k) start (c .before .before .fits-on .ensures) (c .before .low-key .ensures)) (c .later .ensures))
+    let s = c .before .before .before .before .before .before .before .before .before .before in
+    let loop = c .before .before .before .before .before .before .loop in
+    let start = c .before .before .before .wide .ensures .0 ∙ s .pre .1 .on (loop .k) (omega (arith, c .before .before .before .before .before .loop-test .taken, c .before .before .before .before .before .before .before .opened .ensures .1)) in
+    (omega (arith, c .before .before .before .before .before .loop-test .taken), greatest-more _ _ (loop .inv .1) (last-key-is _ _ (s .args .t) (loop .k) start (c .before .before .fits-on .ensures) (c .before .low-key .ensures)) (c .later .ensures))
 
 returns : tie.Need-returns Inv-loop μ-loop
 returns c =
@@ -54,7 +57,9 @@ last-on-spec =
     μ-loop
     (λ c κs. search needs)
     loop-holds
-    start-of-requires
+    mul-wide
+    element-copy-out-wide
+    (λ c κs. search needs)
     fits-on-requires
     low-key-requires
     (λ c κs. search needs)

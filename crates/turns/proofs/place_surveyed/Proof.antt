@@ -15,15 +15,18 @@ choice-of-requires c κs =
     let p = s .pre .1 in
     ((choosing (s .pre .0) (p .0 .0) (p .0 .1) (p .1 .0 .0) (p .1 .0 .1), p .1 .0 .2), p .1 .1)
 
-start-of-requires : tie.Need-start-of-requires
-start-of-requires c κs = below-at 16 (c .before .k .given .1) (c .before .before .before .choice-of .ensures .1)
+mul-wide : tie.Need-mul-wide
+mul-wide c = omega (arith, below-at 16 (c .before .k .given .1) (c .before .before .before .choice-of .ensures .1))
+
+element-copy-out-wide : tie.Need-element-copy-out-wide
+element-copy-out-wide c = omega (arith, below-at 16 (c .before .k .given .1) (c .before .before .before .choice-of .ensures .1))
 
 put-on-requires : tie.Need-put-on-requires
 put-on-requires c κs =
-    let s = c .before .before .before .before .before .before .before .before .before .before .before .before .before .before in
+    let s = c .before .before .before .before .before .before .before .before .before .before .before .before .before .before .before in
     let p = s .pre .1 in
-    let on = below-at 16 (c .before .before .before .before .before .k .given .1) (c .before .before .before .before .before .before .before .choice-of .ensures .1) in
-    let start = c .before .before .before .start-of .ensures in
+    let on = below-at 16 (c .before .before .before .before .before .before .k .given .1) (c .before .before .before .before .before .before .before .before .choice-of .ensures .1) in
+    let start = c .before .before .before .wide .ensures in
     (s .pre .0, ((p .0 .0, p .0 .1, on, start .0 ∙ p .1 .0 .2 .on _ on, start .1), ((p .1 .0 .0, p .1 .0 .1), p .1 .1)))
 
 returns : tie.Need-returns
@@ -33,9 +36,9 @@ returns c =
 
 returns-2 : tie.Need-returns-2
 returns-2 c =
-    let s = c .before .before .before .before .before .before .before .before .before .before .before .before .before .before .before .before .before .before .before .before .before in
+    let s = c .before .before .before .before .before .before .before .before .before .before .before .before .before .before .before .before .before .before .before .before .before .before in
     let put = c .before .before .before .before .before .before .put-on .ensures in
-    (place-done _ _ (s .args .t) (sym (ap foundOf (c .before .before .before .before .before .before .before .before .before .before .before .before .k .given .1)) ∙ c .before .before .before .before .before .before .before .before .before .before .before .before .before .before .choice-of .ensures .0) (put .0), put .1, put .2)
+    (place-done _ _ (s .args .t) (sym (ap foundOf (c .before .before .before .before .before .before .before .before .before .before .before .before .before .k .given .1)) ∙ c .before .before .before .before .before .before .before .before .before .before .before .before .before .before .before .choice-of .ensures .0) (put .0), put .1, put .2)
 
 pub place-surveyed-spec : {M : Type 1} → statement M
 place-surveyed-spec =
@@ -44,7 +47,9 @@ place-surveyed-spec =
     choice-of-requires
     (λ c. search needs)
     (λ c. search needs)
-    start-of-requires
+    mul-wide
+    element-copy-out-wide
+    (λ c κs. search needs)
     put-on-requires
     (λ c. search needs)
     (λ c. search needs)
