@@ -5,7 +5,7 @@ use mathlib.Core.Path.{_≡_, refl, sym, ap, ap₂, _∙_, subst}
 use mathlib.Core.List.{List, [], _++_}
 use lib.ListN.{length, take}
 use Rattle.folds.specs.Answers.{Answer, value, andThen, unless, longEnough, fitting, number, placeOr}
-use Rattle.folds.proofs.Tests.{andThen-value, unless-value, value-same}
+use Rattle.folds.proofs.Tests.{andThen-value, unless-value, unlessAt-value, value-same}
 use Rattle.numbers.specs.Number.{Bytes}
 use Rattle.workspace.specs.Area.{fixed}
 use Rattle.sheet.specs.Sheet.{Sheet}
@@ -15,8 +15,8 @@ use Rattle.bundle.specs.Bundle.{Bundle}
 use Rattle.bundle.specs.Format.{readBundle}
 use Rattle.bundle.specs.Writing.{bundleBytes}
 use Rattle.bundle.proofs.Backs.{read-back}
-use Rattle.messages.specs.Messages.{at26, at27, at28}
-use Rattle.messages.specs.Admitted.{fitting as fittingStore, messaging, admitted, admittedBytes}
+use Rattle.messages.specs.Messages.{at26, atMessage, at28}
+use Rattle.messages.specs.Admitted.{admitted, admittedBytes}
 use Rattle.machine.specs.Runs.{runFrom, runOf}
 use Rattle.checker.specs.Checker.{checked, check}
 use Rattle.checker.proofs.Accepted.{accepted, passes}
@@ -90,10 +90,10 @@ plan-value sheet work work′ out out′ n g =
 
 -- a bundle that is accepted is one that the machine starts on
 starts-checked : (s : Sheet) (b x : Bundle) → checked s b ≡ value x → admitted s b ≡ value b
-unfolding checked admitted messaging fittingStore
+unfolding checked admitted
 starts-checked s b x e =
     let p = unless-value 26 (at26 s b) _ x e in
-    let q = unless-value 27 (at27 s b) _ x (p .1) in
+    let q = unlessAt-value (atMessage s b) _ x (p .1) in
     let r = unless-value 28 (at28 s b) _ x (q .1) in
     rw (p .0, q .0, r .0)
 
@@ -110,13 +110,13 @@ begun-returns (started g) = g .returns
 begun-returns (ran g) = g .returns
 
 start-read : (sheet bundle : List ℕ) (s : Sheet) (b : Bundle) → starting sheet bundle ≡ value (s, b) → (readSheet sheet ≡ value s) × (readBundle s bundle ≡ value b)
-unfolding starting admittedBytes admitted messaging fittingStore
+unfolding starting admittedBytes admitted
 start-read sheet bundle s b e =
     let p = andThen-value (readSheet sheet) _ (s, b) e in
     let q = andThen-value (admittedBytes (p .0) bundle) (λ b. value (p .0, b)) (s, b) (p .2) in
     let r = andThen-value (readBundle (p .0) bundle) (admitted (p .0)) (q .0) (q .1) in
     let u = unless-value 26 (at26 (p .0) (r .0)) _ (q .0) (r .2) in
-    let v = unless-value 27 (at27 (p .0) (r .0)) _ (q .0) (u .1) in
+    let v = unlessAt-value (atMessage (p .0) (r .0)) _ (q .0) (u .1) in
     let w = unless-value 28 (at28 (p .0) (r .0)) _ (q .0) (v .1) in
     let pair : _≡_ {A = Sheet × Bundle} (p .0, q .0) (s, b) = value-same (q .2) in
     let es : p .0 ≡ s = ap (λ (z : Sheet × Bundle). z .0) pair in

@@ -21,7 +21,9 @@ use Rattle.bundle.specs.Counts.{commandsIn, commandCount}
 use Rattle.bundle.specs.Lies.{sizeOf, Lies, over, more}
 use Rattle.bundle.proofs.Rounds.{read-formed}
 use Rattle.messages.specs.Counting.{weigh, wholeOf, whole, each, is, need}
-use Rattle.messages.specs.Messages.{home, insideOk, acrossOk, linkOk, wrongMessage, overStore, at27, at28, Published}
+use Rattle.messages.specs.Messages.{home, overStore, at28, Published}
+use Rattle.messages.specs.Unsplit.{insideOk, acrossOk}
+use Rattle.messages.proofs.Splits.{link-right}
 use Rattle.messages.proofs.Weights.{weigh-each, is-refl}
 use Rattle.messages.proofs.Messages.{run-once}
 use Rattle.messages.proofs.Rows.{Rows, claims, opens, rows}
@@ -54,8 +56,8 @@ each-at P d (x ∷ xs) (suc i) h l = each-at P d xs i (h .1) (omega arith)
 
 module _ (s : Sheet) (b : Bundle) (p : Published s b) where
   both-one : (l : ℕ) → l < linkCount s → (whole b (is (send l)) ≤ 1) × (whole b (is (receive l)) ≤ 1)
-  unfolding at27 insideOk acrossOk wrongMessage
-  both-one l h = go (eqb j k) (not-false (linkOk s b l j k) (first-none (linkCount s) (wrongMessage s b) (p .messages) l h))
+  unfolding insideOk acrossOk
+  both-one l h = go (eqb j k) (link-right s b p l h)
     where
       j : ℕ
       j = home b (run (sourceOf s l))

@@ -1,23 +1,14 @@
-use Rattle.messages.proofs.Admits.{message-right, message-wrong}
+-- `messages` (src/judge.rt) keeps its contract.
 use borrow.Author.Needs.{needs}
+use Rattle.messages.proofs.Admits.{message-right, message-wrong}
 use Rattle.messages.proofs.judge.messages.Statement.{statement}
 use Rattle.messages.proofs.judge.messages.Tie as tie
 
-wrong-message-requires : tie.Need-wrong-message-requires
-wrong-message-requires c κs = search needs
-
-enum-known-i : tie.Need-enum-known-i
-enum-known-i c = search needs
-
-enum-told : tie.Need-enum-told
-enum-told c = search needs
-
 returns : tie.Need-returns
-returns c = message-wrong _ _ _ _ _ _ _ _ (c .before .before .before .wrong-message .ensures) _ (c .before .i .given .1)
+returns c = message-wrong _ _ _ _ _ _ _ _ (c .before .before .before .wrong-message .ensures) _ _ (c .before .n .given .1)
 
 returns-2 : tie.Need-returns-2
 returns-2 c = message-right _ _ _ _ _ _ _ _ (c .before .before .wrong-message .ensures) (c .enum-told .given .1)
 
 pub messages-spec : {M : Type 1} → statement M
-messages-spec =
-    tie.close (tie.spec wrong-message-requires enum-known-i enum-told returns returns-2)
+messages-spec = tie.close (tie.spec (λ c κs. search needs) (λ c. search needs) (λ c. search needs) returns returns-2)
