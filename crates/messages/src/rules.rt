@@ -1,7 +1,9 @@
 // 26 and 31 to 33, by the notes of a bundle's commands.
 ghost use mathlib.Core.Path.{_≡_};
+ghost use mathlib.Core.List.{[], _∷_};
 ghost use Prim.Native.Nat.{_≤_, _<_};
 ghost use lib.ListN.{length};
+ghost use Rattle.folds.specs.Folds.{firstOf};
 ghost use Rattle.messages.specs.Fields.{Narrow};
 ghost use Rattle.messages.specs.Notes.{ahead, sendBy, receiveBy, orderBy, faultBy};
 ghost use Rattle.messages.specs.Rules.{OnceIs, numbered, LinkIs, MessageIs};
@@ -75,21 +77,31 @@ fn order_fault(inside: bool, source: usize, target: usize) -> bool
     false
 }
 
-// The number of a link's fault by its notes, or 0: the send first, then the receive, then the order.
+// The number of the first of three faults, or 0: the send, then the receive, then the order.
+fn first_fault(send: bool, receive: bool, order: bool) -> u8
+    ensures { λ r. ⌜ numbered r ≡ firstOf ((send, 31) ∷ (receive, 32) ∷ (order, 33) ∷ []) ⌝ }
+{
+    if send {
+        return 31;
+    }
+    if receive {
+        return 32;
+    }
+    if order {
+        return 33;
+    }
+    0
+}
+
+// The number of a link's fault by its notes, or 0.
 fn fault_by(source: usize, target: usize, sent: usize, got: usize) -> u8
     ensures { λ r. ⌜ numbered r ≡ faultBy source target sent got ⌝ }
 {
     let inside = source / 4096 == target / 4096;
-    if send_fault(inside, source, sent) {
-        return 31;
-    }
-    if receive_fault(inside, got, target) {
-        return 32;
-    }
-    if order_fault(inside, source, target) {
-        return 33;
-    }
-    0
+    let send = send_fault(inside, source, sent);
+    let receive = receive_fault(inside, got, target);
+    let order = order_fault(inside, source, target);
+    first_fault(send, receive, order)
 }
 
 // What is wrong with the messages of link l: 31, 32, 33, or 0.

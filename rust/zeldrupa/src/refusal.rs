@@ -27,7 +27,7 @@ impl Refusal {
         }
     }
 
-    /// Its number in document 01: 1 to 13, or 21 to 30.
+    /// Its number in documents 01 and 02: 1 to 13, or 21 to 33 without 27.
     pub fn number(self) -> u8 {
         self.number
     }
@@ -37,7 +37,7 @@ impl Refusal {
         self.place
     }
 
-    /// Document 01's word for it.
+    /// The documents' word for it.
     pub fn word(self) -> &'static str {
         match self.number {
             1 => "cut sheet",
@@ -56,10 +56,12 @@ impl Refusal {
             21 => "cut bundle",
             25 => "unknown number",
             26 => "run count",
-            27 => "message",
             28 => "over store",
             29 => "stuck",
             30 => "wrong claim",
+            31 => "send",
+            32 => "receive",
+            33 => "local order",
             _ => "unknown refusal",
         }
     }
