@@ -104,6 +104,18 @@ static void machine(void)
     ANSWERS(zeldrupa_left(BUNDLE, STATE, &place), 0, 0);
 }
 
+/* In a state that was never started nobody can step, and nothing is left to do. */
+static void never_started(void)
+{
+    static const uint32_t zeros[ZELDRUPA_WORK_LENGTH];
+    memset(state, 0, sizeof state);
+    for (uint64_t k = 0; k < 17; k++) {
+        ANSWERS(zeldrupa_step(SHEET, BUNDLE, STATE, k, &place), 0, 0);
+    }
+    ANSWERS(zeldrupa_left(BUNDLE, STATE, &place), 0, 0);
+    EXPECT(memcmp(state, zeros, sizeof zeros) == 0);
+}
+
 static void refusals(void)
 {
     uint8_t out[64], claiming_6[64];
@@ -126,6 +138,7 @@ int main(int count, char **arguments)
         formats();
         planner();
         machine();
+        never_started();
         refusals();
     }
     printf("C: %d failures\n", failures);

@@ -4,7 +4,6 @@ use mathlib.Core.Path.{_≡_, sym, ap, _∙_}
 use mathlib.Core.List.{List}
 use Rattle.folds.specs.Answers.{Answer, andThen}
 use Rattle.sheet.specs.Sheet.{Sheet}
-use Rattle.sheet.specs.Tables.{sheetIn}
 use Rattle.sheet_reader.specs.declared.Reading.{Reading}
 use Rattle.sheet_reader.specs.declared.Reading.the-variants as readings
 use Rattle.graph.specs.Graph.{readSheet}

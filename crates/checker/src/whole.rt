@@ -8,6 +8,7 @@ ghost use Rattle.checker.specs.Verdicts.{UnfinishedIs, LatestIs, FinishI
 use crate::Verdict;
 use messages::Judged;
 use messages::view::View;
+use stepping_machine::BOARD;
 use stepping_machine::CLOCKS;
 use stepping_machine::COUNT;
 use stepping_machine::LASTS;
@@ -74,11 +75,11 @@ fn judgement(sheet: &[u8], bundle: &[u8], w: &mut [u32], v: View) -> Verdict
     }
 }
 
-// 21 to 30 of a bundle, for the sheet in the tables of the work area, whose bytes are given too. The words from 16 on are used.
+// 21 to 30 of a bundle, for the sheet in the tables of the work area, whose bytes are given too. The words behind the board are used.
 pub fn check(sheet: &[u8], bundle: &[u8], work: &mut [u32]) -> Verdict
     requires { ⌜ Shown (now sheet) (now work) ⌝ }
     ensures { λ r. ⌜ CheckIs (now (bundle .entry)) (now (work .entry)) (now (work .exit)) r ⌝ }
 {
     let v = messages::view::of_tables(work);
-    judgement(sheet, bundle, &mut work[16..], v)
+    judgement(sheet, bundle, &mut work[BOARD..], v)
 }

@@ -20,10 +20,10 @@ use Rattle.bundle_reader.specs.declared.bytes.Reading.the-variants.{Read, Refus
 use Rattle.bundle.proofs.Rounds.{read-formed}
 use Rattle.bundle.proofs.Faults.{sheetBy, sized-by}
 use Rattle.messages.specs.Messages.{at26, atMessage, at28, Published}
-use Rattle.messages.specs.Notes.{NotesIs}
+use Rattle.messages.specs.Notes.{slotsEnd, NotesIs}
 use Rattle.words.specs.Found.{foundOf}
 use Rattle.messages.specs.Rules.{Given, OnceIs, faultOf, MessageIs}
-use Rattle.messages.specs.Fields.{Known, Narrow}
+use Rattle.messages.specs.Fields.{Known, Bounded}
 use Rattle.messages.specs.declared.view.View.{View}
 use Rattle.messages.specs.Admitted.{messaged, published, admitted, publishedBytes, admittedBytes, judgedOf, Told, MessagesIs, RulesIs, JudgeIs}
 use Rattle.words.specs.declared.Found.{Found}
@@ -154,7 +154,7 @@ stored-then s bundle b e =
 sized : {s : Sheet} {sheet : List ℕ} {v : View} → Known s sheet v → Sized s (v .processors) (v .tasks) (v .links)
 sized k = record { processors = k .processors; tasks = k .tasks; links = k .links }
 
-module _ (sheet bundle w u : List ℕ) (v : View) (long : 4352 ≤ length w) (narrow : Narrow v) (f : Reading) (h : ReadIs bundle (v .processors) (v .tasks) (v .links) w u f) where
+module _ (sheet bundle w u : List ℕ) (v : View) (long : slotsEnd ≤ length w) (narrow : Bounded v) (f : Reading) (h : ReadIs bundle (v .processors) (v .tasks) (v .links) w u f) where
   pub judge-refused : (r at : ℕ) → f ≡ Unread r at → JudgeIs sheet bundle w u v (Refused r at)
   unfolding publishedBytes readingOf
   judge-refused r at e =

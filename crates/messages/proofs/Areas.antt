@@ -19,7 +19,7 @@ part-long w a = ap length (take-all (length w - a) (drop a w) (omega (arith, len
 -- a view of the tables is one of the bytes that they were read from
 pub known-in : (w sheet : List ℕ) (v : View) → Shown sheet w → ViewIs w v → Known (sheetIn w) sheet v
 known-in w sheet v h g =
-    let e : frontOf + 5 * taskCount (sheetIn w) ≡ v .middle = omega (arith, g .front, g .tasks, g .narrow .behind) in
+    let e : frontOf + 5 * taskCount (sheetIn w) ≡ v .middle = omega (arith, g .front, g .tasks, g .bounded .behind) in
     record {
       fields = subst (λ (i : ℕ). Fields (sheetIn w) sheet i (v .middle)) (sym (g .front)) (subst (Fields (sheetIn w) sheet frontOf) e (h .fields));
       ranged = ranged w (h .loaded);
@@ -30,4 +30,4 @@ known-in w sheet v h g =
     }
 
 pub seen-in : (w sheet : List ℕ) (v : View) → Shown sheet w → ViewIs w v → Seen sheet v
-seen-in w sheet v h g = record { board = sheetIn w; known = known-in w sheet v h g; narrow = g .narrow }
+seen-in w sheet v h g = record { board = sheetIn w; known = known-in w sheet v h g; bounded = g .bounded }

@@ -23,7 +23,7 @@ use Rattle.bundle.specs.Lies.{sizeOf, Stands, Lies}
 use Rattle.bundle.proofs.Lying.{lies-le, lies-next, lies-none}
 use Rattle.messages.specs.Counting.{is}
 use Rattle.workspace.specs.Area.{ClearIs}
-use Rattle.messages.specs.Notes.{slotOf, sofar, rank, Noted, never, again, once, Notes, messageAt, slotAt, sizeAt, notedWords, Kept, BlankIs, NotesIs}
+use Rattle.messages.specs.Notes.{slotsAt, sendsAt, receivesAt, slotsEnd, slotOf, sofar, rank, Noted, never, again, once, Notes, messageAt, slotAt, sizeAt, notedWords, Kept, BlankIs, NotesIs}
 use Rattle.messages.proofs.Weights.{is-refl}
 use Rattle.messages.proofs.Walking.{drop-next, drop-short}
 use Rattle.messages.proofs.Ranks.{is-or, slot-small, slot-same, sofar-more, sofar-next, sofar-none, rank-small, rank-more, rank-next, rank-none}
@@ -77,16 +77,16 @@ noted-met {b} {k} {i} {x} {c} (once j p u v h) = ne-eqb x 0 (λ q. omega arith) 
 
 module _ (s : Sheet) (b : Bundle) (few : taskCount s ≤ 256) (less : linkCount s ≤ 1024) where
   -- the command d is met
-  noted-more : (k i r : ℕ) (w : List ℕ) (d : Command) → k < 16 → 4352 ≤ length w → Known s d → getElem? (programmeOf b k) i ≡ some d → r ≡ rank b k i
-      → Noted b k i d (getD w (2048 + slotOf d) 0) → Noted b k (suc i) d (getD (notedWords w (slotOf d) k r) (2048 + slotOf d) 0)
+  noted-more : (k i r : ℕ) (w : List ℕ) (d : Command) → k < 16 → slotsEnd ≤ length w → Known s d → getElem? (programmeOf b k) i ≡ some d → r ≡ rank b k i
+      → Noted b k i d (getD w (slotsAt + slotOf d) 0) → Noted b k (suc i) d (getD (notedWords w (slotOf d) k r) (slotsAt + slotOf d) 0)
   unfolding notedWords
   noted-more k i r w d small long h e q n = rw put (by n)
     where
       x : ℕ
-      x = getD w (2048 + slotOf d) 0
+      x = getD w (slotsAt + slotOf d) 0
 
-      put : getD (set w (2048 + slotOf d) (pick (eqb x 0) ((4096 * (k % 16 + 1) + r) % 4294967296) 1)) (2048 + slotOf d) 0 ≡ pick (eqb x 0) ((4096 * (k % 16 + 1) + r) % 4294967296) 1
-      put = getD-set-same w (2048 + slotOf d) _ 0 (omega (arith, slot-small s few less d h))
+      put : getD (set w (slotsAt + slotOf d) (pick (eqb x 0) ((4096 * (k % 16 + 1) + r) % 4294967296) 1)) (slotsAt + slotOf d) 0 ≡ pick (eqb x 0) ((4096 * (k % 16 + 1) + r) % 4294967296) 1
+      put = getD-set-same w (slotsAt + slotOf d) _ 0 (omega (arith, slot-small s few less d h))
 
       more : sofar b k (suc i) d ≡ sofar b k i d + 1
       more = sofar-more b k i d d e ∙ ap (λ (y : ℕ). sofar b k i d + y) (is-refl d)
@@ -96,8 +96,8 @@ module _ (s : Sheet) (b : Bundle) (few : taskCount s ≤ 256) (less : linkCount 
       by (again u v) = rw (ne-eqb x 0 (λ z. omega arith)) (again refl (omega (arith, more)))
       by (once j p u v g) = rw (ne-eqb x 0 (λ z. omega arith)) (again refl (omega (arith, more)))
 
-  pub notes-more : (k i r x : ℕ) (w : List ℕ) (d : Command) → k < 16 → 4352 ≤ length w → Known s d → getElem? (programmeOf b k) i ≡ some d → x ≡ slotOf d
-      → Notes s b k i r w → Notes s b k (suc i) (r + bit (eqb (getD w (2048 + x) 0) 0)) (notedWords w x k r)
+  pub notes-more : (k i r x : ℕ) (w : List ℕ) (d : Command) → k < 16 → slotsEnd ≤ length w → Known s d → getElem? (programmeOf b k) i ≡ some d → x ≡ slotOf d
+      → Notes s b k i r w → Notes s b k (suc i) (r + bit (eqb (getD w (slotsAt + x) 0) 0)) (notedWords w x k r)
   unfolding notedWords
   notes-more k i r x w d small long h e q n =
       rw q
@@ -106,7 +106,7 @@ module _ (s : Sheet) (b : Bundle) (few : taskCount s ≤ 256) (less : linkCount 
             λ c kc.
             ⊎-elim
             (λ (g : c ≡ d).
-            subst (λ (y : Command). Noted b k (suc i) y (getD (notedWords w (slotOf d) k r) (2048 + slotOf y) 0)) (sym g)
+            subst (λ (y : Command). Noted b k (suc i) y (getD (notedWords w (slotOf d) k r) (slotsAt + slotOf y) 0)) (sym g)
             (noted-more k i r w d small long h e (n .count) (n .note d h)))
             (λ (z : is c d ≡ 0). other c kc z) (is-or c d);
         count =
@@ -114,12 +114,12 @@ module _ (s : Sheet) (b : Bundle) (few : taskCount s ≤ 256) (less : linkCount 
             ap (λ (y : ℕ). y + bit (eqb (sofar b k i d) 0)) (n .count) ∙ sym (rank-more s few less b k i d h e);
       })
     where
-      other : (c : Command) → Known s c → is c d ≡ 0 → Noted b k (suc i) c (getD (notedWords w (slotOf d) k r) (2048 + slotOf c) 0)
+      other : (c : Command) → Known s c → is c d ≡ 0 → Noted b k (suc i) c (getD (notedWords w (slotOf d) k r) (slotsAt + slotOf c) 0)
       other c kc z =
-          let apart : 2048 + slotOf c ≡ 2048 + slotOf d → ⊥ =
+          let apart : slotsAt + slotOf c ≡ slotsAt + slotOf d → ⊥ =
           λ g. let r : c ≡ d = slot-same s few less c d kc h (omega arith) in omega (arith, is-refl d, subst (λ (y : Command). is y d ≡ 0) r z)
           in
-          noted-same (getD-set-other w (2048 + slotOf d) (2048 + slotOf c) _ 0 apart) (omega (arith, sofar-more b k i c d e)) (n .note c kc)
+          noted-same (getD-set-other w (slotsAt + slotOf d) (slotsAt + slotOf c) _ 0 apart) (omega (arith, sofar-more b k i c d e)) (n .note c kc)
 
   -- the programme k is over
   pub notes-next : (k i r : ℕ) (w : List ℕ) → length (programmeOf b k) ≤ i → Notes s b k i r w → Notes s b (suc k) 0 r w
@@ -129,7 +129,7 @@ module _ (s : Sheet) (b : Bundle) (few : taskCount s ≤ 256) (less : linkCount 
 pub notes-start : (s : Sheet) (b : Bundle) (v w : List ℕ) → BlankIs v w (taskCount s) (linkCount s) → Notes s b 0 0 0 w
 notes-start s b v w z = record { note = λ c kc. never (zero-of c kc) (sofar-none b c); count = sym (rank-none b) }
   where
-    zero-of : (c : Command) → Known s c → getD w (2048 + slotOf c) 0 ≡ 0
+    zero-of : (c : Command) → Known s c → getD w (slotsAt + slotOf c) 0 ≡ 0
     zero-of (run t) k = z .runs t k
     zero-of (send i) k = z .sends i k
     zero-of (receive i) k = z .receives i k
@@ -137,7 +137,7 @@ notes-start s b v w z = record { note = λ c kc. never (zero-of c kc) (sofar-non
 pub noted-kept : {v w : List ℕ} (x k r : ℕ) → Kept v w → Kept v (notedWords w x k r)
 unfolding notedWords
 noted-kept {v} {w} x k r h =
-    record { long = simp length-set (h .long); low = λ i l. getD-set-other w (2048 + x) i _ 0 (λ q. omega arith) ∙ h .low i l }
+    record { long = simp length-set (h .long); low = λ i l. getD-set-other w (slotsAt + x) i _ 0 (λ q. omega arith) ∙ h .low i l }
 
 -- for one bundle: programme k is noted up to its place i, the rest of it lies from `at` on, and the other programmes behind it
 pub record Going (s : Sheet) (b : Bundle) (bundle w : List ℕ) (at k r : ℕ) : Type 0 where
@@ -153,7 +153,7 @@ pub record Noting (n l : ℕ) (bundle v w : List ℕ) (at k r : ℕ) : Type 0 wh
   pub kept : Kept v w
   pub few : 2 * k ≤ at
   pub less : 2 * r ≤ at
-  pub each : (s : Sheet) (b : Bundle) → taskCount s ≡ n → linkCount s ≡ l → taskCount s ≤ 256 → linkCount s ≤ 1024 → programmeCount b ≤ 16 → 4352 ≤ length v
+  pub each : (s : Sheet) (b : Bundle) → taskCount s ≡ n → linkCount s ≡ l → taskCount s ≤ 256 → linkCount s ≤ 1024 → programmeCount b ≤ 16 → slotsEnd ≤ length v
       → ((i : ℕ) → getD bundle i 0 < 256) → readBundle s bundle ≡ value b → Going s b bundle w at k r
 
 -- the programme k of ps opens at offset o, and the others lie behind it
@@ -238,17 +238,17 @@ module _ {n l : ℕ} {bundle v w : List ℕ} {at k r : ℕ} (end : ℕ) (far : e
           ]
 
   pub noting-command : at < end → (getD bundle at 0 ≡ 0x50 → ⊥) → (u : List ℕ) (x z r′ : ℕ) → x ≡ slotAt bundle at → z ≡ sizeAt bundle at → 2 ≤ z → u ≡ notedWords w x k r
-      → r′ ≡ r + bit (eqb (getD w (2048 + x) 0) 0) → Noting n l bundle v u (at + z) k r′
+      → r′ ≡ r + bit (eqb (getD w (slotsAt + x) 0) 0) → Noting n l bundle v u (at + z) k r′
   unfolding programmeCount
   noting-command m q u x z r′ ex ez two eu er =
       record {
         kept = subst (Kept v) (sym eu) (noted-kept x k r (g .kept));
         few = omega (arith, g .few);
-        less = omega (arith, g .less, bit-le (eqb (getD w (2048 + x) 0) 0));
+        less = omega (arith, g .less, bit-le (eqb (getD w (slotsAt + x) 0) 0));
         each = λ s b en el few less small long bytes e. by s b few less small (omega (arith, g .kept .long)) (g .each s b en el few less small long bytes e);
       }
     where
-      by : (s : Sheet) (b : Bundle) → taskCount s ≤ 256 → linkCount s ≤ 1024 → programmeCount b ≤ 16 → 4352 ≤ length w → Going s b bundle w at k r → Going s b bundle u (at + z) k r′
+      by : (s : Sheet) (b : Bundle) → taskCount s ≤ 256 → linkCount s ≤ 1024 → programmeCount b ≤ 16 → slotsEnd ≤ length w → Going s b bundle w at k r → Going s b bundle u (at + z) k r′
       by s b few less small long h =
           elim (decLt at (h .end)) [
             | no l ↦ absurd (q (over-open s b h (omega arith) m .byte))
@@ -291,7 +291,7 @@ module _ {n l : ℕ} {bundle v w : List ℕ} {at k r : ℕ} (end : ℕ) (far : e
           ]
 
 -- the slots of n tasks, of l sends and of l receives are cleared
-pub blank-all : {w x y z : List ℕ} (n l : ℕ) → n ≤ 256 → l ≤ 1024 → ClearIs w x 2048 (2048 + n) → ClearIs x y 2304 (2304 + l) → ClearIs y z 3328 (3328 + l) → BlankIs w z n l
+pub blank-all : {w x y z : List ℕ} (n l : ℕ) → n ≤ 256 → l ≤ 1024 → ClearIs w x slotsAt (slotsAt + n) → ClearIs x y sendsAt (sendsAt + l) → ClearIs y z receivesAt (receivesAt + l) → BlankIs w z n l
 blank-all n l few less p q r =
     record {
       kept =
@@ -299,20 +299,20 @@ blank-all n l few less p q r =
             long = r .long ∙ q .long ∙ p .long;
             low = λ i m. r .other i (inl (omega arith)) ∙ q .other i (inl (omega arith)) ∙ p .other i (inl m);
           };
-      runs = λ t m. r .other (2048 + t) (inl (omega arith)) ∙ q .other (2048 + t) (inl (omega arith)) ∙ p .zeros (2048 + t) (omega arith) (omega arith);
-      sends = λ i m. r .other (2048 + (256 + i)) (inl (omega arith)) ∙ q .zeros (2048 + (256 + i)) (omega arith) (omega arith);
-      receives = λ i m. r .zeros (2048 + (1280 + i)) (omega arith) (omega arith);
+      runs = λ t m. r .other (slotsAt + t) (inl (omega arith)) ∙ q .other (slotsAt + t) (inl (omega arith)) ∙ p .zeros (slotsAt + t) (omega arith) (omega arith);
+      sends = λ i m. r .other (slotsAt + (256 + i)) (inl (omega arith)) ∙ q .zeros (slotsAt + (256 + i)) (omega arith) (omega arith);
+      receives = λ i m. r .zeros (slotsAt + (1280 + i)) (omega arith) (omega arith);
     }
 
 -- one command met, for the first time or again
-module _ (w v : List ℕ) (x k r z : ℕ) (e : z ≡ getD w (2048 + x) 0) where
-  pub note-new : z ≡ 0 → v ≡ set w (2048 + x) ((4096 * (k % 16 + 1) + r) % 4294967296) → (v ≡ notedWords w x k r) × (r + 1 ≡ r + bit (eqb (getD w (2048 + x) 0) 0))
+module _ (w v : List ℕ) (x k r z : ℕ) (e : z ≡ getD w (slotsAt + x) 0) where
+  pub note-new : z ≡ 0 → v ≡ set w (slotsAt + x) ((4096 * (k % 16 + 1) + r) % 4294967296) → (v ≡ notedWords w x k r) × (r + 1 ≡ r + bit (eqb (getD w (slotsAt + x) 0) 0))
   unfolding notedWords
-  note-new q h = rw (eq-eqb (getD w (2048 + x) 0) 0 (sym e ∙ q)) (h, refl)
+  note-new q h = rw (eq-eqb (getD w (slotsAt + x) 0) 0 (sym e ∙ q)) (h, refl)
 
-  pub note-old : (z ≡ 0 → ⊥) → v ≡ set w (2048 + x) 1 → (v ≡ notedWords w x k r) × (r ≡ r + bit (eqb (getD w (2048 + x) 0) 0))
+  pub note-old : (z ≡ 0 → ⊥) → v ≡ set w (slotsAt + x) 1 → (v ≡ notedWords w x k r) × (r ≡ r + bit (eqb (getD w (slotsAt + x) 0) 0))
   unfolding notedWords
-  note-old q h = rw (ne-eqb (getD w (2048 + x) 0) 0 (λ u. q (e ∙ u))) (h, omega arith)
+  note-old q h = rw (ne-eqb (getD w (slotsAt + x) 0) 0 (λ u. q (e ∙ u))) (h, omega arith)
 
 -- the notes were cleared first
 pub notes-after : {bundle v w u : List ℕ} {n l : ℕ} → BlankIs v w n l → NotesIs bundle w u n l → NotesIs bundle v u n l

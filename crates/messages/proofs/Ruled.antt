@@ -19,7 +19,7 @@ use Rattle.bundle.specs.Bundle.{Command, run, send, receive, Bundle, programmeC
 use Rattle.bundle.specs.Fits.{Known}
 use Rattle.messages.specs.Counting.{whole, is}
 use Rattle.messages.specs.Messages.{notOnce, home, before, inside, sendFault, receiveFault, orderFault, messageFault, at26, atMessage}
-use Rattle.messages.specs.Notes.{slotOf, sofar, Noted, never, again, once, Notes, ahead, sendBy, receiveBy, orderBy, faultBy}
+use Rattle.messages.specs.Notes.{slotsAt, slotOf, sofar, Noted, never, again, once, Notes, ahead, sendBy, receiveBy, orderBy, faultBy}
 use Rattle.messages.specs.Fields.{sourceAt, targetAt}
 use Rattle.messages.specs.declared.view.View.{View}
 use Rattle.messages.specs.Rules.{Given, OnceIs, numbered, LinkIs, MessageIs}
@@ -32,7 +32,7 @@ use Rattle.messages.proofs.Places.{Placed, placed-home, same-programme,
 -- notes of a whole bundle
 module _ (s : Sheet) (b : Bundle) (w : List ℕ) (count : ℕ) (h : Notes s b (programmeCount b) 0 count w) (c : Command) (k : Known s c) where
   abbrev x : ℕ
-  x = getD w (2048 + slotOf c) 0
+  x = getD w (slotsAt + slotOf c) 0
 
   n : ℕ
   n = whole b (is c)
@@ -74,22 +74,22 @@ module _ (s : Sheet) (b : Bundle) (w : List ℕ) (count : ℕ) (h : Notes s b (p
 
 -- 26
 pub record Onces (w : List ℕ) (t : ℕ) : Type 0 where
-  pub ones : (j : ℕ) → j < t → 2 ≤ getD w (2048 + j) 0
+  pub ones : (j : ℕ) → j < t → 2 ≤ getD w (slotsAt + j) 0
 
-once-test : (s : Sheet) (b : Bundle) (w : List ℕ) (count : ℕ) → Notes s b (programmeCount b) 0 count w → (t : ℕ) → t < taskCount s → notOnce b t ≡ not (ltb 1 (getD w (2048 + t) 0))
+once-test : (s : Sheet) (b : Bundle) (w : List ℕ) (count : ℕ) → Notes s b (programmeCount b) 0 count w → (t : ℕ) → t < taskCount s → notOnce b t ≡ not (ltb 1 (getD w (slotsAt + t) 0))
 unfolding notOnce
 once-test s b w count h t l = ap not (sym (once-by s b w count h (run t) l))
 
 pub once-starts : (w : List ℕ) → Onces w 0
 once-starts w = record { ones = λ j l. absurd (omega arith) }
 
-pub once-more : {w : List ℕ} {t : ℕ} → Onces w t → 2 ≤ getD w (2048 + t) 0 → Onces w (t + 1)
+pub once-more : {w : List ℕ} {t : ℕ} → Onces w t → 2 ≤ getD w (slotsAt + t) 0 → Onces w (t + 1)
 once-more {w} {t} g e =
     record {
-      ones = λ j l. ⊎-elim (λ (k : j < t). g .ones j k) (λ (q : j ≡ t). subst (λ (i : ℕ). 2 ≤ getD w (2048 + i) 0) (sym q) e) (below-suc (rw add-one at l));
+      ones = λ j l. ⊎-elim (λ (k : j < t). g .ones j k) (λ (q : j ≡ t). subst (λ (i : ℕ). 2 ≤ getD w (slotsAt + i) 0) (sym q) e) (below-suc (rw add-one at l));
     }
 
-pub once-found : (w : List ℕ) (t n : ℕ) → Onces w t → t < n → getD w (2048 + t) 0 < 2 → OnceIs w n (At t)
+pub once-found : (w : List ℕ) (t n : ℕ) → Onces w t → t < n → getD w (slotsAt + t) 0 < 2 → OnceIs w n (At t)
 unfolding at26
 once-found w t n g l e =
     record {
@@ -97,8 +97,8 @@ once-found w t n g l e =
           λ s b count c h.
           sym
           (first-found (taskCount s) (notOnce b) t
-          (λ j k. once-test s b w count h j (omega arith) ∙ ap not (lt-ltb 1 (getD w (2048 + j) 0) (g .ones j k)))
-          (once-test s b w count h t (omega arith) ∙ ap not (le-ltb 1 (getD w (2048 + t) 0) (omega arith))) (omega arith));
+          (λ j k. once-test s b w count h j (omega arith) ∙ ap not (lt-ltb 1 (getD w (slotsAt + j) 0) (g .ones j k)))
+          (once-test s b w count h t (omega arith) ∙ ap not (le-ltb 1 (getD w (slotsAt + t) 0) (omega arith))) (omega arith));
     }
 
 pub once-none : (w : List ℕ) (t n : ℕ) → Onces w t → n ≤ t → OnceIs w n Nothing
@@ -107,13 +107,13 @@ once-none w t n g l =
     record {
       is-26 =
           λ s b count c h.
-          sym (none-first (taskCount s) (notOnce b) (λ j k. once-test s b w count h j k ∙ ap not (lt-ltb 1 (getD w (2048 + j) 0) (g .ones j (omega arith)))));
+          sym (none-first (taskCount s) (notOnce b) (λ j k. once-test s b w count h j k ∙ ap not (lt-ltb 1 (getD w (slotsAt + j) 0) (g .ones j (omega arith)))));
     }
 
 -- 31 to 33
 module _ (s : Sheet) (b : Bundle) (sheet w : List ℕ) (v : View) (h : Given s b sheet w v) (l : ℕ) (kl : l < linkCount s) (once : at26 s b ≡ none) where
   abbrev noteOf : Command → ℕ
-  noteOf c = getD w (2048 + slotOf c) 0
+  noteOf c = getD w (slotsAt + slotOf c) 0
 
   abbrev source : Command
   source = run (sourceOf s l)
@@ -191,15 +191,15 @@ byte-there b i j x e f = e ∙ ap (λ (k : ℕ). getD b k 0) f
 -- by the numbers that the code reads
 pub link-by :
     (sheet w : List ℕ) (v : View) (l source target a t sent got r : ℕ) → source ≡ getD sheet (sourceAt (v .middle) l) 0 → target ≡ getD sheet (targetAt (v .middle) l) 0
-    → a ≡ getD w (2048 + source) 0 → t ≡ getD w (2048 + target) 0 → sent ≡ getD w (2048 + (256 + l)) 0 → got ≡ getD w (2048 + (1280 + l)) 0 → numbered r ≡ faultBy a t sent got
+    → a ≡ getD w (slotsAt + source) 0 → t ≡ getD w (slotsAt + target) 0 → sent ≡ getD w (slotsAt + (256 + l)) 0 → got ≡ getD w (slotsAt + (1280 + l)) 0 → numbered r ≡ faultBy a t sent got
     → LinkIs sheet w v l r
 link-by sheet w v l source target a t sent got r es et ea eb ec ed e =
     record {
       is-fault =
           λ s b kl h o.
-          let x : a ≡ getD w (2048 + sourceOf s l) 0 = ea ∙ ap (λ (i : ℕ). getD w (2048 + i) 0) (es ∙ h .known .fields .source l kl) in
-          let y : t ≡ getD w (2048 + targetOf s l) 0 = eb ∙ ap (λ (i : ℕ). getD w (2048 + i) 0) (et ∙ h .known .fields .target l kl) in
-          e ∙ ap₂ (λ (i j : ℕ). faultBy i j sent got) x y ∙ ap₂ (λ (i j : ℕ). faultBy (getD w (2048 + sourceOf s l) 0) (getD w (2048 + targetOf s l) 0) i j) ec ed
+          let x : a ≡ getD w (slotsAt + sourceOf s l) 0 = ea ∙ ap (λ (i : ℕ). getD w (slotsAt + i) 0) (es ∙ h .known .fields .source l kl) in
+          let y : t ≡ getD w (slotsAt + targetOf s l) 0 = eb ∙ ap (λ (i : ℕ). getD w (slotsAt + i) 0) (et ∙ h .known .fields .target l kl) in
+          e ∙ ap₂ (λ (i j : ℕ). faultBy i j sent got) x y ∙ ap₂ (λ (i j : ℕ). faultBy (getD w (slotsAt + sourceOf s l) 0) (getD w (slotsAt + targetOf s l) 0) i j) ec ed
           ∙ fault-is s b sheet w v h l kl o;
     }
 

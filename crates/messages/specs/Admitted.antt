@@ -13,7 +13,7 @@ use Rattle.bundle.specs.Counts.{commandCount}
 use Rattle.bundle.specs.Lies.{Laid}
 use Rattle.messages.specs.Messages.{at26, atMessage, at28}
 use Rattle.messages.specs.Fields.{Known}
-use Rattle.messages.specs.Notes.{Kept}
+use Rattle.messages.specs.Notes.{slotsEnd, Kept}
 use Rattle.messages.specs.Rules.{Given}
 use Rattle.messages.specs.declared.view.View.{View}
 use Rattle.messages.specs.declared.Judged.{Judged}
@@ -52,7 +52,7 @@ pub record Told (s : Sheet) (b : Bundle) (sheet bundle w : List ℕ) (v : View) 
   pub bytes : Bytes bundle
   pub read : readBundle s bundle ≡ value b
   pub laid : length bundle < 4294967296 → Laid (taskCount s) (linkCount s) bundle w (b .programmes)
-  pub long : 4352 ≤ length w
+  pub long : slotsEnd ≤ length w
 
 module _ (sheet bundle w : List ℕ) (v : View) (m c claim : ℕ) (r : Judged) where
   pub record MessagesIs : Type 0 where

@@ -39,7 +39,7 @@ pub record Fields (s : Sheet) (sheet : List ℕ) (front middle : ℕ) : Type 0 w
   pub bytes : (l : ℕ) → l < linkCount s → numberAt 2 sheet (bytesAt middle l) ≡ bytesOf s l
 
 -- the numbers of a view are in their ranges
-pub record Narrow (v : View) : Type 0 where
+pub record Bounded (v : View) : Type 0 where
   pub few-processors : v .processors ≤ 16
   pub few-tasks : v .tasks ≤ 256
   pub few-links : v .links ≤ 1024
@@ -59,4 +59,4 @@ pub record Known (s : Sheet) (sheet : List ℕ) (v : View) : Type 0 where
 pub record Seen (sheet : List ℕ) (v : View) : Type 0 where
   pub board : Sheet
   pub known : Known board sheet v
-  pub narrow : Narrow v
+  pub bounded : Bounded v

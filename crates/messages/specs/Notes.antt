@@ -17,6 +17,19 @@ use Rattle.bundle.specs.Format.{readBundle}
 use Rattle.bundle.specs.Fits.{Known}
 use Rattle.messages.specs.Counting.{weigh, wholeOf, is}
 
+-- the notes stand in the words from slotsAt up to slotsEnd: of runs first, then of sends, then of receives
+abbrev pub slotsAt : ℕ
+slotsAt = 2048
+
+abbrev pub sendsAt : ℕ
+sendsAt = 2304
+
+abbrev pub receivesAt : ℕ
+receivesAt = 3328
+
+abbrev pub slotsEnd : ℕ
+slotsEnd = 4352
+
 -- a slot for each command that a sheet allows, and the command of a slot
 abbrev pub slotOf : Command → ℕ
 slotOf (run t) = t
@@ -43,9 +56,9 @@ pub data Noted (b : Bundle) (k i : ℕ) (c : Command) (x : ℕ) : Type 0 where
   again : x ≡ 1 → 2 ≤ sofar b k i c → Noted b k i c x
   once : (j p : ℕ) → x ≡ 4096 * suc j + rank b j p → sofar b k i c ≡ 1 → getElem? (programmeOf b j) p ≡ some c → Noted b k i c x
 
--- words from 2048 on have the notes of all commands, and r were met
+-- words from slotsAt on have the notes of all commands, and r were met
 pub record Notes (s : Sheet) (b : Bundle) (k i r : ℕ) (w : List ℕ) : Type 0 where
-  pub note : (c : Command) → Known s c → Noted b k i c (getD w (2048 + slotOf c) 0)
+  pub note : (c : Command) → Known s c → Noted b k i c (getD w (slotsAt + slotOf c) 0)
   pub count : r ≡ rank b k i
 
 -- the slot and the size of the command at an offset; of a message, 0x53 and 0x56 are told apart by a carry
@@ -60,24 +73,24 @@ sizeAt b at = pick (eqb (getD b at 0) 0x52) 2 3
 
 -- a command of slot x was met in programme k, as the command number r
 unfoldable pub notedWords : List ℕ → ℕ → ℕ → ℕ → List ℕ
-notedWords w x k r = set w (2048 + x) (pick (eqb (getD w (2048 + x) 0) 0) ((4096 * (k % 16 + 1) + r) % 4294967296) 1)
+notedWords w x k r = set w (slotsAt + x) (pick (eqb (getD w (slotsAt + x) 0) 0) ((4096 * (k % 16 + 1) + r) % 4294967296) 1)
 
 -- the words before the notes are as they were
 pub record Kept (w last : List ℕ) : Type 0 where
   pub long : length last ≡ length w
-  pub low : (i : ℕ) → i < 2048 → getD last i 0 ≡ getD w i 0
+  pub low : (i : ℕ) → i < slotsAt → getD last i 0 ≡ getD w i 0
 
 -- no command is noted of n tasks and l links
 pub record BlankIs (w last : List ℕ) (n l : ℕ) : Type 0 where
   pub kept : Kept w last
-  pub runs : (t : ℕ) → t < n → getD last (2048 + slotOf (run t)) 0 ≡ 0
-  pub sends : (i : ℕ) → i < l → getD last (2048 + slotOf (send i)) 0 ≡ 0
-  pub receives : (i : ℕ) → i < l → getD last (2048 + slotOf (receive i)) 0 ≡ 0
+  pub runs : (t : ℕ) → t < n → getD last (slotsAt + slotOf (run t)) 0 ≡ 0
+  pub sends : (i : ℕ) → i < l → getD last (slotsAt + slotOf (send i)) 0 ≡ 0
+  pub receives : (i : ℕ) → i < l → getD last (slotsAt + slotOf (receive i)) 0 ≡ 0
 
 -- after the pass over any bundle, for a sheet of n tasks and l links
 pub record NotesIs (bundle w last : List ℕ) (n l : ℕ) : Type 0 where
   pub kept : Kept w last
-  pub notes : (s : Sheet) (b : Bundle) → taskCount s ≡ n → linkCount s ≡ l → taskCount s ≤ 256 → linkCount s ≤ 1024 → programmeCount b ≤ 16 → 4352 ≤ length w
+  pub notes : (s : Sheet) (b : Bundle) → taskCount s ≡ n → linkCount s ≡ l → taskCount s ≤ 256 → linkCount s ≤ 1024 → programmeCount b ≤ 16 → slotsEnd ≤ length w
       → ((i : ℕ) → getD bundle i 0 < 256) → readBundle s bundle ≡ value b → (r : ℕ) × Notes s b (programmeCount b) 0 r last
 
 -- by their notes, a command stands before another in one programme

@@ -4,7 +4,7 @@ use mathlib.Core.Path.{_≡_}
 use mathlib.Core.List.{List}
 use Rattle.sheet.specs.Sheet.{taskCount, linkCount}
 use Rattle.sheet.specs.Tables.{sheetIn, Loaded}
-use Rattle.messages.specs.Fields.{Fields, Narrow}
+use Rattle.messages.specs.Fields.{Fields, Bounded}
 use Rattle.messages.specs.declared.view.View.{View}
 
 -- where the tasks of a sheet begin: behind the board
@@ -12,7 +12,7 @@ abbrev pub frontOf : ℕ
 frontOf = 6
 
 pub record ViewIs (w : List ℕ) (v : View) : Type 0 where
-  pub narrow : Narrow v
+  pub bounded : Bounded v
   pub processors : v .processors ≡ sheetIn w .processors
   pub limit : v .limit ≡ sheetIn w .limit
   pub tasks : v .tasks ≡ taskCount (sheetIn w)

@@ -1,7 +1,8 @@
 // 21 to 26 and 31 to 33: reads any bytes as a bundle and tries its tasks and messages, for a sheet that is given by its view and its bytes.
 ghost use Prim.Native.Nat.{_≤_};
 ghost use lib.ListN.{length};
-ghost use Rattle.messages.specs.Fields.{Narrow};
+ghost use Rattle.messages.specs.Fields.{Bounded};
+ghost use Rattle.messages.specs.Notes.{slotsEnd};
 ghost use Rattle.messages.specs.Admitted.{MessagesIs, RulesIs, JudgeIs};
 use crate::Judged;
 use crate::notes::note_all;
@@ -22,7 +23,7 @@ fn messages(
     c: usize,
     claim: usize,
 ) -> Judged
-    requires { ⌜ Narrow v × (4352 ≤ length (now w)) ⌝ }
+    requires { ⌜ Bounded v × (slotsEnd ≤ length (now w)) ⌝ }
     ensures { λ r. ⌜ MessagesIs (now (sheet .entry)) (now (bundle .entry)) (now (w .entry)) v m c claim r ⌝ }
 {
     match wrong_message(sheet, w, v) {
@@ -41,7 +42,7 @@ fn rules(
     c: usize,
     claim: usize,
 ) -> Judged
-    requires { ⌜ Narrow v × (4352 ≤ length (now w)) ⌝ }
+    requires { ⌜ Bounded v × (slotsEnd ≤ length (now w)) ⌝ }
     ensures { λ r. ⌜ RulesIs (now (sheet .entry)) (now (bundle .entry)) (now (w .entry)) v m c claim r (now (w .exit)) ⌝ }
 {
     note_all(bundle, w, v.tasks, v.links);
@@ -53,7 +54,7 @@ fn rules(
 
 // 21 to 26 and 31 to 33 of a bundle. The offsets of the programmes are left in the words.
 pub fn judge(sheet: &[u8], bundle: &[u8], w: &mut [u32], v: View) -> Judged
-    requires { ⌜ Narrow v × (4352 ≤ length (now w)) ⌝ }
+    requires { ⌜ Bounded v × (slotsEnd ≤ length (now w)) ⌝ }
     ensures { λ r. ⌜ JudgeIs (now (sheet .entry)) (now (bundle .entry)) (now (w .entry)) (now (w .exit)) v r ⌝ }
 {
     match bundle_reader::bytes::read(bundle, v.processors, v.tasks, v.links, w) {

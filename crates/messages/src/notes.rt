@@ -4,7 +4,14 @@ ghost use Prim.Native.Nat.{_+_, _*_, _≤_, _<_};
 ghost use lib.ListN.{length, getD};
 ghost use lib.Dec.{eqb};
 ghost use Rattle.folds.specs.Folds.{bit};
-ghost use Rattle.messages.specs.Notes.{messageAt, notedWords, BlankIs, NotesIs};
+ghost use Rattle.messages.specs.Notes.{slotsAt, slotsEnd, messageAt, notedWords, BlankIs, NotesIs};
+
+// Where the notes of runs, of sends and of receives stand.
+pub const NOTES: usize = 2048;
+
+pub const SENDS: usize = 2304;
+
+pub const RECEIVES: usize = 3328;
 
 // The slot of the send or receive at `at`. A sum and no test: which of them stands there cannot be foretold.
 fn message(bundle: &[u8], at: usize) -> usize
@@ -19,29 +26,29 @@ fn message(bundle: &[u8], at: usize) -> usize
 // A command of slot x was met in programme k, r others before it: how many were met now.
 fn note(w: &mut [u32], x: usize, k: usize, r: usize) -> usize
     requires { ⌜ (x < 66816) × (2 * r < 18446744073709551616) ⌝ }
-    ensures { λ n. ⌜ (now (w .exit) ≡ notedWords (now (w .entry)) x k r) × (n ≡ r + bit (eqb (getD (now (w .entry)) (2048 + x) 0) 0)) ⌝ }
+    ensures { λ n. ⌜ (now (w .exit) ≡ notedWords (now (w .entry)) x k r) × (n ≡ r + bit (eqb (getD (now (w .entry)) (slotsAt + x) 0) 0)) ⌝ }
 {
-    if words::word(w, 2048 + x) == 0 {
-        words::put(w, 2048 + x, 4096 * (k % 16 + 1) + r);
+    if words::word(w, NOTES + x) == 0 {
+        words::put(w, NOTES + x, 4096 * (k % 16 + 1) + r);
         return r + 1;
     }
-    words::put(w, 2048 + x, 1);
+    words::put(w, NOTES + x, 1);
     r
 }
 
 // No command is noted of n tasks and l links. The other slots stay: no command of a bundle that was read has one.
 fn blank(w: &mut [u32], n: usize, l: usize)
-    requires { ⌜ (n ≤ 256) × (l ≤ 1024) × (4352 ≤ length (now w)) ⌝ }
+    requires { ⌜ (n ≤ 256) × (l ≤ 1024) × (slotsEnd ≤ length (now w)) ⌝ }
     ensures { λ _. ⌜ BlankIs (now (w .entry)) (now (w .exit)) n l ⌝ }
 {
-    workspace::clear_words(w, 2048, 2048 + n);
-    workspace::clear_words(w, 2304, 2304 + l);
-    workspace::clear_words(w, 3328, 3328 + l);
+    workspace::clear_words(w, NOTES, NOTES + n);
+    workspace::clear_words(w, SENDS, SENDS + l);
+    workspace::clear_words(w, RECEIVES, RECEIVES + l);
 }
 
-// Notes all commands of a bundle for a sheet of n tasks and l links, in the words from 2048 on.
+// Notes all commands of a bundle for a sheet of n tasks and l links, in the words from NOTES on.
 pub fn note_all(bundle: &[u8], w: &mut [u32], n: usize, l: usize)
-    requires { ⌜ (n ≤ 256) × (l ≤ 1024) × (4352 ≤ length (now w)) ⌝ }
+    requires { ⌜ (n ≤ 256) × (l ≤ 1024) × (slotsEnd ≤ length (now w)) ⌝ }
     ensures { λ _. ⌜ NotesIs (now (bundle .entry)) (now (w .entry)) (now (w .exit)) n l ⌝ }
 {
     blank(w, n, l);

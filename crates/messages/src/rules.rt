@@ -4,9 +4,10 @@ ghost use mathlib.Core.List.{[], _∷_};
 ghost use Prim.Native.Nat.{_≤_, _<_};
 ghost use lib.ListN.{length};
 ghost use Rattle.folds.specs.Folds.{firstOf};
-ghost use Rattle.messages.specs.Fields.{Narrow};
-ghost use Rattle.messages.specs.Notes.{ahead, sendBy, receiveBy, orderBy, faultBy};
+ghost use Rattle.messages.specs.Fields.{Bounded};
+ghost use Rattle.messages.specs.Notes.{slotsEnd, ahead, sendBy, receiveBy, orderBy, faultBy};
 ghost use Rattle.messages.specs.Rules.{OnceIs, numbered, LinkIs, MessageIs};
+use crate::notes::NOTES;
 use crate::view::View;
 use words::Found;
 
@@ -23,7 +24,7 @@ pub fn not_once(w: &[u32], n: usize) -> Found
 {
     let mut t = 0;
     while t < n {
-        if words::word(w, 2048 + t) < 2 {
+        if words::word(w, NOTES + t) < 2 {
             return Found::At(t);
         }
         t += 1;
@@ -106,21 +107,21 @@ fn fault_by(source: usize, target: usize, sent: usize, got: usize) -> u8
 
 // What is wrong with the messages of link l: 31, 32, 33, or 0.
 fn link_fault(sheet: &[u8], w: &[u32], v: View, l: usize) -> u8
-    requires { ⌜ Narrow v × (l < 1024) × (4352 ≤ length (now w)) ⌝ }
+    requires { ⌜ Bounded v × (l < 1024) × (slotsEnd ≤ length (now w)) ⌝ }
     ensures { λ r. ⌜ LinkIs (now (sheet .entry)) (now (w .entry)) v l r ⌝ }
 {
     let source = words::byte(sheet, v.source_at(l));
     let target = words::byte(sheet, v.target_at(l));
-    let a = workspace::word(w, 2048 + source);
-    let t = workspace::word(w, 2048 + target);
-    let sent = workspace::word(w, 2048 + (256 + l));
-    let got = workspace::word(w, 2048 + (1280 + l));
+    let a = workspace::word(w, NOTES + source);
+    let t = workspace::word(w, NOTES + target);
+    let sent = workspace::word(w, NOTES + (256 + l));
+    let got = workspace::word(w, NOTES + (1280 + l));
     fault_by(a, t, sent, got)
 }
 
 // 31 to 33: the lowest link in fault, and the number of its fault.
 pub fn wrong_message(sheet: &[u8], w: &[u32], v: View) -> Fault
-    requires { ⌜ Narrow v × (4352 ≤ length (now w)) ⌝ }
+    requires { ⌜ Bounded v × (slotsEnd ≤ length (now w)) ⌝ }
     ensures { λ r. ⌜ MessageIs (now (sheet .entry)) (now (w .entry)) v r ⌝ }
 {
     let mut l = 0;

@@ -1,9 +1,8 @@
 // A sheet for who reads its numbers from its bytes: its counts, and where its tasks and its links begin.
 ghost use mathlib.Core.Path.{_≡_};
 ghost use Prim.Native.Nat.{_<_};
-ghost use Rattle.sheet.specs.Sheet.{taskCount, linkCount};
-ghost use Rattle.sheet.specs.Tables.{sheetIn, Loaded};
-ghost use Rattle.messages.specs.Fields.{workAt, storeAt, sourceAt, targetAt, costAt, Narrow};
+ghost use Rattle.sheet.specs.Tables.{Loaded};
+ghost use Rattle.messages.specs.Fields.{workAt, storeAt, sourceAt, targetAt, costAt, Bounded};
 ghost use Rattle.messages.specs.Views.{ViewIs};
 
 // The least offset of a task: behind the board.
@@ -21,7 +20,7 @@ pub struct View {
 impl View {
     // Where the work of task t stands.
     pub fn work_at(self, t: usize) -> usize
-        requires { ⌜ Narrow self × (t < 65536) ⌝ }
+        requires { ⌜ Bounded self × (t < 65536) ⌝ }
         ensures { λ r. ⌜ r ≡ workAt (self .front) t ⌝ }
     {
         self.front + 1 + 5 * t
@@ -29,7 +28,7 @@ impl View {
 
     // Where the store of task t stands.
     pub fn store_at(self, t: usize) -> usize
-        requires { ⌜ Narrow self × (t < 65536) ⌝ }
+        requires { ⌜ Bounded self × (t < 65536) ⌝ }
         ensures { λ r. ⌜ r ≡ storeAt (self .front) t ⌝ }
     {
         self.front + 3 + 5 * t
@@ -37,7 +36,7 @@ impl View {
 
     // Where the source of link l stands.
     pub fn source_at(self, l: usize) -> usize
-        requires { ⌜ Narrow self × (l < 65536) ⌝ }
+        requires { ⌜ Bounded self × (l < 65536) ⌝ }
         ensures { λ r. ⌜ r ≡ sourceAt (self .middle) l ⌝ }
     {
         self.middle + 1 + 7 * l
@@ -45,7 +44,7 @@ impl View {
 
     // Where the target of link l stands.
     pub fn target_at(self, l: usize) -> usize
-        requires { ⌜ Narrow self × (l < 65536) ⌝ }
+        requires { ⌜ Bounded self × (l < 65536) ⌝ }
         ensures { λ r. ⌜ r ≡ targetAt (self .middle) l ⌝ }
     {
         self.middle + 2 + 7 * l
@@ -53,7 +52,7 @@ impl View {
 
     // Where the cost of link l stands; its bytes stand two behind.
     pub fn cost_at(self, l: usize) -> usize
-        requires { ⌜ Narrow self × (l < 65536) ⌝ }
+        requires { ⌜ Bounded self × (l < 65536) ⌝ }
         ensures { λ r. ⌜ r ≡ costAt (self .middle) l ⌝ }
     {
         self.middle + 3 + 7 * l

@@ -1,5 +1,5 @@
 -- One choice: what each way through `step` makes of words that represent a state.
-use Prim.Native.Nat.{ℕ, zero, suc, _+_, _*_, _/_, _%_, _-_, _<_, _≤_, max}
+use Prim.Native.Nat.{ℕ, zero, suc, _+_, _*_, _%_, _-_, _<_, _≤_, max}
 use mathlib.Core.Path.{_≡_, refl, sym, ap, _∙_, subst}
 use mathlib.Core.Bool.{Bool, true, false, not, true≢false}
 use mathlib.Core.Option.{none, some, Option·some-injective}
@@ -12,13 +12,12 @@ use lib.Seq.{getD-set-same, getD-set-other}
 use lib.Dec.{eqb}
 use borrow.Author.Tests.{eqb-true, not-false, eq-eqb}
 use Rattle.folds.specs.Folds.{pick}
-use Rattle.sheet.specs.Sheet.{Sheet, linkCount, workOf, storeOf, costOf, bytesOf}
+use Rattle.sheet.specs.Sheet.{Sheet, workOf, storeOf, costOf, bytesOf}
 use Rattle.bundle.specs.Bundle.{Command, run, send, receive, Bundle, programmeOf}
 use Rattle.bundle.specs.Fits.{Known}
 use Rattle.messages.specs.Counting.{each, need as demands}
 use Rattle.machine.specs.Machine.{State, processorOf, stampOf, next, waits, takes, stated, moved, step, canStep, stampIn}
 use Rattle.machine.specs.Runs.{chosen, left}
-use Rattle.machine.specs.Kept.{StepIs}
 use Rattle.machine.proofs.Steps.{move-step, left-moved, stamp-sent, stamp-other}
 use Rattle.machine.proofs.Kept.{goes, no-next, no-wait, none-of, step-is}
 use Rattle.stepping_machine.specs.Layout as lay

@@ -1,16 +1,16 @@
 -- The fresh state: programmes that stand in the words, and every processor before its first command.
-use Prim.Native.Nat.{ℕ, suc, _+_, _*_, _≤_, _<_}
-use mathlib.Core.Path.{_≡_, refl, sym, ap, _∙_}
-use mathlib.Core.Option.{Option, none, some}
+use Prim.Native.Nat.{ℕ, _≤_, _<_}
+use mathlib.Core.Path.{_≡_, sym, ap, _∙_}
+use mathlib.Core.Option.{Option, none}
 use mathlib.Core.List.{List}
 use native.Mathlib.Omega.{arith}
-use lib.ListN.{length, getD, length-replicate}
+use lib.ListN.{length-replicate}
 use Rattle.folds.proofs.Tests.{not-some}
 use Rattle.folds.proofs.Lists.{getD-replicate}
 use Rattle.sheet.specs.Sheet.{Sheet, linkCount}
-use Rattle.bundle.specs.Bundle.{Bundle, programmeOf, programmeCount}
+use Rattle.bundle.specs.Bundle.{Bundle}
 use Rattle.messages.specs.Counting.{whole, each}
-use Rattle.machine.specs.Machine.{State, freshState, freshProcessor, processorOf, stampOf, stampIn}
+use Rattle.machine.specs.Machine.{freshState, stampOf, stampIn}
 use Rattle.machine.specs.Runs.{left}
 use Rattle.machine.proofs.Runs.{fresh-processor, fresh-left}
 use Rattle.stepping_machine.specs.Layout as lay

@@ -6,7 +6,7 @@ use mathlib.Core.Option.{none, some}
 use mathlib.Core.List.{List, [], _∷_, _++_}
 use native.Mathlib.Omega.{arith}
 use native.Mathlib.Decide.{decLt}
-use lib.ListN.{length, getD, length-set}
+use lib.ListN.{length, length-set}
 use Rattle.folds.specs.Folds.{bit}
 use Rattle.sheet.specs.Sheet.{Sheet}
 use Rattle.bundle.specs.Bundle.{Bundle, programmeCount}
@@ -19,7 +19,7 @@ use Rattle.stepping_machine.specs.Layout as lay
 use Rattle.stepping_machine.specs.Words.{countIn}
 use Rattle.stepping_machine.specs.Represents.{Represents, ChoiceIs}
 use Rattle.stepping_machine.specs.Settling.{Goes, Halts, AdvanceIs, RoundIs, SettleIs}
-use Rattle.machine.proofs.Steps.{step-can, step-move, left-moved, step-below}
+use Rattle.machine.proofs.Steps.{step-can, step-move, left-moved}
 use Rattle.machine.proofs.Runs.{keeps}
 use Rattle.machine.proofs.Orders.{no-step, any-run}
 use Rattle.machine.proofs.Choices.{from-then}

@@ -1,7 +1,7 @@
 -- A command decoded, and a programme, command by command.
 use Prim.Native.Nat.{ℕ, zero, suc, _+_, _*_, _/_, _%_, _≤_, _<_, max}
 use mathlib.Core.Path.{_≡_, refl, sym, ap, _∙_}
-use mathlib.Core.Logic.{_⊎_, inl, inr, ⊎-elim}
+use mathlib.Core.Logic.{_⊎_, ⊎-elim}
 use mathlib.Core.Bool.{Bool, true, false}
 use mathlib.Core.List.{List, [], _∷_}
 use native.Mathlib.Omega.{arith}
@@ -27,7 +27,7 @@ use Rattle.stepping_machine.specs.declared.decoding.Coded.{Coded}
 use Rattle.stepping_machine.specs.Layout as lay
 use Rattle.stepping_machine.specs.Words.{wordOf}
 use Rattle.stepping_machine.specs.Represents.{Decoded}
-use Rattle.stepping_machine.specs.Loads.{Placed, CodeIs, ProgrammeIs}
+use Rattle.stepping_machine.specs.Loads.{Decodable, CodeIs, ProgrammeIs}
 use Rattle.stepping_machine.proofs.Packing.{word-fits}
 
 -- a number at an offset that is told
@@ -35,7 +35,7 @@ pub number-there : (b : List ℕ) (i j x : ℕ) → x ≡ numberAt 2 b i → i �
 number-there b i j x e f = e ∙ ap (numberAt 2 b) f
 
 -- what decoding asks: where it reads is inside
-module _ (sheet bundle : List ℕ) (v : View) (o e : ℕ) (g : Placed sheet bundle v o e) (below : o < e) where
+module _ (sheet bundle : List ℕ) (v : View) (o e : ℕ) (g : Decodable sheet bundle v o e) (below : o < e) where
   there : Next (v .tasks) (v .links) bundle o e (g .commands)
   there = lies-next (v .tasks) (v .links) bundle (g .lies) below
 
@@ -52,7 +52,7 @@ module _ (sheet bundle : List ℕ) (v : View) (o e : ℕ) (g : Placed sheet bund
     task-inside t z et = by (there .command) (there .stands)
       where
         by : (d : Command) → Stands (v .tasks) (v .links) bundle o d → v .front + 5 * t + 5 ≤ length sheet
-        by (run y) h = omega (arith, h .1, h .2, g .narrow .behind, g .inside)
+        by (run y) h = omega (arith, h .1, h .2, g .bounded .behind, g .inside)
         by (send y) h = absurd (omega (arith, h .0))
         by (receive y) h = absurd (omega (arith, h .0))
 
@@ -74,11 +74,11 @@ module _ (sheet bundle : List ℕ) (v : View) (o e : ℕ) (g : Placed sheet bund
           by (receive y) h = (omega (arith, h .1, h .2, g .inside), omega (arith, h .0))
 
   -- behind that command
-  pub placed-more : (r : ℕ) → ((t l : ℕ) (c : Command) → Stands t l bundle o c → r ≡ sizeOf c) → Placed sheet bundle v (o + r) e
-  placed-more r h =
+  pub decodable-more : (r : ℕ) → ((t l : ℕ) (c : Command) → Stands t l bundle o c → r ≡ sizeOf c) → Decodable sheet bundle v (o + r) e
+  decodable-more r h =
       let n = there in
       record {
-        narrow = g .narrow;
+        bounded = g .bounded;
         inside = g .inside;
         commands = n .rest;
         lies = rw (h (v .tasks) (v .links) (n .command) (n .stands)) (n .behind);
@@ -156,7 +156,7 @@ pub record Part (s : Sheet) (bundle w : List ℕ) (e a from to sum : ℕ) (cs : 
   pub needed : sum ≡ weigh (need s) (take count cs)
 
 pub record Loading (sheet bundle u w : List ℕ) (v : View) (o e a from to sum : ℕ) : Type 0 where
-  pub placed : Placed sheet bundle v from e
+  pub decodable : Decodable sheet bundle v from e
   pub long : length w ≡ length u
   pub ahead : a ≤ to
   pub slow : to + o ≤ a + from
@@ -166,11 +166,11 @@ pub record Loading (sheet bundle u w : List ℕ) (v : View) (o e a from to sum :
   pub is : (s : Sheet) (cs : List Command) → Known s sheet v → Lies (taskCount s) (linkCount s) bundle o e cs → a + length cs < length u → Part s bundle w e a from to sum cs
 
 module _ (sheet bundle u : List ℕ) (v : View) (o e a : ℕ) where
-  pub loading-starts : Placed sheet bundle v o e → Loading sheet bundle u u v o e a o a 0
+  pub loading-starts : Decodable sheet bundle v o e → Loading sheet bundle u u v o e a o a 0
   unfolding weigh
   loading-starts g =
       record {
-        placed = g;
+        decodable = g;
         long = refl;
         ahead = omega arith;
         slow = omega arith;
@@ -224,7 +224,7 @@ module _ (sheet bundle u : List ℕ) (v : View) (o e a : ℕ) where
     pub loading-more : Loading sheet bundle u x v o e a (from + d .size) (to + 1) (sum + d .need)
     loading-more =
         record {
-          placed = placed-more sheet bundle v from e (g .placed) below (d .size) (h .sized);
+          decodable = decodable-more sheet bundle v from e (g .decodable) below (d .size) (h .sized);
           long = ap length ex ∙ length-set w to _ ∙ g .long;
           ahead = omega (arith, g .ahead);
           slow = omega (arith, g .slow, h .some);

@@ -27,9 +27,9 @@ use Rattle.messages.specs.declared.view.View.{View}
 use Rattle.messages.proofs.Weights.{weigh-each}
 use Rattle.machine.specs.Machine.{freshState}
 use Rattle.stepping_machine.specs.Layout as lay
-use Rattle.stepping_machine.specs.Words.{nextIn, firstIn, lastIn, needIn, openedWords}
+use Rattle.stepping_machine.specs.Words.{nextIn, firstIn, lastIn, openedWords}
 use Rattle.stepping_machine.specs.Represents.{Decoded, Programmed, Represents, Within}
-use Rattle.stepping_machine.specs.Loads.{Placed, Ready, ProgrammeIs, Opens, OneIs, Given, AllIs, RestIs, WipeIs, NeedsIs, LoadIs}
+use Rattle.stepping_machine.specs.Loads.{Decodable, Ready, ProgrammeIs, Opens, OneIs, LaidOut, AllIs, RestIs, WipeIs, NeedsIs, LoadIs}
 use Rattle.stepping_machine.proofs.Moves.{decoded-same}
 use Rattle.stepping_machine.proofs.Fresh.{fresh-represented}
 
@@ -78,8 +78,8 @@ module _ (w u : List ℕ) (k first last : ℕ) (e : u ≡ openedWords w k first 
         ap (λ (x : List ℕ). getD x (lay.lasts + k) 0) e ∙ simp getD-set-same
 
 -- where the offsets are read
-pub placed-at : (sheet bundle w : List ℕ) (v : View) (k x e : ℕ) → x ≡ getD w k 0 → e ≡ getD w (k + 1) 0 → Placed sheet bundle v (getD w k 0 + 2) (getD w (suc k) 0) → Placed sheet bundle v (x + 2) e
-placed-at sheet bundle w v k x e ex ee g = rw (ex, ee, add-one) g
+pub decodable-at : (sheet bundle w : List ℕ) (v : View) (k x e : ℕ) → x ≡ getD w k 0 → e ≡ getD w (k + 1) 0 → Decodable sheet bundle v (getD w k 0 + 2) (getD w (suc k) 0) → Decodable sheet bundle v (x + 2) e
+decodable-at sheet bundle w v k x e ex ee g = rw (ex, ee, add-one) g
 
 -- one programme, from the index c on
 pub one-loaded : (sheet bundle w u last : List ℕ) (v : View) (k c x e r n : ℕ) → k < 16 → lay.extent ≤ length w → lay.commands ≤ c → x ≡ getD w k 0 → e ≡ getD w (k + 1) 0 → e < 4294967296
@@ -117,7 +117,7 @@ pub record Going (sheet bundle u w : List ℕ) (v : View) (m c k : ℕ) : Type 0
   pub behind : lay.commands ≤ c
   pub few : c ≤ lay.commands + k * 4294967300
   pub rest : (i : ℕ) → k ≤ i → i < 17 → getD w i 0 ≡ getD u i 0
-  pub is : (s : Sheet) (b : Bundle) → Given sheet bundle u v m s b
+  pub is : (s : Sheet) (b : Bundle) → LaidOut sheet bundle u v m s b
       → (c ≡ lay.commands + sum k (wholeOf b each) + k) × ((j : ℕ) → j < k → Opens s w c j (programmeOf b j)) × ((j : ℕ) → j < k → overStore s b j ≡ false)
 
 module _ (sheet bundle u : List ℕ) (v : View) (m : ℕ) (few : m ≤ 16) where
@@ -133,10 +133,10 @@ module _ (sheet bundle u : List ℕ) (v : View) (m : ℕ) (few : m ≤ 16) where
       }
 
   -- what the next programme asks
-  pub going-placed : (w : List ℕ) (c k : ℕ) → Ready sheet bundle u v m → Going sheet bundle u w v m c k → k < m → Placed sheet bundle v (getD w k 0 + 2) (getD w (suc k) 0)
-  going-placed w c k y g below =
+  pub going-decodable : (w : List ℕ) (c k : ℕ) → Ready sheet bundle u v m → Going sheet bundle u w v m c k → k < m → Decodable sheet bundle v (getD w k 0 + 2) (getD w (suc k) 0)
+  going-decodable w c k y g below =
       record {
-        narrow = y .narrow;
+        bounded = y .bounded;
         inside = y .inside;
         commands = getD (y .programmes) k [];
         lies = rw (g .rest k (omega arith) (omega arith), g .rest (suc k) (omega arith) (omega arith)) (y .laid .lies k (omega (arith, y .count)));
@@ -156,7 +156,7 @@ module _ (sheet bundle u : List ℕ) (v : View) (m : ℕ) (few : m ≤ 16) where
   sum-more b k = rw add-one (omega (arith, weigh-each (programmeOf b k)))
 
   module _ (w x : List ℕ) (c k r n : ℕ) (g : Going sheet bundle u w v m c k) (below : k < m) (h : OneIs sheet bundle w x v k c r n) where
-    module _ (s : Sheet) (b : Bundle) (given : Given sheet bundle u v m s b) where
+    module _ (s : Sheet) (b : Bundle) (given : LaidOut sheet bundle u v m s b) where
       done : (r ≡ c + length (programmeOf b k) + 1) × Opens s x r k (programmeOf b k) × (n ≡ weigh (need s) (programmeOf b k))
       unfolding programmeCount programmeOf
       done =
@@ -317,7 +317,7 @@ pub record Waiting (s : Sheet) (b : Bundle) (w : List ℕ) (e k : ℕ) : Type 0 
 
 -- all together: the fresh state
 module _ (sheet bundle w a r d last : List ℕ) (v : View) (m : ℕ) (long : lay.extent ≤ length w) (p : AllIs sheet bundle w a v m Nothing) (q : RestIs a r m 16) (z : WipeIs r d m (v .links))
-    (n : NeedsIs sheet d last (v .front) (v .tasks)) (s : Sheet) (b : Bundle) (given : Given sheet bundle w v m s b) where
+    (n : NeedsIs sheet d last (v .front) (v .tasks)) (s : Sheet) (b : Bundle) (given : LaidOut sheet bundle w v m s b) where
   -- the index behind all commands
   abbrev end : ℕ
   end = lay.commands + whole b each + m

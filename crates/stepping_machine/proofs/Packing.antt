@@ -1,5 +1,5 @@
 -- A command's word: its three fields read back, and their bounds.
-use Prim.Native.Nat.{ℕ, _+_, _≤_, _<_}
+use Prim.Native.Nat.{ℕ, _≤_, _<_}
 use mathlib.Core.Path.{_≡_, ap, _∙_}
 use native.Mathlib.Omega.{arith}
 use Rattle.sheet.specs.Sheet.{Sheet}
@@ -10,7 +10,7 @@ use Rattle.stepping_machine.specs.Layout as lay
 use Rattle.stepping_machine.specs.Words.{codeOf, kindIn, numberIn, amountIn, kindOf, numberOf, amountOf, wordOf}
 
 -- of any three numbers in their ranges
-module _ (kind number amount : ℕ) (k : kind < 8) (n : number < 2048) (a : amount < lay.numbers) where
+module _ (kind number amount : ℕ) (k : kind < 8) (n : number < lay.span) (a : amount < lay.numbers) where
   pub code-fits : codeOf kind number amount < 4294967296
   code-fits = omega arith
 
@@ -29,7 +29,7 @@ kind-small (send l) = (omega arith, omega arith)
 kind-small (receive l) = (omega arith, omega arith)
 
 module _ (s : Sheet) (ranged : Ranged s) where
-  pub number-small : (c : Command) → Known s c → numberOf c < 2048
+  pub number-small : (c : Command) → Known s c → numberOf c < lay.span
   number-small (run t) o = omega (arith, ranged .few-tasks)
   number-small (send l) o = omega (arith, ranged .few-links)
   number-small (receive l) o = omega (arith, ranged .few-links)

@@ -1,7 +1,7 @@
 -- 21 to 26, 31 to 33 and 28 of any bytes, or the fresh state: in the work area, and copied.
 use Prim.Native.Nat.{ℕ, _+_, _-_, _≤_, _<_}
 use mathlib.Core.Path.{_≡_, refl, sym, ap, _∙_, subst}
-use mathlib.Core.Option.{Option, none, some}
+use mathlib.Core.Option.{Option}
 use mathlib.Core.List.{List}
 use mathlib.Core.Logic.{inl, inr, ⊎-elim}
 use native.Mathlib.Omega.{arith}
@@ -29,7 +29,7 @@ use Rattle.bundle.specs.Format.{readBundle}
 use Rattle.bundle.specs.Counts.{commandCount}
 use Rattle.bundle.proofs.Rounds.{read-formed}
 use Rattle.messages.specs.Counting.{whole, each}
-use Rattle.messages.specs.Messages.{at28, Published}
+use Rattle.messages.specs.Messages.{Published}
 use Rattle.messages.specs.Fields.{Known, Seen}
 use Rattle.messages.specs.Views.{ViewIs, Shown}
 use Rattle.messages.specs.Admitted.{publishedBytes, admitted, admittedBytes, judgedOf, JudgeIs}
@@ -43,7 +43,7 @@ use Rattle.messages.proofs.Written.{fields-read}
 use Rattle.machine.specs.Machine.{State, freshState}
 use Rattle.stepping_machine.specs.Layout as lay
 use Rattle.stepping_machine.specs.Represents.{Represents, Within}
-use Rattle.stepping_machine.specs.Loads.{Ready, Given, LoadIs}
+use Rattle.stepping_machine.specs.Loads.{Ready, LaidOut, LoadIs}
 use Rattle.stepping_machine.specs.Starts.{AdmitIs, CopyIs, HandIs, BeginIs, OpenIs, starting, startedOf, BytesIs}
 use Rattle.stepping_machine.proofs.Moves.{decoded-same}
 
@@ -77,7 +77,7 @@ module _ (sheet bundle w u : List ℕ) (v : View) (f : Judged) (h : JudgeIs shee
         by (value b) q z = (b, q, z)
         by (refused i j) q z = never (sym z)
 
-    given : (s : Sheet) → Known s sheet v → (b : Bundle) → publishedBytes s bundle ≡ value b → Fit m c claim ≡ judgedOf (value b) → Given sheet bundle u v m s b
+    given : (s : Sheet) → Known s sheet v → (b : Bundle) → publishedBytes s bundle ≡ value b → Fit m c claim ≡ judgedOf (value b) → LaidOut sheet bundle u v m s b
     given s k b q z =
         let p = read-published s bundle b q in
         let few : programmeCount b ≤ 16 = few-programmes s bundle b (p .0) (k .ranged .few-processors) in
@@ -99,7 +99,7 @@ module _ (sheet bundle w u : List ℕ) (v : View) (f : Judged) (h : JudgeIs shee
         let o = found (y .board) k in
         let g = given (y .board) k (o .0) (o .1) (o .2) in
         record {
-          narrow = y .narrow;
+          bounded = y .bounded;
           inside = omega (arith, k .fields .inside, k .links);
           programmes = o .0 .programmes;
           count = g .programmes;
@@ -262,7 +262,7 @@ module _ (sheet bundle w u state : List ℕ) (v : View) (f : Judged) (h : AdmitI
         }
 
 -- for the sheet in the tables
-pub opened-in : (work sheet bundle part after state last : List ℕ) (v : View) (r : Judged) → Shown sheet work → ViewIs work v → BeginIs sheet bundle (midOf 16 (length work - 16) work) part state last v r
+pub opened-in : (work sheet bundle part after state last : List ℕ) (v : View) (r : Judged) → Shown sheet work → ViewIs work v → BeginIs sheet bundle (midOf lay.board (length work - lay.board) work) part state last v r
     → length after ≡ length work → OpenIs sheet bundle work after state last r
 opened-in work sheet bundle part after state last v r h g y e =
     let k = known-in work sheet v h g in
@@ -274,8 +274,8 @@ opened-in work sheet bundle part after state last v r h g y e =
       represents = λ b z. y .represents (sheetIn work) k b z;
     }
 
-pub part-extent : (w : List ℕ) → fixed ≤ length w → lay.extent ≤ length (midOf 16 (length w - 16) w)
-part-extent w h = omega (arith, part-long w 16)
+pub part-extent : (w : List ℕ) → fixed ≤ length w → lay.extent ≤ length (midOf lay.board (length w - lay.board) w)
+part-extent w h = omega (arith, part-long w lay.board)
 
 -- the sheet beside its bundle, or the refusal
 abbrev beside : Sheet → Answer Bundle → Answer (Sheet × Bundle)

@@ -5,22 +5,21 @@ use mathlib.Core.Option.{none}
 use mathlib.Core.List.{List}
 use mathlib.Core.Logic.{⊎-elim}
 use native.Mathlib.Omega.{arith}
-use native.Mathlib.Decide.{decLt}
 use native.Mathlib.Numerals.{add-one}
-use lib.ListN.{length, getD, drop, length-drop, List·getD-eq-default}
+use lib.ListN.{length, drop, length-drop, List·getD-eq-default}
 use lib.Seq.{drop-nil}
 use lib.Dec.{ltb}
 use Rattle.folds.specs.Folds.{sum, greatest}
 use Rattle.folds.proofs.Tests.{ltb-same}
 use Rattle.folds.proofs.Laws.{sum-cong, sum-skip, sum-zeros, greatest-cong}
-use Rattle.sheet.specs.Sheet.{Sheet, linkCount}
+use Rattle.sheet.specs.Sheet.{Sheet}
 use Rattle.bundle.specs.Bundle.{Command, Bundle, programmeCount, programmeOf}
 use Rattle.messages.specs.Counting.{weigh, each}
 use Rattle.messages.proofs.Weights.{programme-or, weigh-each}
 use Rattle.machine.specs.Machine.{State, Processor, freshProcessor, processorOf, stampOf, stampIn}
 use Rattle.machine.specs.Runs.{leftOf, left, clockOf, latest}
 use Rattle.stepping_machine.specs.Layout as lay
-use Rattle.stepping_machine.specs.Words.{Blank, nextIn, clockIn, storeIn, firstIn, lastIn, countIn, linksIn, stampedIn}
+use Rattle.stepping_machine.specs.Words.{nextIn, clockIn, storeIn, firstIn, lastIn, countIn, linksIn, stampedIn}
 use Rattle.stepping_machine.specs.Represents.{Represents, LeftIs, ClockIs, PositionIs, StoreIs, StampIs}
 
 module _ (w : List ℕ) (k r : ℕ) where

@@ -47,9 +47,16 @@ commands = 1376
 abbrev pub extent : ℕ
 extent = 4976
 
--- the fields of a word: 18 bits, 11 bits and 3 bits
+-- the words of the work area before the machine's
+abbrev pub board : ℕ
+board = 16
+
+-- the fields of a word: 18 bits, 11 bits (a number below `span`) and 3 bits
 abbrev pub numbers : ℕ
 numbers = 262144
+
+abbrev pub span : ℕ
+span = 2048
 
 abbrev pub kinds : ℕ
 kinds = 536870912

@@ -13,7 +13,7 @@ use Rattle.bundle.specs.Bundle.{Command, Bundle, programmeCount, programmeOf}
 use Rattle.bundle.specs.Lies.{sizeOf, Stands, Lies, Laid}
 use Rattle.messages.specs.Counting.{weigh, whole, each, need}
 use Rattle.messages.specs.Messages.{at28}
-use Rattle.messages.specs.Fields.{storeAt, Narrow, Known, Seen}
+use Rattle.messages.specs.Fields.{storeAt, Bounded, Known}
 use Rattle.messages.specs.declared.view.View.{View}
 use Rattle.machine.specs.Machine.{freshState}
 use Rattle.stepping_machine.specs.declared.decoding.Coded.{Coded}
@@ -22,15 +22,15 @@ use Rattle.stepping_machine.specs.Words.{nextIn, clockIn, storeIn, first
 use Rattle.stepping_machine.specs.Represents.{Decoded, Represents, Within}
 
 -- some commands lie from the offset o to the offset e, and the numbers that they name inside the sheet: what decoding asks, so that it tests nothing
-pub record Placed (sheet bundle : List ℕ) (v : View) (o e : ℕ) : Type 0 where
-  pub narrow : Narrow v
+pub record Decodable (sheet bundle : List ℕ) (v : View) (o e : ℕ) : Type 0 where
+  pub bounded : Bounded v
   pub inside : v .middle + 7 * v .links ≤ length sheet
   pub commands : List Command
   pub lies : Lies (v .tasks) (v .links) bundle o e commands
 
 -- some programmes lie as the words w say
 pub record Ready (sheet bundle w : List ℕ) (v : View) (m : ℕ) : Type 0 where
-  pub narrow : Narrow v
+  pub bounded : Bounded v
   pub inside : v .middle + 7 * v .links ≤ length sheet
   pub programmes : List (List Command)
   pub count : length programmes ≡ m
@@ -73,7 +73,7 @@ pub record OneIs (sheet bundle w last : List ℕ) (v : View) (k c r n : ℕ) : T
       → (r ≡ c + length cs + 1) × Opens s last r k cs × (n ≡ weigh (need s) cs)
 
 -- the sheet s and the bundle b of m programmes are those of the bytes and of the offsets in w
-pub record Given (sheet bundle w : List ℕ) (v : View) (m : ℕ) (s : Sheet) (b : Bundle) : Type 0 where
+pub record LaidOut (sheet bundle w : List ℕ) (v : View) (m : ℕ) (s : Sheet) (b : Bundle) : Type 0 where
   pub known : Known s sheet v
   pub programmes : programmeCount b ≡ m
   pub few : programmeCount b ≤ 16
@@ -83,8 +83,8 @@ pub record Given (sheet bundle w : List ℕ) (v : View) (m : ℕ) (s : Sheet) (b
 -- all programmes opened, or 28
 pub record AllIs (sheet bundle w last : List ℕ) (v : View) (m : ℕ) (r : Found) : Type 0 where
   pub long : length last ≡ length w
-  pub is-28 : (s : Sheet) (b : Bundle) → Given sheet bundle w v m s b → foundOf r ≡ at28 s b
-  pub opens : r ≡ Nothing → (s : Sheet) (b : Bundle) → Given sheet bundle w v m s b → (k : ℕ) → k < m → Opens s last (lay.commands + whole b each + m) k (programmeOf b k)
+  pub is-28 : (s : Sheet) (b : Bundle) → LaidOut sheet bundle w v m s b → foundOf r ≡ at28 s b
+  pub opens : r ≡ Nothing → (s : Sheet) (b : Bundle) → LaidOut sheet bundle w v m s b → (k : ℕ) → k < m → Opens s last (lay.commands + whole b each + m) k (programmeOf b k)
 
 -- every processor from m up to e has no command; the others stay
 pub record RestIs (w last : List ℕ) (m e : ℕ) : Type 0 where
@@ -113,5 +113,5 @@ pub record NeedsIs (sheet w last : List ℕ) (front n : ℕ) : Type 0 where
 -- m programmes whose offsets stand in the words: 28, or the fresh state
 pub record LoadIs (sheet bundle w last : List ℕ) (v : View) (m : ℕ) (r : Found) : Type 0 where
   pub long : length last ≡ length w
-  pub is-28 : (s : Sheet) (b : Bundle) → Given sheet bundle w v m s b → foundOf r ≡ at28 s b
-  pub represents : r ≡ Nothing → (s : Sheet) (b : Bundle) → Given sheet bundle w v m s b → Represents s b last (freshState s b) × Within b last (lay.commands + whole b each + m)
+  pub is-28 : (s : Sheet) (b : Bundle) → LaidOut sheet bundle w v m s b → foundOf r ≡ at28 s b
+  pub represents : r ≡ Nothing → (s : Sheet) (b : Bundle) → LaidOut sheet bundle w v m s b → Represents s b last (freshState s b) × Within b last (lay.commands + whole b each + m)

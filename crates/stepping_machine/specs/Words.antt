@@ -48,7 +48,7 @@ abbrev pub kindIn : ℕ → ℕ
 kindIn x = x / lay.kinds
 
 abbrev pub numberIn : ℕ → ℕ
-numberIn x = x / lay.numbers % 2048
+numberIn x = x / lay.numbers % lay.span
 
 abbrev pub amountIn : ℕ → ℕ
 amountIn x = x % lay.numbers

@@ -5,7 +5,7 @@ ghost use lib.ListN.{length};
 ghost use lib.Dec.{eqb};
 ghost use Rattle.folds.specs.Folds.{pick};
 ghost use Rattle.numbers.specs.Number.{numberAt};
-ghost use Rattle.stepping_machine.specs.Loads.{Placed, CodeIs};
+ghost use Rattle.stepping_machine.specs.Loads.{Decodable, CodeIs};
 use crate::KINDS;
 use crate::NUMBERS;
 use crate::TASKS;
@@ -35,7 +35,7 @@ fn received(receives: usize, amount: usize) -> usize
 
 // The command at the offset o, which lies before the offset e.
 pub fn decode(sheet: &[u8], bundle: &[u8], v: View, o: usize, e: usize) -> Coded
-    requires { ⌜ Placed (now sheet) (now bundle) v o e × (o < e) ⌝ }
+    requires { ⌜ Decodable (now sheet) (now bundle) v o e × (o < e) ⌝ }
     ensures { λ r. ⌜ CodeIs (now (sheet .entry)) (now (bundle .entry)) v o r ⌝ }
 {
     let c = numbers::get8(bundle, o);

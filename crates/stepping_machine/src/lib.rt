@@ -12,6 +12,9 @@ ghost use mathlib.Core.Path.{_≡_};
 ghost use Prim.Native.Nat.{_%_, _<_};
 ghost use lib.ListN.{length, set};
 
+// The words of the work area before the machine's.
+pub const BOARD: usize = 16;
+
 // The layout of the words (specs/Layout). Word k has the index of processor k's next command.
 pub const CLOCKS: usize = 16;
 
@@ -37,6 +40,8 @@ pub const EXTENT: usize = 4976;
 
 // The fields of a command's word, and the commands that words have room for.
 pub const NUMBERS: usize = 262144;
+
+pub const SPAN: usize = 2048;
 
 pub const KINDS: usize = 536870912;
 

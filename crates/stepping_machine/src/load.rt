@@ -1,11 +1,11 @@
 // The programmes of a bundle, decoded into the words that have their offsets, and the fresh state. What each needs of the store is added up on the way.
 ghost use mathlib.Core.Path.{_≡_};
-ghost use Prim.Native.Nat.{suc, _+_, _%_, _*_, _≤_, _<_};
+ghost use Prim.Native.Nat.{suc, _+_, _%_, _≤_, _<_};
 ghost use lib.ListN.{length, getD};
-ghost use Rattle.messages.specs.Fields.{Narrow};
+ghost use Rattle.messages.specs.Fields.{Bounded};
 ghost use Rattle.stepping_machine.specs.Layout.{extent, commands};
 ghost use Rattle.stepping_machine.specs.Words.{openedWords};
-ghost use Rattle.stepping_machine.specs.Loads.{Placed, Ready, ProgrammeIs, OneIs, AllIs, RestIs, WipeIs, NeedsIs, LoadIs};
+ghost use Rattle.stepping_machine.specs.Loads.{Decodable, Ready, ProgrammeIs, OneIs, AllIs, RestIs, WipeIs, NeedsIs, LoadIs};
 use crate::CLOCKS;
 use crate::COMMANDS;
 use crate::COUNT;
@@ -37,7 +37,7 @@ fn load_programme(
     e: usize,
     a: usize,
 ) -> Extent
-    requires { ⌜ Placed (now sheet) (now bundle) v o e × (e < 4294967296) × (a < 1099511627776) ⌝ }
+    requires { ⌜ Decodable (now sheet) (now bundle) v o e × (e < 4294967296) × (a < 1099511627776) ⌝ }
     ensures { λ r. ⌜ ProgrammeIs (now (sheet .entry)) (now (bundle .entry)) (now (w .entry)) (now (w .exit)) v o e a (r .end) (r .need) ⌝ }
 {
     let mut from = o;
@@ -66,7 +66,7 @@ fn open_programme(w: &mut [u32], k: usize, first: usize, last: usize)
 
 // Programme k, whose offsets stand in words k and k + 1, from the index c on; the index for the next one.
 fn load_one(sheet: &[u8], bundle: &[u8], w: &mut [u32], v: View, k: usize, c: usize) -> Extent
-    requires { ⌜ Placed (now sheet) (now bundle) v (getD (now w) k 0 + 2) (getD (now w) (suc k) 0) × (k < 16) × (extent ≤ length (now w)) × (commands ≤ c) × (c < 274877906944) ⌝ }
+    requires { ⌜ Decodable (now sheet) (now bundle) v (getD (now w) k 0 + 2) (getD (now w) (suc k) 0) × (k < 16) × (extent ≤ length (now w)) × (commands ≤ c) × (c < 274877906944) ⌝ }
     ensures { λ r. ⌜ OneIs (now (sheet .entry)) (now (bundle .entry)) (now (w .entry)) (now (w .exit)) v k c (r .end) (r .need) ⌝ }
 {
     let o = workspace::word(w, k) + 2;
@@ -123,7 +123,7 @@ fn wipe(w: &mut [u32], m: usize, l: usize)
 
 // What each task needs of the store.
 fn load_needs(sheet: &[u8], w: &mut [u32], v: View)
-    requires { ⌜ Narrow v × (v .middle ≤ length (now sheet)) × (extent ≤ length (now w)) ⌝ }
+    requires { ⌜ Bounded v × (v .middle ≤ length (now sheet)) × (extent ≤ length (now w)) ⌝ }
     ensures { λ _. ⌜ NeedsIs (now (sheet .entry)) (now (w .entry)) (now (w .exit)) (v .front) (v .tasks) ⌝ }
 {
     let mut t = 0;

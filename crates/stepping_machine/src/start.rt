@@ -6,6 +6,7 @@ ghost use Rattle.messages.specs.Fields.{Seen};
 ghost use Rattle.messages.specs.Views.{Shown};
 ghost use Rattle.stepping_machine.specs.Layout.{commands, extent};
 ghost use Rattle.stepping_machine.specs.Starts.{AdmitIs, CopyIs, HandIs, BeginIs, OpenIs, BytesIs};
+use crate::BOARD;
 use crate::COMMANDS;
 use crate::NEEDS;
 use crate::STAMPS;
@@ -66,13 +67,13 @@ fn begin(sheet: &[u8], bundle: &[u8], w: &mut [u32], state: &mut [u32], v: View)
     }
 }
 
-// The same for the sheet in the tables of the work area, whose bytes are given too. The words from 16 on are used.
+// The same for the sheet in the tables of the work area, whose bytes are given too. The words behind the board are used.
 fn from_tables(sheet: &[u8], bundle: &[u8], work: &mut [u32], state: &mut [u32]) -> Judged
     requires { ⌜ Shown (now sheet) (now work) × (extent ≤ length (now state)) ⌝ }
     ensures { λ r. ⌜ OpenIs (now (sheet .entry)) (now (bundle .entry)) (now (work .entry)) (now (work .exit)) (now (state .entry)) (now (state .exit)) r ⌝ }
 {
     let v = messages::view::of_tables(work);
-    begin(sheet, bundle, &mut work[16..], state, v)
+    begin(sheet, bundle, &mut work[BOARD..], state, v)
 }
 
 // 1 to 10, 21 to 26, 31 to 33 and 28 of any bytes; where none applies, the fresh state.

@@ -14,6 +14,7 @@ use crate::CLOCKS;
 use crate::EXTENT;
 use crate::KINDS;
 use crate::NUMBERS;
+use crate::SPAN;
 use crate::STAMPS;
 use crate::STORES;
 use crate::processors::Processor;
@@ -94,7 +95,7 @@ fn command(w: &mut [u32], k: usize) -> bool
         return false;
     }
     let amount = x % NUMBERS;
-    let i = STAMPS + x / NUMBERS % 2048;
+    let i = STAMPS + x / NUMBERS % SPAN;
     if kind == 1 {
         run(w, k, amount, i);
         return true;

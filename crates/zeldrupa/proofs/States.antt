@@ -14,7 +14,7 @@ use Rattle.workspace.specs.Area.{fixed}
 use Rattle.sheet.specs.Sheet.{Sheet}
 use Rattle.bundle.specs.Bundle.{Bundle}
 use Rattle.machine.specs.Machine.{State, stampIn}
-use Rattle.stepping_machine.specs.Represents.{Represents, ChoiceIs, LeftIs, StampIs}
+use Rattle.stepping_machine.specs.Represents.{ChoiceIs, LeftIs, StampIs}
 use Rattle.stepping_machine.specs.Starts.{starting}
 use Rattle.zeldrupa.specs.Stepping.{startAnswer, GivesState, stateNumber, GivesStep, GivesLeft, GivesProcessor, stampNumber, GivesStamp}
 use Rattle.answers.specs.Parts.{numberOf, placeOf, StateIs, NumbersIs}

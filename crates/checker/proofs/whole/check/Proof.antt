@@ -1,3 +1,4 @@
+-- `check` (src/whole.rt) keeps its contract.
 use Rattle.checker.proofs.Areas.{checked-in}
 use borrow.Author.Needs.{needs}
 use denote.Ref.{now}
@@ -8,15 +9,6 @@ use Rattle.checker.proofs.whole.check.Tie as tie
 
 of-tables-requires : tie.Need-of-tables-requires
 of-tables-requires c κs = c .before .before .before .before .pre .loaded
-
-sub-judgement : tie.Need-sub-judgement
-sub-judgement c = search needs
-
-part-judgement-start : tie.Need-part-judgement-start
-part-judgement-start c = search needs
-
-part-judgement-end : tie.Need-part-judgement-end
-part-judgement-end c = search needs
 
 judgement-requires : tie.Need-judgement-requires
 judgement-requires c κs = let s = c .before .before .before .before .before .before in (seen-in _ _ _ (s .pre) (c .before .of-tables .ensures), part-extent (now (s .args .work)) (s .pre .loaded .long))
@@ -32,9 +24,9 @@ check-spec =
     tie.close
     (tie.spec
     of-tables-requires
-    sub-judgement
-    part-judgement-start
-    part-judgement-end
+    (λ c. search needs)
+    (λ c. search needs)
+    (λ c. search needs)
     judgement-requires
     same-length
     returns)

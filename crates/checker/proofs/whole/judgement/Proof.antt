@@ -1,23 +1,9 @@
+-- `judgement` (src/whole.rt) keeps its contract.
 use mathlib.Core.Path.{_∙_}
 use Rattle.checker.proofs.Closing.{judged-ends, judged-refused}
 use borrow.Author.Needs.{needs}
 use Rattle.checker.proofs.whole.judgement.Statement.{statement}
 use Rattle.checker.proofs.whole.judgement.Tie as tie
-
-admit-requires : tie.Need-admit-requires
-admit-requires c κs = search needs
-
-enum-known-r : tie.Need-enum-known-r
-enum-known-r c = search needs
-
-enum-known-claim : tie.Need-enum-known-claim
-enum-known-claim c = search needs
-
-settle-requires : tie.Need-settle-requires
-settle-requires c κs = search needs
-
-finish-requires : tie.Need-finish-requires
-finish-requires c κs = search needs
 
 same-length : tie.Need-same-length
 same-length c = c .before .before .before .before .before .admit .ensures .long
@@ -35,11 +21,11 @@ pub judgement-spec : {M : Type 1} → statement M
 judgement-spec =
     tie.close
     (tie.spec
-    admit-requires
-    enum-known-r
-    enum-known-claim
-    settle-requires
-    finish-requires
+    (λ c κs. search needs)
+    (λ c. search needs)
+    (λ c. search needs)
+    (λ c κs. search needs)
+    (λ c κs. search needs)
     same-length
     returns
     same-length-2

@@ -1,3 +1,4 @@
+-- `unfinished` (src/whole.rt) keeps its contract.
 use Rattle.checker.proofs.Closing.{Finished, finished-all, finished-found, finished-more, finished-none}
 use Prim.Native.Nat.{_-_, _≤_}
 use native.Mathlib.Omega.{arith}
@@ -12,20 +13,11 @@ Inv-loop w count k₀ k = (Finished w k) × (k ≤ count)
 abbrev μ-loop : tie.MeasureT-loop
 μ-loop w count k₀ k = count - k
 
-word-requires : tie.Need-word-requires Inv-loop μ-loop
-word-requires c κs = search needs
-
 loop-holds : tie.Need-loop-holds Inv-loop μ-loop
 loop-holds c = (finished-none _, omega arith)
 
-word-requires-2 : tie.Need-word-requires-2 Inv-loop μ-loop
-word-requires-2 c κs = search needs
-
 add-word : tie.Need-add-word Inv-loop μ-loop
 add-word c = omega (arith, c .before .before .before .word .ensures .1, c .before .loop-test .taken)
-
-word-requires-3 : tie.Need-word-requires-3 Inv-loop μ-loop
-word-requires-3 c κs = search needs
 
 returns : tie.Need-returns Inv-loop μ-loop
 returns c = finished-found _ _ (c .before .before .before .before .loop .inv .0) (omega (arith, c .before .before .before .before .before .word .ensures .0, c .before .before .before .loop-test .taken)) (omega (arith, c .before .word3 .ensures .0, c .before .before .word2 .ensures .0, c .if1 .taken))
@@ -48,11 +40,11 @@ unfinished-spec =
     (tie.spec
     Inv-loop
     μ-loop
-    word-requires
+    (λ c κs. search needs)
     loop-holds
-    word-requires-2
+    (λ c κs. search needs)
     add-word
-    word-requires-3
+    (λ c κs. search needs)
     returns
     add-k
     loop-less

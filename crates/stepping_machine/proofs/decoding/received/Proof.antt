@@ -1,3 +1,4 @@
+-- `received` (src/decoding.rt) keeps its contract.
 use borrow.Author.Tests.{eq-eqb, ne-eqb}
 use Rattle.stepping_machine.proofs.decoding.received.Statement.{statement}
 use Rattle.stepping_machine.proofs.decoding.received.Tie as tie

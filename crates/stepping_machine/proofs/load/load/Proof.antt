@@ -1,3 +1,4 @@
+-- `load` (src/load.rt) keeps its contract.
 use mathlib.Core.Path.{_∙_}
 use native.Mathlib.Omega.{arith}
 use Rattle.stepping_machine.proofs.Opening.{load-fits, load-over}
@@ -5,23 +6,14 @@ use borrow.Author.Needs.{needs}
 use Rattle.stepping_machine.proofs.load.load.Statement.{statement}
 use Rattle.stepping_machine.proofs.load.load.Tie as tie
 
-load-all-requires : tie.Need-load-all-requires
-load-all-requires c κs = search needs
-
-enum-known-k : tie.Need-enum-known-k
-enum-known-k c = search needs
-
-enum-told : tie.Need-enum-told
-enum-told c = search needs
-
 rest-requires : tie.Need-rest-requires
 rest-requires c κs = let y = c .before .before .before .before .before .before .before .before .before .before .pre in (y .few, omega (arith, y .long, c .before .before .before .before .before .load-all .ensures .long))
 
 wipe-requires : tie.Need-wipe-requires
-wipe-requires c κs = let y = c .before .before .before .before .before .before .before .before .before .before .before .before .before .before .pre in (y .few, y .narrow .few-links, omega (arith, y .long, c .before .before .before .before .before .before .before .before .before .load-all .ensures .long, c .before .before .before .rest .ensures .long))
+wipe-requires c κs = let y = c .before .before .before .before .before .before .before .before .before .before .before .before .before .before .pre in (y .few, omega (arith, y .bounded .few-links, y .bounded .few-tasks), omega (arith, y .long, c .before .before .before .before .before .before .before .before .before .load-all .ensures .long, c .before .before .before .rest .ensures .long))
 
 load-needs-requires : tie.Need-load-needs-requires
-load-needs-requires c κs = let y = c .before .before .before .before .before .before .before .before .before .before .before .before .before .before .before .before .before .before .pre in (y .narrow, omega (arith, y .inside), omega (arith, y .long, c .before .before .before .before .before .before .before .before .before .before .before .before .before .load-all .ensures .long, c .before .before .before .before .before .before .before .rest .ensures .long, c .before .before .before .wipe .ensures .long))
+load-needs-requires c κs = let y = c .before .before .before .before .before .before .before .before .before .before .before .before .before .before .before .before .before .before .pre in (y .bounded, omega (arith, y .inside), omega (arith, y .long, c .before .before .before .before .before .before .before .before .before .before .before .before .before .load-all .ensures .long, c .before .before .before .before .before .before .before .rest .ensures .long, c .before .before .before .wipe .ensures .long))
 
 same-length : tie.Need-same-length
 same-length c = c .before .before .before .before .before .load-all .ensures .long
@@ -39,9 +31,9 @@ pub load-spec : {M : Type 1} → statement M
 load-spec =
     tie.close
     (tie.spec
-    load-all-requires
-    enum-known-k
-    enum-told
+    (λ c κs. search needs)
+    (λ c. search needs)
+    (λ c. search needs)
     rest-requires
     wipe-requires
     load-needs-requires

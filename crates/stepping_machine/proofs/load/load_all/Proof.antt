@@ -1,4 +1,5 @@
-use Rattle.stepping_machine.proofs.Opening.{Going, going-ends, going-more, going-over, going-placed, going-starts}
+-- `load_all` (src/load.rt) keeps its contract.
+use Rattle.stepping_machine.proofs.Opening.{Going, going-ends, going-more, going-over, going-decodable, going-starts}
 use Prim.Native.Nat.{_-_, _≤_}
 use mathlib.Core.Path.{_∙_}
 use native.Mathlib.Omega.{arith}
@@ -15,7 +16,7 @@ loop-holds : tie.Need-loop-holds Inv-loop μ-loop
 loop-holds c = (going-starts _ _ _ _ _ (c .before .before .before .pre .few), omega arith)
 
 load-one-requires : tie.Need-load-one-requires Inv-loop μ-loop
-load-one-requires c κs = let y = c .before .before .before .before .before .before .pre in let g = c .before .before .loop .inv .0 in (going-placed _ _ _ _ _ (y .few) _ _ _ y g (c .before .loop-test .taken), omega (arith, y .few), omega (arith, g .long, y .long), g .behind, omega (arith, g .few, y .few))
+load-one-requires c κs = let y = c .before .before .before .before .before .before .pre in let g = c .before .before .loop .inv .0 in (going-decodable _ _ _ _ _ (y .few) _ _ _ y g (c .before .loop-test .taken), omega (arith, y .few), omega (arith, g .long, y .long), g .behind, omega (arith, g .few, y .few))
 
 same-length : tie.Need-same-length Inv-loop μ-loop
 same-length c = c .before .before .before .before .before .load-one .ensures .long ∙ c .before .before .before .before .before .before .before .before .loop .inv .0 .long

@@ -1,3 +1,4 @@
+-- `load_needs` (src/load.rt) keeps its contract.
 use Rattle.stepping_machine.specs.Loads.{NeedsIs}
 use Prim.Native.Nat.{_-_, _≤_}
 use mathlib.Core.Path.{_≡_}

@@ -1,3 +1,4 @@
+-- `load_programme` (src/load.rt) keeps its contract.
 use Rattle.stepping_machine.proofs.Loading.{Loading, loading-ends, loading-more, loading-starts}
 use Prim.Native.Nat.{_-_}
 use mathlib.Core.Path.{_∙_}
@@ -16,10 +17,7 @@ loop-holds : tie.Need-loop-holds Inv-loop μ-loop
 loop-holds c = loading-starts _ _ _ _ _ _ _ (c .before .before .before .pre .0)
 
 decode-requires : tie.Need-decode-requires Inv-loop μ-loop
-decode-requires c κs = (c .before .loop .inv .placed, c .loop-test .taken)
-
-put-requires : tie.Need-put-requires Inv-loop μ-loop
-put-requires c κs = search needs
+decode-requires c κs = (c .before .loop .inv .decodable, c .loop-test .taken)
 
 add-sum : tie.Need-add-sum Inv-loop μ-loop
 add-sum c = let g = c .before .before .before .before .before .before .before .loop .inv in let s = c .before .before .before .before .before .before .before .before .before .before .before in omega (arith, g .small, g .slow, g .near, c .before .before .before .before .before .decode .ensures .small, c .before .before .before .before .before .before .loop-test .taken, s .pre .1, s .pre .2)
@@ -36,9 +34,6 @@ loop-less c = omega (arith, c .before .before .before .before .before .before .d
 loop-again : tie.Need-loop-again Inv-loop μ-loop
 loop-again c = loading-more _ _ _ _ _ _ _ _ _ _ _ _ _ (c .before .before .before .before .before .before .before .before .loop .inv) (c .before .before .before .before .before .before .before .loop-test .taken) (c .before .before .before .before .before .before .decode .ensures) (c .before .before .before .before .put .ensures)
 
-put-requires-2 : tie.Need-put-requires-2 Inv-loop μ-loop
-put-requires-2 c κs = search needs
-
 same-length : tie.Need-same-length Inv-loop μ-loop
 same-length c = c .before .before .put2 .kept .0 ∙ c .before .before .before .before .before .loop .inv .long
 
@@ -53,12 +48,12 @@ load-programme-spec =
     μ-loop
     loop-holds
     decode-requires
-    put-requires
+    (λ c κs. search needs)
     add-sum
     add-from
     add-to
     loop-less
     loop-again
-    put-requires-2
+    (λ c κs. search needs)
     same-length
     returns)

@@ -1,25 +1,8 @@
+-- `open_programme` (src/load.rt) keeps its contract.
 use borrow.Author.Needs.{needs}
 use Rattle.stepping_machine.specs.Words.{openedWords}
 use Rattle.stepping_machine.proofs.load.open_programme.Statement.{statement}
 use Rattle.stepping_machine.proofs.load.open_programme.Tie as tie
-
-put-requires : tie.Need-put-requires
-put-requires c κs = search needs
-
-add-put : tie.Need-add-put
-add-put c = search needs
-
-put-requires-2 : tie.Need-put-requires-2
-put-requires-2 c κs = search needs
-
-add-put-2 : tie.Need-add-put-2
-add-put-2 c = search needs
-
-put-requires-3 : tie.Need-put-requires-3
-put-requires-3 c κs = search needs
-
-same-length : tie.Need-same-length
-same-length c = search needs
 
 returns : tie.Need-returns
 unfolding openedWords
@@ -28,4 +11,4 @@ returns c = simp (c .before .before .put3 .ensures, c .before .before .before .b
 pub open-programme-spec : {M : Type 1} → statement M
 open-programme-spec =
     tie.close
-    (tie.spec put-requires add-put put-requires-2 add-put-2 put-requires-3 same-length returns)
+    (tie.spec (λ c κs. search needs) (λ c. search needs) (λ c κs. search needs) (λ c. search needs) (λ c κs. search needs) (λ c. search needs) returns)

@@ -1,3 +1,4 @@
+-- `rest` (src/load.rt) keeps its contract.
 use Rattle.stepping_machine.specs.Loads.{RestIs}
 use Prim.Native.Nat.{_-_, _≤_}
 use mathlib.Core.Path.{_≡_}
@@ -19,9 +20,6 @@ loop-holds c = (rest-starts _ _, omega arith, omega arith)
 open-programme-requires : tie.Need-open-programme-requires Inv-loop μ-loop
 open-programme-requires c κs = (omega arith, omega (arith, c .before .before .loop .inv .0 .long, c .before .before .before .before .pre .1))
 
-add-k : tie.Need-add-k Inv-loop μ-loop
-add-k c = search needs
-
 loop-less : tie.Need-loop-less Inv-loop μ-loop
 loop-less c = omega arith
 
@@ -42,7 +40,7 @@ rest-spec =
     μ-loop
     loop-holds
     open-programme-requires
-    add-k
+    (λ c. search needs)
     loop-less
     loop-again
     same-length

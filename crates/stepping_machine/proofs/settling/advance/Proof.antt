@@ -1,4 +1,4 @@
--- `advance` keeps its contract.
+-- `advance` (src/settling.rt) keeps its contract.
 use Rattle.stepping_machine.specs.Layout as lay
 use Rattle.stepping_machine.proofs.Going.{Advancing, advance-full, advance-more, advance-starts, advance-stops}
 use Prim.Native.Nat.{_-_, _≤_}
@@ -16,12 +16,6 @@ abbrev μ-loop : tie.MeasureT-loop
 
 loop-holds : tie.Need-loop-holds Inv-loop μ-loop
 loop-holds c = (advance-starts _, omega arith)
-
-step-requires : tie.Need-step-requires Inv-loop μ-loop
-step-requires c κs = search needs
-
-add-n : tie.Need-add-n Inv-loop μ-loop
-add-n c = search needs
 
 loop-less : tie.Need-loop-less Inv-loop μ-loop
 loop-less c = omega arith
@@ -48,8 +42,8 @@ advance-spec =
     Inv-loop
     μ-loop
     loop-holds
-    step-requires
-    add-n
+    (λ c κs. search needs)
+    (λ c. search needs)
     loop-less
     loop-again
     same-length

@@ -1,4 +1,4 @@
--- `round` keeps its contract.
+-- `round` (src/settling.rt) keeps its contract.
 use Rattle.stepping_machine.proofs.Going.{round-ends, round-more, round-starts}
 use native.Mathlib.Omega.{arith}
 use Rattle.stepping_machine.proofs.Going.{Rounding}
@@ -13,23 +13,11 @@ Inv-loop w₀ count n₀ k₀ w n k = (Rounding w₀ w k n) × (k ≤ count) × 
 abbrev μ-loop : tie.MeasureT-loop
 μ-loop w₀ count n₀ k₀ w n k = count - k
 
-word-requires : tie.Need-word-requires Inv-loop μ-loop
-word-requires c κs = search needs
-
-smaller-requires : tie.Need-smaller-requires Inv-loop μ-loop
-smaller-requires c κs = search needs
-
 loop-holds : tie.Need-loop-holds Inv-loop μ-loop
 loop-holds c = (round-starts _, omega arith, omega (arith, c .smaller .ensures))
 
-advance-requires : tie.Need-advance-requires Inv-loop μ-loop
-advance-requires c κs = search needs
-
 add-n : tie.Need-add-n Inv-loop μ-loop
 add-n c = omega (arith, c .before .before .advance .ensures .few, c .before .before .before .before .before .loop .inv .0 .few, c .before .before .before .before .before .loop .inv .1, c .before .before .before .before .before .loop .inv .2)
-
-add-k : tie.Need-add-k Inv-loop μ-loop
-add-k c = search needs
 
 loop-less : tie.Need-loop-less Inv-loop μ-loop
 loop-less c = omega arith
@@ -49,12 +37,12 @@ round-spec =
     (tie.spec
     Inv-loop
     μ-loop
-    word-requires
-    smaller-requires
+    (λ c κs. search needs)
+    (λ c κs. search needs)
     loop-holds
-    advance-requires
+    (λ c κs. search needs)
     add-n
-    add-k
+    (λ c. search needs)
     loop-less
     loop-again
     same-length

@@ -1,4 +1,4 @@
--- `settle` keeps its contract.
+-- `settle` (src/settling.rt) keeps its contract.
 use Rattle.stepping_machine.specs.Layout as lay
 use Rattle.stepping_machine.proofs.Going.{Rounds, settle-ends, settle-more, settle-starts, settle-stops}
 use mathlib.Core.Path.{refl, _∙_}
@@ -16,17 +16,11 @@ abbrev μ-loop : tie.MeasureT-loop
 loop-holds : tie.Need-loop-holds Inv-loop μ-loop
 loop-holds c = settle-starts _ _
 
-round-requires : tie.Need-round-requires Inv-loop μ-loop
-round-requires c κs = search needs
-
 same-length : tie.Need-same-length Inv-loop μ-loop
 same-length c = c .before .before .before .round .ensures .goes .runs .long ∙ c .before .before .before .before .before .before .loop .inv .goes .runs .long
 
 returns : tie.Need-returns Inv-loop μ-loop
 returns c = settle-stops (c .if1 .taken) (c .before .before .before .before .before .before .loop .inv) (c .before .before .before .round .ensures)
-
-sub-rounds : tie.Need-sub-rounds Inv-loop μ-loop
-sub-rounds c = search needs
 
 loop-less : tie.Need-loop-less Inv-loop μ-loop
 loop-less c = omega arith
@@ -47,10 +41,10 @@ settle-spec =
     Inv-loop
     μ-loop
     loop-holds
-    round-requires
+    (λ c κs. search needs)
     same-length
     returns
-    sub-rounds
+    (λ c. search needs)
     loop-less
     loop-again
     same-length-2

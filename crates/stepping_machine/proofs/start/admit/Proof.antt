@@ -1,3 +1,4 @@
+-- `admit` (src/start.rt) keeps its contract.
 use mathlib.Core.Path.{_∙_}
 use Rattle.stepping_machine.proofs.Starting.{admit-fits, admit-over, admit-refused, ready}
 use native.Mathlib.Omega.{arith}
@@ -6,22 +7,10 @@ use Rattle.stepping_machine.proofs.start.admit.Statement.{statement}
 use Rattle.stepping_machine.proofs.start.admit.Tie as tie
 
 judge-requires : tie.Need-judge-requires
-judge-requires c κs = (c .before .before .before .before .pre .0 .narrow, omega (arith, c .before .before .before .before .pre .1))
-
-enum-known-r : tie.Need-enum-known-r
-enum-known-r c = search needs
-
-enum-known-m : tie.Need-enum-known-m
-enum-known-m c = search needs
+judge-requires c κs = (c .before .before .before .before .pre .0 .bounded, omega (arith, c .before .before .before .before .pre .1))
 
 load-requires : tie.Need-load-requires
 load-requires c κs = let s = c .before .before .before .before .before .before .before .before .before .before .before in ready _ _ _ _ _ _ (c .before .before .before .before .before .before .judge .ensures) _ _ _ (c .before .before .m .given .1) (λ i. omega (arith, c .before .before .before .before .before .before .before .before .before .shared-slice-known2 .given i)) (s .pre .1) (s .pre .0)
-
-enum-known-k : tie.Need-enum-known-k
-enum-known-k c = search needs
-
-enum-told : tie.Need-enum-told
-enum-told c = search needs
 
 same-length : tie.Need-same-length
 same-length c = c .before .before .before .before .before .judge .ensures .long
@@ -46,11 +35,11 @@ admit-spec =
     tie.close
     (tie.spec
     judge-requires
-    enum-known-r
-    enum-known-m
+    (λ c. search needs)
+    (λ c. search needs)
     load-requires
-    enum-known-k
-    enum-told
+    (λ c. search needs)
+    (λ c. search needs)
     same-length
     returns
     same-length-2

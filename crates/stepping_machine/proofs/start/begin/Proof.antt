@@ -1,3 +1,4 @@
+-- `begin` (src/start.rt) keeps its contract.
 use native.Mathlib.Omega.{arith}
 use Rattle.stepping_machine.proofs.Starting.{begin-refused, begin-starts, short-fit}
 use borrow.Author.Needs.{needs}
@@ -5,20 +6,11 @@ use denote.Ref.{now}
 use Rattle.stepping_machine.proofs.start.begin.Statement.{statement}
 use Rattle.stepping_machine.proofs.start.begin.Tie as tie
 
-admit-requires : tie.Need-admit-requires
-admit-requires c κs = search needs
-
-enum-known-r : tie.Need-enum-known-r
-enum-known-r c = search needs
-
-enum-known-m : tie.Need-enum-known-m
-enum-known-m c = search needs
-
 add-hand-over : tie.Need-add-hand-over
 add-hand-over c = let s = c .before .before .before .before .before .before .before .before .before .before .before .before .before in omega (arith, short-fit _ _ _ _ (now (s .args .state)) _ _ (c .before .before .before .before .before .before .before .admit .ensures) _ _ _ (c .before .before .before .m .given .1) (s .pre .0) (λ i. omega (arith, c .before .before .before .before .before .before .before .before .before .before .before .shared-slice-known2 .given i)))
 
 hand-over-requires : tie.Need-hand-over-requires
-hand-over-requires c κs = let s = c .before .before .before .before .before .before .before .before .before .before .before .before .before in (omega (arith, s .pre .1, c .before .before .before .before .before .before .before .admit .ensures .long), s .pre .2, s .pre .0 .narrow .few-links, s .pre .0 .narrow .few-tasks, short-fit _ _ _ _ (now (s .args .state)) _ _ (c .before .before .before .before .before .before .before .admit .ensures) _ _ _ (c .before .before .before .m .given .1) (s .pre .0) (λ i. omega (arith, c .before .before .before .before .before .before .before .before .before .before .before .shared-slice-known2 .given i)))
+hand-over-requires c κs = let s = c .before .before .before .before .before .before .before .before .before .before .before .before .before in (omega (arith, s .pre .1, c .before .before .before .before .before .before .before .admit .ensures .long), s .pre .2, s .pre .0 .bounded .few-links, s .pre .0 .bounded .few-tasks, short-fit _ _ _ _ (now (s .args .state)) _ _ (c .before .before .before .before .before .before .before .admit .ensures) _ _ _ (c .before .before .before .m .given .1) (s .pre .0) (λ i. omega (arith, c .before .before .before .before .before .before .before .before .before .before .before .shared-slice-known2 .given i)))
 
 same-length : tie.Need-same-length
 same-length c = c .before .before .before .before .before .admit .ensures .long
@@ -39,9 +31,9 @@ pub begin-spec : {M : Type 1} → statement M
 begin-spec =
     tie.close
     (tie.spec
-    admit-requires
-    enum-known-r
-    enum-known-m
+    (λ c κs. search needs)
+    (λ c. search needs)
+    (λ c. search needs)
     add-hand-over
     hand-over-requires
     same-length

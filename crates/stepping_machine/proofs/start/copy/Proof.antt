@@ -1,3 +1,4 @@
+-- `copy` (src/start.rt) keeps its contract.
 use Rattle.stepping_machine.specs.Starts.{CopyIs}
 use Prim.Native.Nat.{_-_, _≤_}
 use mathlib.Core.Path.{_≡_, refl}
@@ -16,14 +17,8 @@ abbrev μ-loop : tie.MeasureT-loop
 loop-holds : tie.Need-loop-holds Inv-loop μ-loop
 loop-holds c = let s = c in (copy-starts _ _ _, omega arith, omega (arith, s .pre .0))
 
-mul-w : tie.Need-mul-w Inv-loop μ-loop
-mul-w c = search needs
-
 shared-slice-read-w : tie.Need-shared-slice-read-w Inv-loop μ-loop
 shared-slice-read-w c = let s = c .before .before .before in omega (arith, c .before .loop-test .taken, s .pre .1)
-
-mul-w-2 : tie.Need-mul-w-2 Inv-loop μ-loop
-mul-w-2 c = search needs
 
 slice-write-w : tie.Need-slice-write-w Inv-loop μ-loop
 slice-write-w c = let s = c .before .before .before in omega (arith, c .before .loop-test .taken, s .pre .2, c .before .before .loop .inv .0 .long)
@@ -50,9 +45,9 @@ copy-spec =
     Inv-loop
     μ-loop
     loop-holds
-    mul-w
+    (λ c. search needs)
     shared-slice-read-w
-    mul-w-2
+    (λ c. search needs)
     slice-write-w
     add-i
     loop-less

@@ -1,3 +1,4 @@
+-- `from_tables` (src/start.rt) keeps its contract.
 use borrow.Author.Needs.{needs}
 use denote.Ref.{now}
 use Rattle.stepping_machine.proofs.Starting.{opened-in, part-extent}
@@ -7,15 +8,6 @@ use Rattle.stepping_machine.proofs.start.from_tables.Tie as tie
 
 of-tables-requires : tie.Need-of-tables-requires
 of-tables-requires c κs = c .before .before .before .before .before .pre .0 .loaded
-
-sub-begin : tie.Need-sub-begin
-sub-begin c = search needs
-
-part-begin-start : tie.Need-part-begin-start
-part-begin-start c = search needs
-
-part-begin-end : tie.Need-part-begin-end
-part-begin-end c = search needs
 
 begin-requires : tie.Need-begin-requires
 begin-requires c κs = let s = c .before .before .before .before .before .before .before .before in (seen-in _ _ _ (s .pre .0) (c .before .before .of-tables .ensures), part-extent (now (s .args .work)) (s .pre .0 .loaded .long), s .pre .1)
@@ -34,9 +26,9 @@ from-tables-spec =
     tie.close
     (tie.spec
     of-tables-requires
-    sub-begin
-    part-begin-start
-    part-begin-end
+    (λ c. search needs)
+    (λ c. search needs)
+    (λ c. search needs)
     begin-requires
     same-length
     same-length-2

@@ -1,18 +1,10 @@
+-- `start` (src/start.rt) keeps its contract.
 use mathlib.Core.Path.{_∙_}
 use native.Mathlib.Omega.{arith}
 use borrow.Author.Needs.{needs}
 use Rattle.stepping_machine.proofs.Starting.{shown, start-opened, start-refused}
 use Rattle.stepping_machine.proofs.start.start.Statement.{statement}
 use Rattle.stepping_machine.proofs.start.start.Tie as tie
-
-read-requires : tie.Need-read-requires
-read-requires c κs = search needs
-
-enum-known-r : tie.Need-enum-known-r
-enum-known-r c = search needs
-
-enum-told : tie.Need-enum-told
-enum-told c = search needs
 
 from-tables-requires : tie.Need-from-tables-requires
 from-tables-requires c κs = (shown _ (c .before .before .before .before .before .before .read .ensures) (λ k. omega (arith, c .before .before .before .before .before .before .before .before .before .before .before .shared-slice-known .given k)) (c .before .before .enum-told .given .1), c .before .before .before .before .before .before .before .before .before .before .before .before .pre .1)
@@ -36,9 +28,9 @@ pub start-spec : {M : Type 1} → statement M
 start-spec =
     tie.close
     (tie.spec
-    read-requires
-    enum-known-r
-    enum-told
+    (λ c κs. search needs)
+    (λ c. search needs)
+    (λ c. search needs)
     from-tables-requires
     same-length
     returns

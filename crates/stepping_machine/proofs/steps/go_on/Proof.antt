@@ -1,19 +1,8 @@
+-- `go_on` (src/steps.rt) keeps its contract.
 use borrow.Author.Needs.{needs}
 use Rattle.stepping_machine.specs.Words.{steppedWords}
 use Rattle.stepping_machine.proofs.steps.go_on.Statement.{statement}
 use Rattle.stepping_machine.proofs.steps.go_on.Tie as tie
-
-processor-requires : tie.Need-processor-requires
-processor-requires c κs = search needs
-
-stepped-requires : tie.Need-stepped-requires
-stepped-requires c κs = search needs
-
-place-requires : tie.Need-place-requires
-place-requires c κs = search needs
-
-same-length : tie.Need-same-length
-same-length c = search needs
 
 returns : tie.Need-returns
 unfolding steppedWords
@@ -21,4 +10,4 @@ returns c = simp (c .before .before .place .ensures, c .before .before .before .
 
 pub go-on-spec : {M : Type 1} → statement M
 go-on-spec =
-    tie.close (tie.spec processor-requires stepped-requires place-requires same-length returns)
+    tie.close (tie.spec (λ c κs. search needs) (λ c κs. search needs) (λ c κs. search needs) (λ c. search needs) returns)

@@ -1,25 +1,8 @@
+-- `place` (src/steps.rt) keeps its contract.
 use borrow.Author.Needs.{needs}
 use Rattle.stepping_machine.specs.Words.{placedWords}
 use Rattle.stepping_machine.proofs.steps.place.Statement.{statement}
 use Rattle.stepping_machine.proofs.steps.place.Tie as tie
-
-add-put : tie.Need-add-put
-add-put c = search needs
-
-put-requires : tie.Need-put-requires
-put-requires c κs = search needs
-
-add-put-2 : tie.Need-add-put-2
-add-put-2 c = search needs
-
-put-requires-2 : tie.Need-put-requires-2
-put-requires-2 c κs = search needs
-
-put-requires-3 : tie.Need-put-requires-3
-put-requires-3 c κs = search needs
-
-same-length : tie.Need-same-length
-same-length c = search needs
 
 returns : tie.Need-returns
 unfolding placedWords
@@ -28,4 +11,4 @@ returns c = simp (c .before .before .put3 .ensures, c .before .before .before .b
 pub place-spec : {M : Type 1} → statement M
 place-spec =
     tie.close
-    (tie.spec add-put put-requires add-put-2 put-requires-2 put-requires-3 same-length returns)
+    (tie.spec (λ c. search needs) (λ c κs. search needs) (λ c. search needs) (λ c κs. search needs) (λ c κs. search needs) (λ c. search needs) returns)

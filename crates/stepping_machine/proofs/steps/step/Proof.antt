@@ -1,4 +1,4 @@
--- `step` keeps its contract.
+-- `step` (src/steps.rt) keeps its contract.
 use Rattle.stepping_machine.proofs.Chosen.{too-large, too-short}
 use borrow.Author.Needs.{needs}
 use Rattle.stepping_machine.proofs.steps.step.Statement.{statement}
@@ -7,17 +7,8 @@ use Rattle.stepping_machine.proofs.steps.step.Tie as tie
 returns : tie.Need-returns
 returns c = too-short _ _ (c .if1 .taken)
 
-command-requires : tie.Need-command-requires
-command-requires c κs = search needs
-
-same-length : tie.Need-same-length
-same-length c = search needs
-
-returns-2 : tie.Need-returns-2
-returns-2 c = search needs
-
 returns-3 : tie.Need-returns-3
 returns-3 c = too-large _ _ (c .if2 .left)
 
 pub step-spec : {M : Type 1} → statement M
-step-spec = tie.close (tie.spec returns command-requires same-length returns-2 returns-3)
+step-spec = tie.close (tie.spec returns (λ c κs. search needs) (λ c. search needs) (λ c. search needs) returns-3)
