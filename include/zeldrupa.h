@@ -21,6 +21,12 @@ extern "C" {
 /* The fixed length of work areas and states, in words of 32 bits. */
 #define ZELDRUPA_WORK_LENGTH 4992
 
+/* The greatest lengths in bytes: of a sheet that is read, of a bundle that is accepted, and of a listing.
+ * A longer input may be lent: it is refused. */
+#define ZELDRUPA_LONGEST_SHEET 8455
+#define ZELDRUPA_LONGEST_BUNDLE 6693
+#define ZELDRUPA_LONGEST_LISTING 7453
+
 /* The numbers of the refusals; the place is an offset where nothing else is said. */
 enum zeldrupa_refusal {
     ZELDRUPA_CUT_SHEET = 1,

@@ -11,7 +11,8 @@ use Rattle.folds.proofs.Laws.{sum-zeros, greatest-le}
 use Rattle.sheet.specs.Sheet.{Sheet, taskCount, linkCount, sourceOf, targetOf}
 use Rattle.planner.specs.Schedule.{Schedule, placed, stands, placeOf}
 use Rattle.planner.specs.Placing.{reachBy, endBy, endOf, storeBy, bytesBy, storeOn}
-use Rattle.arrivals.specs.Kept.{keptLength, countedBy, into, intoFrom, intoOff, waits, oneBy, known, Counted, Ends, Closed}
+use Rattle.arrivals.specs.Layout.{seenFrom, arrivalsFrom, sendersFrom, endsFrom, storesFrom, waitingFrom, packedFrom, keptLength}
+use Rattle.arrivals.specs.Kept.{countedBy, into, intoFrom, waits, oneBy, known, Counted, Ends, Closed}
 use Rattle.arrivals.specs.Steps.{Zero}
 use Rattle.arrivals.proofs.Fours.{four-zero}
 
@@ -52,24 +53,23 @@ module _ (s : Sheet) (σ : Schedule) (free : (u : ℕ) → placeOf σ u ≡ 16) 
       )
 
   -- in words of 0
-  module _ (kept : List ℕ) (few : taskCount s ≤ 256) (zero : Zero 512 keptLength kept) where
-    z : (i : ℕ) → 512 ≤ i → i < keptLength → getD kept i 0 ≡ 0
+  module _ (kept : List ℕ) (few : taskCount s ≤ 256) (zero : Zero seenFrom keptLength kept) where
+    z : (i : ℕ) → seenFrom ≤ i → i < keptLength → getD kept i 0 ≡ 0
     z = zero .at
 
     pub counted-zero : Counted s σ (known s σ) kept
     counted-zero =
         record {
-          seen = λ t h. z (512 + t) (omega arith) (omega arith) ∙ sym (no-sum (into s t) oneBy);
-          arrived = λ t h. z (768 + t) (omega arith) (omega arith) ∙ sym (no-most (into s t) (reachBy s σ));
-          main = λ t h. z (768 + t) (omega arith) (omega arith) ∙ sym (no-most (intoFrom s σ t (getD kept (1280 + t) 0)) (reachBy s σ));
-          off = λ t h. z (1024 + t) (omega arith) (omega arith) ∙ sym (no-most (intoOff s σ t (getD kept (1280 + t) 0)) (reachBy s σ));
-          pending = λ k h. z (1568 + k) (omega arith) (omega arith) ∙ sym (no-sum (waits s σ k) oneBy);
-          packed = λ t j h g. z (1616 + (4 * t + j)) (omega arith) (omega arith) ∙ sym (four-zero _ (λ i p. no-sum (intoFrom s σ t (4 * j + i)) oneBy));
+          seen = λ t h. z (seenFrom + t) (omega arith) (omega arith) ∙ sym (no-sum (into s t) oneBy);
+          arrived = λ t h. z (arrivalsFrom + t) (omega arith) (omega arith) ∙ sym (no-most (into s t) (reachBy s σ));
+          main = λ t h. z (arrivalsFrom + t) (omega arith) (omega arith) ∙ sym (no-most (intoFrom s σ t (getD kept (sendersFrom + t) 0)) (reachBy s σ));
+          pending = λ k h. z (waitingFrom + k) (omega arith) (omega arith) ∙ sym (no-sum (waits s σ k) oneBy);
+          packed = λ t j h g. z (packedFrom + (4 * t + j)) (omega arith) (omega arith) ∙ sym (four-zero _ (λ i p. no-sum (intoFrom s σ t (4 * j + i)) oneBy));
         }
 
     pub ends-zero : Ends s σ kept
     ends-zero =
-        record { ends = λ k h. z (1536 + k) (omega arith) (omega arith) ∙ sym (no-end k h); stores = λ k h. z (1552 + k) (omega arith) (omega arith) ∙ sym (no-store k h) }
+        record { ends = λ k h. z (endsFrom + k) (omega arith) (omega arith) ∙ sym (no-end k h); stores = λ k h. z (storesFrom + k) (omega arith) (omega arith) ∙ sym (no-store k h) }
 
   pub closed-zero : Closed s σ
   closed-zero l h e = absurd (true≢false (sym e ∙ not-placed (targetOf s l)))

@@ -1,6 +1,6 @@
 -- Folds over the links that are counted: one more is counted.
 use Prim.Native.Nat.{ℕ, zero, suc, _+_, _≤_, _<_, max}
-use mathlib.Core.Bool.{Bool, true, false, not, true≢false}
+use mathlib.Core.Bool.{Bool, true, false}
 use mathlib.Core.Path.{_≡_, refl, sym, _∙_}
 use mathlib.Core.Logic.{_≢_}
 use native.Mathlib.Omega.{arith}
@@ -84,33 +84,7 @@ pub counts-from-le : (n : ℕ) (q p c : ℕ → Bool) (x : ℕ → ℕ) → sum 
 unfolding countedBy
 counts-from-le n q p c x = sum-mono n _ _ (λ l h. part (q l) (p l) (c l) (x l))
 
--- The two greatest: from those links that p marks, and from the others.
-module _ (n : ℕ) (q : ℕ → Bool) (x : ℕ → ℕ) (c : ℕ → Bool) where
-  abbrev pub from : (ℕ → Bool) → ℕ
-  from p = greatest n (countedBy (λ l. both (q l) (p l)) x c)
-
-  abbrev pub off : (ℕ → Bool) → ℕ
-  off p = greatest n (countedBy (λ l. both (q l) (not (p l))) x c)
-
-  abbrev pub whole : ℕ
-  whole = greatest n (countedBy q x c)
-
-  pub from-le : (p : ℕ → Bool) → from p ≤ whole
-  unfolding countedBy
-  from-le p = greatest-mono n _ _ (λ i h. part (q i) (p i) (c i) (x i))
-
-  pub off-le : (p : ℕ → Bool) → off p ≤ whole
-  unfolding countedBy
-  off-le p = greatest-mono n _ _ (λ i h. part (q i) (not (p i)) (c i) (x i))
-
-  apart : (a p r b : Bool) (y : ℕ) → both p r ≡ false → pick (both (both a p) b) y 0 ≤ pick (both (both a (not r)) b) y 0
-  apart a true true b y e = absurd (true≢false e)
-  apart true true false b y e = omega arith
-  apart false true false b y e = omega arith
-  apart true false r b y e = omega arith
-  apart false false r b y e = omega arith
-
-  -- what p marks is off r, if nothing is marked by both
-  pub from-le-off : (p r : ℕ → Bool) → ((i : ℕ) → i < n → both (p i) (r i) ≡ false) → from p ≤ off r
-  unfolding countedBy
-  from-le-off p r h = greatest-mono n _ _ (λ i k. apart (q i) (p i) (r i) (c i) (x i) (h i k))
+-- no more is the greatest of those that two tests ask for
+pub from-le : (n : ℕ) (q : ℕ → Bool) (x : ℕ → ℕ) (c p : ℕ → Bool) → greatest n (countedBy (λ l. both (q l) (p l)) x c) ≤ greatest n (countedBy q x c)
+unfolding countedBy
+from-le n q x c p = greatest-mono n _ _ (λ i h. part (q i) (p i) (c i) (x i))

@@ -16,20 +16,21 @@ use Rattle.sheet.specs.Sheet.{Sheet, taskCount, linkCount, targetOf, bytesOf}
 use Rattle.sheet.specs.Tables.{Ranged}
 use Rattle.chains.specs.Frames.{Only}
 use Rattle.chains.proofs.Frames.{only-none, only-set}
-use Rattle.arrivals.specs.Kept.{keptLength, countedBy, into, oneBy, Gathered}
+use Rattle.arrivals.specs.Layout.{bytesFrom, seenFrom, keptLength}
+use Rattle.arrivals.specs.Kept.{countedBy, into, oneBy, Gathered}
 use Rattle.arrivals.specs.Steps.{Zero, GatheredTo}
 
 -- in words of 0
-pub gather-none : {s : Sheet} {w : List ℕ} → Zero 0 512 w → taskCount s ≤ 256 → GatheredTo s 0 w
-gather-none z few = record { number = λ t h. z .at t (omega arith) (omega arith) ∙ sym (sum-zero _); bytes = λ t h. z .at (256 + t) (omega arith) (omega arith) ∙ sym (sum-zero _) }
+pub gather-none : {s : Sheet} {w : List ℕ} → Zero 0 seenFrom w → taskCount s ≤ 256 → GatheredTo s 0 w
+gather-none z few = record { number = λ t h. z .at t (omega arith) (omega arith) ∙ sym (sum-zero _); bytes = λ t h. z .at (bytesFrom + t) (omega arith) (omega arith) ∙ sym (sum-zero _) }
 
 module _ (s : Sheet) (w : List ℕ) (l : ℕ) (long : keptLength ≤ length w) (ranged : Ranged s) (l-in : l < linkCount s) (d : GatheredTo s l w) where
   abbrev v : ℕ
   v = targetOf s l
 
-  module _ (x y : ℕ) (ex : x ≡ getD w (targetOf s l) 0 + 1) (ey : y ≡ getD w (256 + targetOf s l) 0 + bytesOf s l) where
+  module _ (x y : ℕ) (ex : x ≡ getD w (targetOf s l) 0 + 1) (ey : y ≡ getD w (bytesFrom + targetOf s l) 0 + bytesOf s l) where
     abbrev next : List ℕ
-    next = set (set w (targetOf s l) x) (256 + targetOf s l) y
+    next = set (set w (targetOf s l) x) (bytesFrom + targetOf s l) y
 
     v-in : (v < taskCount s) × (taskCount s ≤ 256)
     v-in = (ranged .target l l-in, ranged .few-tasks)
@@ -38,22 +39,22 @@ module _ (s : Sheet) (w : List ℕ) (l : ℕ) (long : keptLength ≤ length w) (
     unfolding countedBy
     number′ t h (yes e) =
         let a = v-in in
-        rw e (getD-set-other (set w v x) (256 + v) v y 0 (omega arith) ∙ getD-set-same w v x 0 (omega arith) ∙ ex ∙ ap (λ (z : ℕ). z + 1) (d .number v (a .0))
+        rw e (getD-set-other (set w v x) (bytesFrom + v) v y 0 (omega arith) ∙ getD-set-same w v x 0 (omega arith) ∙ ex ∙ ap (λ (z : ℕ). z + 1) (d .number v (a .0))
         ∙ sym (sum-one l (countedBy (into s v) oneBy (λ i. true)) ∙ rw (eq-eqb v v refl)))
     number′ t h (no e) =
         let a = v-in in
-        getD-set-other (set w v x) (256 + v) t y 0 (omega arith) ∙ getD-set-other w v t x 0 (λ q. e (omega arith)) ∙ d .number t h
+        getD-set-other (set w v x) (bytesFrom + v) t y 0 (omega arith) ∙ getD-set-other w v t x 0 (λ q. e (omega arith)) ∙ d .number t h
         ∙ sym (sum-one l (countedBy (into s t) oneBy (λ i. true)) ∙ rw (ne-eqb v t (λ q. e (sym q))) (omega arith))
 
-    bytes′ : (t : ℕ) → t < taskCount s → Dec (t ≡ v) → getD next (256 + t) 0 ≡ sum (l + 1) (countedBy (into s t) (bytesOf s) (λ i. true))
+    bytes′ : (t : ℕ) → t < taskCount s → Dec (t ≡ v) → getD next (bytesFrom + t) 0 ≡ sum (l + 1) (countedBy (into s t) (bytesOf s) (λ i. true))
     unfolding countedBy
     bytes′ t h (yes e) =
         let a = v-in in
-        rw e (getD-set-same (set w v x) (256 + v) y 0 (simp length-set (omega arith)) ∙ ey ∙ ap (λ (z : ℕ). z + bytesOf s l) (d .bytes v (a .0))
+        rw e (getD-set-same (set w v x) (bytesFrom + v) y 0 (simp length-set (omega arith)) ∙ ey ∙ ap (λ (z : ℕ). z + bytesOf s l) (d .bytes v (a .0))
         ∙ sym (sum-one l (countedBy (into s v) (bytesOf s) (λ i. true)) ∙ rw (eq-eqb v v refl)))
     bytes′ t h (no e) =
         let a = v-in in
-        getD-set-other (set w v x) (256 + v) (256 + t) y 0 (λ q. e (omega arith)) ∙ getD-set-other w v (256 + t) x 0 (omega arith) ∙ d .bytes t h
+        getD-set-other (set w v x) (bytesFrom + v) (bytesFrom + t) y 0 (λ q. e (omega arith)) ∙ getD-set-other w v (bytesFrom + t) x 0 (omega arith) ∙ d .bytes t h
         ∙ sym (sum-one l (countedBy (into s t) (bytesOf s) (λ i. true)) ∙ rw (ne-eqb v t (λ q. e (sym q))) (omega arith))
 
     gather-more : GatheredTo s (l + 1) next
@@ -67,22 +68,22 @@ module _ (s : Sheet) (w : List ℕ) (l : ℕ) (long : keptLength ≤ length w) (
   unfolding countedBy
   few-bytes q = sum-le l 65535 _ (λ i h. pick-le (both (q i) true) (bytesOf s i) 0 65535 (omega (arith, ranged .sizes i (omega arith))) (omega arith))
 
-  pub gather-small : (t : ℕ) → t < taskCount s → (getD w t 0 ≤ 1024) × (getD w (256 + t) 0 ≤ 67107840)
+  pub gather-small : (t : ℕ) → t < taskCount s → (getD w t 0 ≤ 1024) × (getD w (bytesFrom + t) 0 ≤ 67107840)
   gather-small t h =
       let z = ranged .few-links in
       (omega (arith, d .number t h, few-terms (into s t)), omega (arith, d .bytes t h, few-bytes (into s t)))
 
   -- as the code writes it
-  pub gathered-by : (w₂ : List ℕ) {t b x y u z : ℕ} → t ≡ targetOf s l → b ≡ bytesOf s l → x ≡ getD w t 0 → y ≡ getD w (256 + t) 0 → u ≡ x + 1 → z ≡ y + b
-      → w₂ ≡ set (set w t u) (256 + t) z → Only 0 512 w w₂ × GatheredTo s (l + 1) w₂
+  pub gathered-by : (w₂ : List ℕ) {t b x y u z : ℕ} → t ≡ targetOf s l → b ≡ bytesOf s l → x ≡ getD w t 0 → y ≡ getD w (bytesFrom + t) 0 → u ≡ x + 1 → z ≡ y + b
+      → w₂ ≡ set (set w t u) (bytesFrom + t) z → Only 0 seenFrom w w₂ × GatheredTo s (l + 1) w₂
   gathered-by w₂ {t} {b} {x} {y} {u} {z} et eb ex ey eu ez e =
       let eu′ : u ≡ getD w (targetOf s l) 0 + 1 = eu ∙ ap (λ (p : ℕ). p + 1) (ex ∙ ap (λ (p : ℕ). getD w p 0) et) in
-      let ez′ : z ≡ getD w (256 + targetOf s l) 0 + bytesOf s l = ez ∙ ap₂ _+_ (ey ∙ ap (λ (p : ℕ). getD w (256 + p) 0) et) eb in
-      let e′ : w₂ ≡ set (set w (targetOf s l) u) (256 + targetOf s l) z = e ∙ ap (λ (p : ℕ). set (set w p u) (256 + p) z) et in
+      let ez′ : z ≡ getD w (bytesFrom + targetOf s l) 0 + bytesOf s l = ez ∙ ap₂ _+_ (ey ∙ ap (λ (p : ℕ). getD w (bytesFrom + p) 0) et) eb in
+      let e′ : w₂ ≡ set (set w (targetOf s l) u) (bytesFrom + targetOf s l) z = e ∙ ap (λ (p : ℕ). set (set w p u) (bytesFrom + p) z) et in
       let q = ranged .target l l-in in
       let r = ranged .few-tasks in (
-        subst (Only 0 512 w) (sym e′)
-            (only-set (256 + targetOf s l) z (omega arith) (omega arith) (only-set (targetOf s l) u (omega arith) (omega arith) (only-none 0 512 w))),
+        subst (Only 0 seenFrom w) (sym e′)
+            (only-set (bytesFrom + targetOf s l) z (omega arith) (omega arith) (only-set (targetOf s l) u (omega arith) (omega arith) (only-none 0 seenFrom w))),
         subst (GatheredTo s (l + 1)) (sym e′) (gather-more u z eu′ ez′),
       )
 

@@ -4,11 +4,12 @@ pub mod Fours
 pub mod Few
 pub mod Singles
 pub mod Reaches
-pub mod Choices
 pub mod Words
 pub mod Links
 pub mod Walks
 pub mod Numbered
+pub mod Stepping
+pub mod Reaching
 pub mod Surveys
 pub mod Placing
 pub mod Settling

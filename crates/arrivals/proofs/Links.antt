@@ -15,7 +15,8 @@ use Rattle.sheet.specs.Sheet.{Sheet, taskCount, linkCount, sourceOf, targetOf, 
 use Rattle.sheet.specs.Tables.{Ranged}
 use Rattle.planner.specs.Schedule.{Schedule, placed, stands, placeOf, finishOf}
 use Rattle.planner.specs.Placing.{reachBy}
-use Rattle.arrivals.specs.Kept.{keptLength, countedBy, into, intoFrom, intoOff, waits, oneBy, fourOf, Single, Counted}
+use Rattle.arrivals.specs.Layout.{seenFrom, arrivalsFrom, sendersFrom, waitingFrom, packedFrom, keptLength}
+use Rattle.arrivals.specs.Kept.{countedBy, into, intoFrom, waits, oneBy, fourOf, Single, Counted}
 use Rattle.arrivals.specs.Reach.{further}
 use Rattle.arrivals.specs.Steps.{countWords, upTo, Beside, Landed}
 use Rattle.arrivals.specs.declared.Reach.{Reach}
@@ -80,7 +81,7 @@ module _ (s : Sheet) (σ : Schedule) (w : List ℕ) (t i k f : ℕ) (k-in : k < 
   which n h (yes e) = rw (this-task, eq-eqb (k % 4) n e, eq-eqb (placeOf σ (sourceOf s i)) (4 * (k / 4) + n) (place ∙ omega arith))
   which n h (no e) = rw (this-task, ne-eqb (k % 4) n e, ne-eqb (placeOf σ (sourceOf s i)) (4 * (k / 4) + n) (λ z. e (omega (arith, place))))
 
-  number-now : {number : ℕ} → number ≡ getD w (1616 + (4 * v + k / 4)) 0 + 2 ^ (8 * (k % 4)) → number ≡ fourOf (counts v (k / 4) c′)
+  number-now : {number : ℕ} → number ≡ getD w (packedFrom + (4 * v + k / 4)) 0 + 2 ^ (8 * (k % 4)) → number ≡ fourOf (counts v (k / 4) c′)
   number-now e =
       e ∙ ap (λ (x : ℕ). x + 2 ^ (8 * (k % 4))) (counted .packed v (k / 4) v-in (omega arith))
       ∙ sym (four-more (counts v (k / 4) c) (counts v (k / 4) c′) (k % 4) (omega arith) (λ n h. summed (intoFrom s σ v (4 * (k / 4) + n)) oneBy ∙ rw (which n h (ℕ-discrete (k % 4) n))))
@@ -90,7 +91,7 @@ module _ (s : Sheet) (σ : Schedule) (w : List ℕ) (t i k f : ℕ) (k-in : k < 
   counted-placed l e = both-parts (placed σ (sourceOf s l)) (either (not (eqb (sourceOf s l) t)) (ltb l (i + 1))) e .0
 
   -- no count leaves its byte
-  pub number-small : {number : ℕ} → Ranged s → Single s → number ≡ getD w (1616 + (4 * v + k / 4)) 0 + 2 ^ (8 * (k % 4)) → number < 4294967296
+  pub number-small : {number : ℕ} → Ranged s → Single s → number ≡ getD w (packedFrom + (4 * v + k / 4)) 0 + 2 ^ (8 * (k % 4)) → number < 4294967296
   number-small ranged single e =
       omega (
         arith,
@@ -99,9 +100,9 @@ module _ (s : Sheet) (σ : Schedule) (w : List ℕ) (t i k f : ℕ) (k-in : k < 
       )
 
   module _ (few : taskCount s ≤ 256) (w′ : List ℕ) (seen y pending number : ℕ) (reach : Reach)
-      (ey : y ≡ f + costOf s i) (es : seen ≡ getD w (512 + v) 0 + 1)
-      (er : reach ≡ record { at = getD w (1280 + v) 0; most = getD w (768 + v) 0; other = getD w (1024 + v) 0 })
-      (ep : pending ≡ getD w (1568 + k) 0 + 1) (en : number ≡ getD w (1616 + (4 * v + k / 4)) 0 + 2 ^ (8 * (k % 4)))
+      (ey : y ≡ f + costOf s i) (es : seen ≡ getD w (seenFrom + v) 0 + 1)
+      (er : reach ≡ record { at = getD w (sendersFrom + v) 0; most = getD w (arrivalsFrom + v) 0 })
+      (ep : pending ≡ getD w (waitingFrom + k) 0 + 1) (en : number ≡ getD w (packedFrom + (4 * v + k / 4)) 0 + 2 ^ (8 * (k % 4)))
       (wrote : Wrote w v k seen (further reach k y) pending number w′) where
     y-is : reachBy s σ i ≡ y
     y-is = sym (ey ∙ ap (λ (x : ℕ). x + costOf s i) (landed .finish ∙ ap (finishOf σ) (sym own)))
@@ -111,32 +112,25 @@ module _ (s : Sheet) (σ : Schedule) (w : List ℕ) (t i k f : ℕ) (k-in : k < 
     reaches =
         reaches-more (linkCount s) (into s v) (reachBy s σ) (λ l. placeOf σ (sourceOf s l)) c c′ i k y i-in (up-was s σ t i own (landed .on)) (up-now s σ t i own (landed .on)) (λ j h d. up-same s σ t i j d)
         this-task y-is place reach
-        (rw er record { whole = counted .arrived v v-in; main = counted .main v v-in; off = counted .off v v-in })
+        (rw er record { whole = counted .arrived v v-in; main = counted .main v v-in })
 
-    seen′ : (u : ℕ) → u < taskCount s → Dec (u ≡ v) → getD w′ (512 + u) 0 ≡ sum (linkCount s) (countedBy (into s u) oneBy c′)
+    seen′ : (u : ℕ) → u < taskCount s → Dec (u ≡ v) → getD w′ (seenFrom + u) 0 ≡ sum (linkCount s) (countedBy (into s u) oneBy c′)
     seen′ u h (yes e) = rw e (wrote .seen-is ∙ es ∙ ap (λ (x : ℕ). x + 1) (counted .seen v v-in) ∙ sym (summed (into s v) oneBy ∙ rw this-task))
     seen′ u h (no e) = wrote .seen-else u (omega arith) e ∙ counted .seen u h ∙ sym (summed (into s u) oneBy ∙ rw (other-task u e) (omega arith))
 
-    arrived′ : (u : ℕ) → u < taskCount s → Dec (u ≡ v) → getD w′ (768 + u) 0 ≡ greatest (linkCount s) (countedBy (into s u) (reachBy s σ) c′)
+    arrived′ : (u : ℕ) → u < taskCount s → Dec (u ≡ v) → getD w′ (arrivalsFrom + u) 0 ≡ greatest (linkCount s) (countedBy (into s u) (reachBy s σ) c′)
     arrived′ u h (yes e) = rw e (wrote .most-is ∙ reaches .whole)
     arrived′ u h (no e) = wrote .most-else u (omega arith) e ∙ counted .arrived u h ∙ sym (reached (into s u) (reachBy s σ) ∙ rw (other-task u e) (omega arith))
 
-    main′ : (u : ℕ) → u < taskCount s → Dec (u ≡ v) → getD w′ (768 + u) 0 ≡ greatest (linkCount s) (countedBy (intoFrom s σ u (getD w′ (1280 + u) 0)) (reachBy s σ) c′)
+    main′ : (u : ℕ) → u < taskCount s → Dec (u ≡ v) → getD w′ (arrivalsFrom + u) 0 ≡ greatest (linkCount s) (countedBy (intoFrom s σ u (getD w′ (sendersFrom + u) 0)) (reachBy s σ) c′)
     unfolding stands
     main′ u h (yes e) = rw (e, wrote .at-is) (wrote .most-is ∙ reaches .main)
     main′ u h (no e) =
         rw (wrote .at-else u (omega arith) e)
-        (wrote .most-else u (omega arith) e ∙ counted .main u h ∙ sym (reached (intoFrom s σ u (getD w (1280 + u) 0)) (reachBy s σ) ∙ rw (other-task u e) (omega arith)))
-
-    off′ : (u : ℕ) → u < taskCount s → Dec (u ≡ v) → getD w′ (1024 + u) 0 ≡ greatest (linkCount s) (countedBy (intoOff s σ u (getD w′ (1280 + u) 0)) (reachBy s σ) c′)
-    unfolding stands
-    off′ u h (yes e) = rw (e, wrote .at-is) (wrote .other-is ∙ reaches .off)
-    off′ u h (no e) =
-        rw (wrote .at-else u (omega arith) e)
-        (wrote .other-else u (omega arith) e ∙ counted .off u h ∙ sym (reached (intoOff s σ u (getD w (1280 + u) 0)) (reachBy s σ) ∙ rw (other-task u e) (omega arith)))
+        (wrote .most-else u (omega arith) e ∙ counted .main u h ∙ sym (reached (intoFrom s σ u (getD w (sendersFrom + u) 0)) (reachBy s σ) ∙ rw (other-task u e) (omega arith)))
 
     -- t's successor v is not placed, so that the link waits on k
-    pending′ : (j : ℕ) → j < 16 → Dec (j ≡ k) → getD w′ (1568 + j) 0 ≡ sum (linkCount s) (countedBy (waits s σ j) oneBy c′)
+    pending′ : (j : ℕ) → j < 16 → Dec (j ≡ k) → getD w′ (waitingFrom + j) 0 ≡ sum (linkCount s) (countedBy (waits s σ j) oneBy c′)
     unfolding stands
     pending′ j h (yes e) =
         rw e (wrote .pending-is ∙ ep ∙ ap (λ (x : ℕ). x + 1) (counted .pending k k-in)
@@ -150,12 +144,12 @@ module _ (s : Sheet) (σ : Schedule) (w : List ℕ) (t i k f : ℕ) (k-in : k < 
     other-place u j d (yes e) = rw (e, this-task, ne-eqb (placeOf σ (sourceOf s i)) j (λ z. d e (sym z ∙ place)))
     other-place u j d (no e) = rw (other-task u e)
 
-    packed-else : (u j : ℕ) → u < taskCount s → j < 4 → 4 * u + j ≢ 4 * v + k / 4 → (u ≡ v → j ≢ k / 4) → getD w′ (1616 + (4 * u + j)) 0 ≡ fourOf (counts u j c′)
+    packed-else : (u j : ℕ) → u < taskCount s → j < 4 → 4 * u + j ≢ 4 * v + k / 4 → (u ≡ v → j ≢ k / 4) → getD w′ (packedFrom + (4 * u + j)) 0 ≡ fourOf (counts u j c′)
     packed-else u j h g d e =
         wrote .number-else u j g d ∙ counted .packed u j h g
         ∙ four-cong (counts u j c) (counts u j c′) (λ n p. sym (summed (intoFrom s σ u (4 * j + n)) oneBy ∙ rw (other-place u (4 * j + n) (λ a b. e a (omega arith)) (ℕ-discrete u v)) (omega arith)))
 
-    packed′ : (u j : ℕ) → u < taskCount s → j < 4 → Dec (u ≡ v) → Dec (j ≡ k / 4) → getD w′ (1616 + (4 * u + j)) 0 ≡ fourOf (counts u j c′)
+    packed′ : (u j : ℕ) → u < taskCount s → j < 4 → Dec (u ≡ v) → Dec (j ≡ k / 4) → getD w′ (packedFrom + (4 * u + j)) 0 ≡ fourOf (counts u j c′)
     packed′ u j h g (yes e) (yes q) = rw (e, q) (wrote .number-is ∙ number-now en)
     packed′ u j h g (yes e) (no q) = packed-else u j h g (λ x. q (omega arith)) (λ a b. q b)
     packed′ u j h g (no e) q = packed-else u j h g (λ x. e (omega arith)) (λ a b. e a)
@@ -166,16 +160,15 @@ module _ (s : Sheet) (σ : Schedule) (w : List ℕ) (t i k f : ℕ) (k-in : k < 
           seen = λ u h. seen′ u h (ℕ-discrete u v);
           arrived = λ u h. arrived′ u h (ℕ-discrete u v);
           main = λ u h. main′ u h (ℕ-discrete u v);
-          off = λ u h. off′ u h (ℕ-discrete u v);
           pending = λ j h. pending′ j h (ℕ-discrete j k);
           packed = λ u j h g. packed′ u j h g (ℕ-discrete u v) (ℕ-discrete j (k / 4));
         }
 
 -- as the code writes it
 pub counted-by : (s : Sheet) (σ : Schedule) (w w′ : List ℕ) (t i k f : ℕ) → keptLength ≤ length w → Ranged s → k < 16 → i < linkCount s → sourceOf s i ≡ t → Landed s σ t k f → Counted s σ (upTo s σ t i) w
-    → {v seen y pending number : ℕ} {reach r : Reach} → v ≡ targetOf s i → y ≡ f + costOf s i → seen ≡ getD w (512 + v) 0 + 1
-    → reach ≡ record { at = getD w (1280 + v) 0; most = getD w (768 + v) 0; other = getD w (1024 + v) 0 }
-    → pending ≡ getD w (1568 + k) 0 + 1 → number ≡ getD w (1616 + (4 * v + k / 4)) 0 + 2 ^ (8 * (k % 4))
+    → {v seen y pending number : ℕ} {reach r : Reach} → v ≡ targetOf s i → y ≡ f + costOf s i → seen ≡ getD w (seenFrom + v) 0 + 1
+    → reach ≡ record { at = getD w (sendersFrom + v) 0; most = getD w (arrivalsFrom + v) 0 }
+    → pending ≡ getD w (waitingFrom + k) 0 + 1 → number ≡ getD w (packedFrom + (4 * v + k / 4)) 0 + 2 ^ (8 * (k % 4))
     → r ≡ further reach k y → w′ ≡ countWords w v k seen r pending number → Beside w w′ × Counted s σ (upTo s σ t (i + 1)) w′
 counted-by s σ w w′ t i k f long ranged k-in i-in own landed counted {v} {seen} {y} {pending} {number} {reach} {r} ev ey es er ep en ef e =
     let to = ranged .target i i-in in
@@ -187,8 +180,8 @@ counted-by s σ w w′ t i k f long ranged k-in i-in own landed counted {v} {see
 
 -- what counting a link adds to
 pub record Few (t k : ℕ) (w : List ℕ) : Type 0 where
-  pub seen : getD w (512 + t) 0 ≤ 1024
-  pub pending : getD w (1568 + k) 0 ≤ 1024
+  pub seen : getD w (seenFrom + t) 0 ≤ 1024
+  pub pending : getD w (waitingFrom + k) 0 ≤ 1024
 
 pub few-counted : {s : Sheet} {σ : Schedule} {c : ℕ → Bool} {w : List ℕ} → Ranged s → Counted s σ c w → (t k : ℕ) → t < taskCount s → k < 16 → Few t k w
 few-counted {s} {σ} {c} {w} ranged d t k h g =

@@ -16,7 +16,8 @@ use Rattle.sheet.specs.Sheet.{Sheet, taskCount, linkCount, sourceOf, targetOf, 
 use Rattle.planner.specs.Schedule.{Schedule, put, nowhere, placed, stands, placeOf, finishOf}
 use Rattle.planner.specs.Placing.{reachBy, endBy, endOf, storeBy, bytesBy, storeOn}
 use Rattle.planner.proofs.Schedules.{on-other, finish-other, placed-other}
-use Rattle.arrivals.specs.Kept.{countedBy, into, intoFrom, intoOff, waits, oneBy, known, Counted, Surveyed, Closed}
+use Rattle.arrivals.specs.Layout.{seenFrom, arrivalsFrom, sendersFrom, packedFrom}
+use Rattle.arrivals.specs.Kept.{countedBy, into, intoFrom, waits, oneBy, known, Counted, Surveyed, Closed}
 use Rattle.arrivals.specs.Steps.{upTo, Placeable, Landed, Released}
 use Rattle.arrivals.proofs.Counts.{count-agree}
 use Rattle.arrivals.proofs.Fours.{four-cong}
@@ -80,9 +81,6 @@ module _ (s : Sheet) (σ : Schedule) (t k a b : ℕ) (g : Placeable s σ t k) wh
   same-from : (u j l : ℕ) → (sourceOf s l ≡ t → ⊥) → intoFrom s σ u j l ≡ intoFrom s σ′ u j l
   same-from u j l d = ap (λ (x : Bool). both (eqb (targetOf s l) u) x) (sym (stands-other (sourceOf s l) j d))
 
-  same-off : (u j l : ℕ) → (sourceOf s l ≡ t → ⊥) → intoOff s σ u j l ≡ intoOff s σ′ u j l
-  same-off u j l d = ap (λ (x : Bool). both (eqb (targetOf s l) u) (not x)) (sym (stands-other (sourceOf s l) j d))
-
   same-waits : (j l : ℕ) → sourceOf s l ≢ t → targetOf s l ≢ t → waits s σ j l ≡ waits s σ′ j l
   same-waits j l d n = rw (stands-other (sourceOf s l) j d, placed-other σ t k a b (targetOf s l) n)
 
@@ -119,19 +117,15 @@ module _ (s : Sheet) (σ : Schedule) (t k a b : ℕ) (g : Placeable s σ t k) wh
   counted-begins w w′ r v d =
       let few = g .ranged .few-tasks in
       record {
-        seen = λ u h. r .low (512 + u) (omega arith) ∙ d .seen u h ∙ sum-cong (linkCount s) _ _ (λ l p. agree (into s u) (into s u) oneBy oneBy (λ i q. (refl, refl)) l);
-        arrived = λ u h. r .low (768 + u) (omega arith) ∙ d .arrived u h ∙ greatest-cong (linkCount s) _ _ (λ l p. agree (into s u) (into s u) (reachBy s σ) (reachBy s σ′) (λ i q. (refl, same-reach i q)) l);
+        seen = λ u h. r .low (seenFrom + u) (omega arith) ∙ d .seen u h ∙ sum-cong (linkCount s) _ _ (λ l p. agree (into s u) (into s u) oneBy oneBy (λ i q. (refl, refl)) l);
+        arrived = λ u h. r .low (arrivalsFrom + u) (omega arith) ∙ d .arrived u h ∙ greatest-cong (linkCount s) _ _ (λ l p. agree (into s u) (into s u) (reachBy s σ) (reachBy s σ′) (λ i q. (refl, same-reach i q)) l);
         main =
-            λ u h. let x = getD w (1280 + u) 0 in
-            rw (r .low (1280 + u) (omega arith))
-            (r .low (768 + u) (omega arith) ∙ d .main u h ∙ greatest-cong (linkCount s) _ _ (λ l p. agree (intoFrom s σ u x) (intoFrom s σ′ u x) (reachBy s σ) (reachBy s σ′) (λ i q. (same-from u x i q, same-reach i q)) l));
-        off =
-            λ u h. let x = getD w (1280 + u) 0 in
-            rw (r .low (1280 + u) (omega arith))
-            (r .low (1024 + u) (omega arith) ∙ d .off u h ∙ greatest-cong (linkCount s) _ _ (λ l p. agree (intoOff s σ u x) (intoOff s σ′ u x) (reachBy s σ) (reachBy s σ′) (λ i q. (same-off u x i q, same-reach i q)) l));
+            λ u h. let x = getD w (sendersFrom + u) 0 in
+            rw (r .low (sendersFrom + u) (omega arith))
+            (r .low (arrivalsFrom + u) (omega arith) ∙ d .main u h ∙ greatest-cong (linkCount s) _ _ (λ l p. agree (intoFrom s σ u x) (intoFrom s σ′ u x) (reachBy s σ) (reachBy s σ′) (λ i q. (same-from u x i q, same-reach i q)) l));
         pending = λ j h. omega (arith, r .pending j h, d .pending j h, v .number j h, waits-put j);
         packed =
-            λ u j h f. r .high (1616 + (4 * u + j)) (omega arith) ∙ d .packed u j h f
+            λ u j h f. r .high (packedFrom + (4 * u + j)) (omega arith) ∙ d .packed u j h f
             ∙ four-cong _ _ (λ i n. sum-cong (linkCount s) _ _ (λ l p. agree (intoFrom s σ u (4 * j + i)) (intoFrom s σ′ u (4 * j + i)) oneBy oneBy (λ x q. (same-from u (4 * j + i) x q, refl)) l));
       }
 

@@ -17,7 +17,8 @@ use Rattle.planner.specs.Schedule.{Schedule, put, stands}
 use Rattle.planner.specs.Placing.{endOf, storeBy, bytesBy, storeOn}
 use Rattle.chains.specs.Frames.{Only}
 use Rattle.chains.proofs.Frames.{only-none, only-set}
-use Rattle.arrivals.specs.Kept.{keptLength, known, Gathered, Counted, Surveyed, Ends}
+use Rattle.arrivals.specs.Layout.{bytesFrom, endsFrom, storesFrom, waitingFrom, turnBytesFrom, turnLinksFrom, keptLength}
+use Rattle.arrivals.specs.Kept.{known, Gathered, Counted, Surveyed, Ends}
 use Rattle.arrivals.specs.Steps.{Placeable, Released, Enough}
 use Rattle.arrivals.proofs.Placing.{end-put, store-put, store-else, waits-put}
 
@@ -35,49 +36,49 @@ store-small s σ k ranged =
 module _ (s : Sheet) (σ : Schedule) (w : List ℕ) (t k a f : ℕ) (long : keptLength ≤ length w) (g : Placeable s σ t k) (late : endOf s σ k ≤ f)
     (gathered : Gathered s w) (counted : Counted s σ (known s σ) w) (surveyed : Surveyed s σ t w) (ends : Ends s σ w) where
   -- the store of k with t there
-  pub store-with : getD w (1552 + k) 0 + storeOf s t + getD w (256 + t) 0 ≡ storeOn s (put σ t k a f) k + getD w (1584 + k) 0
+  pub store-with : getD w (storesFrom + k) 0 + storeOf s t + getD w (bytesFrom + t) 0 ≡ storeOn s (put σ t k a f) k + getD w (turnBytesFrom + k) 0
   store-with = rw (ends .stores k (g .on), gathered .bytes t (g .task), surveyed .bytes k (g .on)) (sym (store-put s σ t k a f g))
 
   module _ (x : ℕ) (ex : x ≡ storeOn s (put σ t k a f) k) where
     abbrev new : List ℕ
-    new = set (set w (1536 + k) f) (1552 + k) x
+    new = set (set w (endsFrom + k) f) (storesFrom + k) x
 
-    settled-only : Only 1536 1568 w new
+    settled-only : Only endsFrom waitingFrom w new
     settled-only =
         let h = g .on in
-        only-set (1552 + k) x (omega arith) (omega arith) (only-set (1536 + k) f (omega arith) (omega arith) (only-none 1536 1568 w))
+        only-set (storesFrom + k) x (omega arith) (omega arith) (only-set (endsFrom + k) f (omega arith) (omega arith) (only-none endsFrom waitingFrom w))
 
-    end-at : (j : ℕ) → j < 16 → Dec (j ≡ k) → getD new (1536 + j) 0 ≡ endOf s (put σ t k a f) j
+    end-at : (j : ℕ) → j < 16 → Dec (j ≡ k) → getD new (endsFrom + j) 0 ≡ endOf s (put σ t k a f) j
     end-at j h (yes e) =
         let p = g .on in
-        rw e (getD-set-other (set w (1536 + k) f) (1552 + k) (1536 + k) x 0 (omega arith) ∙ getD-set-same w (1536 + k) f 0 (omega arith)
+        rw e (getD-set-other (set w (endsFrom + k) f) (storesFrom + k) (endsFrom + k) x 0 (omega arith) ∙ getD-set-same w (endsFrom + k) f 0 (omega arith)
         ∙ sym (end-put s σ t k a f g k p ∙ rw (eq-eqb k k refl) (omega arith)))
     end-at j h (no e) =
         let p = g .on in
-        getD-set-other (set w (1536 + k) f) (1552 + k) (1536 + j) x 0 (omega arith) ∙ getD-set-other w (1536 + k) (1536 + j) f 0 (λ q. e (omega arith)) ∙ ends .ends j h
+        getD-set-other (set w (endsFrom + k) f) (storesFrom + k) (endsFrom + j) x 0 (omega arith) ∙ getD-set-other w (endsFrom + k) (endsFrom + j) f 0 (λ q. e (omega arith)) ∙ ends .ends j h
         ∙ sym (end-put s σ t k a f g j h ∙ rw (ne-eqb k j (λ q. e (sym q))) (omega arith))
 
-    store-at : (j : ℕ) → j < 16 → Dec (j ≡ k) → getD new (1552 + j) 0 ≡ storeOn s (put σ t k a f) j
+    store-at : (j : ℕ) → j < 16 → Dec (j ≡ k) → getD new (storesFrom + j) 0 ≡ storeOn s (put σ t k a f) j
     store-at j h (yes e) =
         let p = g .on in
-        rw e (getD-set-same (set w (1536 + k) f) (1552 + k) x 0 (simp length-set (omega arith)) ∙ ex)
+        rw e (getD-set-same (set w (endsFrom + k) f) (storesFrom + k) x 0 (simp length-set (omega arith)) ∙ ex)
     store-at j h (no e) =
         let p = g .on in
-        getD-set-other (set w (1536 + k) f) (1552 + k) (1552 + j) x 0 (λ q. e (omega arith)) ∙ getD-set-other w (1536 + k) (1552 + j) f 0 (omega arith) ∙ ends .stores j h
+        getD-set-other (set w (endsFrom + k) f) (storesFrom + k) (storesFrom + j) x 0 (λ q. e (omega arith)) ∙ getD-set-other w (endsFrom + k) (storesFrom + j) f 0 (omega arith) ∙ ends .stores j h
         ∙ sym (store-else s σ t k a f g j h e)
 
     settled-ends : Ends s (put σ t k a f) new
     settled-ends = record { ends = λ j h. end-at j h (ℕ-discrete j k); stores = λ j h. store-at j h (ℕ-discrete j k) }
 
   -- as the code writes it
-  pub settled-by : (w₂ : List ℕ) {f₁ x y z v r : ℕ} → f₁ ≡ f → x ≡ getD w (1552 + k) 0 → y ≡ storeOf s t → z ≡ getD w (256 + t) 0 → v ≡ getD w (1584 + k) 0
-      → r ≡ x + y + z - v → w₂ ≡ set (set w (1536 + k) f₁) (1552 + k) r → Only 1536 1568 w w₂ × Ends s (put σ t k a f) w₂
+  pub settled-by : (w₂ : List ℕ) {f₁ x y z v r : ℕ} → f₁ ≡ f → x ≡ getD w (storesFrom + k) 0 → y ≡ storeOf s t → z ≡ getD w (bytesFrom + t) 0 → v ≡ getD w (turnBytesFrom + k) 0
+      → r ≡ x + y + z - v → w₂ ≡ set (set w (endsFrom + k) f₁) (storesFrom + k) r → Only endsFrom waitingFrom w w₂ × Ends s (put σ t k a f) w₂
   settled-by w₂ {f₁} {x} {y} {z} {v} {r} ef ex ey ez ev er e =
       let er′ : r ≡ storeOn s (put σ t k a f) k = omega (arith, store-with) in
-      let e′ : w₂ ≡ set (set w (1536 + k) f) (1552 + k) r = e ∙ ap (λ (i : ℕ). set (set w (1536 + k) i) (1552 + k) r) ef in
-      (subst (Only 1536 1568 w) (sym e′) (settled-only r er′), subst (Ends s (put σ t k a f)) (sym e′) (settled-ends r er′))
+      let e′ : w₂ ≡ set (set w (endsFrom + k) f) (storesFrom + k) r = e ∙ ap (λ (i : ℕ). set (set w (endsFrom + k) i) (storesFrom + k) r) ef in
+      (subst (Only endsFrom waitingFrom w) (sym e′) (settled-only r er′), subst (Ends s (put σ t k a f)) (sym e′) (settled-ends r er′))
 
-  pub settled-sub : {x y z v : ℕ} → x ≡ getD w (1552 + k) 0 → y ≡ storeOf s t → z ≡ getD w (256 + t) 0 → v ≡ getD w (1584 + k) 0 → (v ≤ x + y + z) × (x + y + z - v ≤ 83884800)
+  pub settled-sub : {x y z v : ℕ} → x ≡ getD w (storesFrom + k) 0 → y ≡ storeOf s t → z ≡ getD w (bytesFrom + t) 0 → v ≡ getD w (turnBytesFrom + k) 0 → (v ≤ x + y + z) × (x + y + z - v ≤ 83884800)
   settled-sub ex ey ez ev =
       let q = store-with in
       let b = store-small s (put σ t k a f) k (g .ranged) in
@@ -90,24 +91,24 @@ module _ (s : Sheet) (σ : Schedule) (w : List ℕ) (t k a f : ℕ) (long : kept
 pub released-none : (w : List ℕ) → Released 0 w w
 released-none w = record { long = refl; low = λ i h. refl; high = λ i h. refl; pending = λ i h. absurd (omega arith) }
 
-pub released-more : {j x y r : ℕ} {w w′ : List ℕ} → keptLength ≤ length w → j < 16 → x ≡ getD w′ (1568 + j) 0 → y ≡ getD w′ (1600 + j) 0 → r ≡ x - y → Enough w → Released j w w′
-    → Released (j + 1) w (set w′ (1568 + j) r)
+pub released-more : {j x y r : ℕ} {w w′ : List ℕ} → keptLength ≤ length w → j < 16 → x ≡ getD w′ (waitingFrom + j) 0 → y ≡ getD w′ (turnLinksFrom + j) 0 → r ≡ x - y → Enough w → Released j w w′
+    → Released (j + 1) w (set w′ (waitingFrom + j) r)
 released-more {j} {x} {y} {r} {w} {w′} long h ex ey er enough d =
     record {
-      long = length-set w′ (1568 + j) r ∙ d .long;
-      low = λ i k. getD-set-other w′ (1568 + j) i r 0 (omega arith) ∙ d .low i k;
-      high = λ i k. getD-set-other w′ (1568 + j) i r 0 (omega arith) ∙ d .high i (omega arith);
+      long = length-set w′ (waitingFrom + j) r ∙ d .long;
+      low = λ i k. getD-set-other w′ (waitingFrom + j) i r 0 (omega arith) ∙ d .low i k;
+      high = λ i k. getD-set-other w′ (waitingFrom + j) i r 0 (omega arith) ∙ d .high i (omega arith);
       pending = λ i k. at i k (ℕ-discrete i j);
     }
   where
-    at : (i : ℕ) → i < j + 1 → Dec (i ≡ j) → getD (set w′ (1568 + j) r) (1568 + i) 0 + getD w (1600 + i) 0 ≡ getD w (1568 + i) 0
+    at : (i : ℕ) → i < j + 1 → Dec (i ≡ j) → getD (set w′ (waitingFrom + j) r) (waitingFrom + i) 0 + getD w (turnLinksFrom + i) 0 ≡ getD w (waitingFrom + i) 0
     at i k (yes e) =
-        rw (e, getD-set-same w′ (1568 + j) r 0 (omega (arith, d .long)))
-        (omega (arith, enough .most j h, d .high (1568 + j) (omega arith), d .high (1600 + j) (omega arith)))
-    at i k (no e) = rw (getD-set-other w′ (1568 + j) (1568 + i) r 0 (λ q. e (omega arith))) (d .pending i (omega arith))
+        rw (e, getD-set-same w′ (waitingFrom + j) r 0 (omega (arith, d .long)))
+        (omega (arith, enough .most j h, d .high (waitingFrom + j) (omega arith), d .high (turnLinksFrom + j) (omega arith)))
+    at i k (no e) = rw (getD-set-other w′ (waitingFrom + j) (waitingFrom + i) r 0 (λ q. e (omega arith))) (d .pending i (omega arith))
 
-pub released-sub : {j x y : ℕ} {w w′ : List ℕ} → j < 16 → x ≡ getD w′ (1568 + j) 0 → y ≡ getD w′ (1600 + j) 0 → Enough w → Released j w w′ → y ≤ x
-released-sub {j} h ex ey enough d = omega (arith, enough .most j h, d .high (1568 + j) (omega arith), d .high (1600 + j) (omega arith))
+pub released-sub : {j x y : ℕ} {w w′ : List ℕ} → j < 16 → x ≡ getD w′ (waitingFrom + j) 0 → y ≡ getD w′ (turnLinksFrom + j) 0 → Enough w → Released j w w′ → y ≤ x
+released-sub {j} h ex ey enough d = omega (arith, enough .most j h, d .high (waitingFrom + j) (omega arith), d .high (turnLinksFrom + j) (omega arith))
 
 pub released-at : {j : ℕ} {w w′ : List ℕ} → j ≡ 16 → Released j w w′ → Released 16 w w′
 released-at {j} {w} {w′} e d = subst (λ (x : ℕ). Released x w w′) e d

@@ -20,7 +20,8 @@ use Rattle.planner.specs.Placing.{reachBy}
 use Rattle.schedule.specs.Layout.{scheduleIn}
 use Rattle.chains.specs.Chains.{headOf, nextOf, Chained}
 use Rattle.chains.specs.declared.End.the-variants.{Source}
-use Rattle.arrivals.specs.Kept.{keptLength, countedBy, into, known, oneBy, Single, Gathered, Counted, Ends, Kept, Arrived}
+use Rattle.arrivals.specs.Layout.{bytesFrom, seenFrom, arrivalsFrom, sendersFrom, endsFrom, storesFrom, waitingFrom, turnBytesFrom, packedFrom, keptLength}
+use Rattle.arrivals.specs.Kept.{countedBy, into, known, oneBy, Single, Gathered, Counted, Ends, Kept, Arrived}
 use Rattle.arrivals.specs.Steps.{upTo, Beside}
 use Rattle.arrivals.proofs.Fours.{four-cong}
 
@@ -32,7 +33,6 @@ counted-same {s} {σ} {c} c′ {w} e d =
       seen = λ t h. d .seen t h ∙ sum-cong (linkCount s) _ _ (λ l k. rw (e l k));
       arrived = λ t h. d .arrived t h ∙ greatest-cong (linkCount s) _ _ (λ l k. rw (e l k));
       main = λ t h. d .main t h ∙ greatest-cong (linkCount s) _ _ (λ l k. rw (e l k));
-      off = λ t h. d .off t h ∙ greatest-cong (linkCount s) _ _ (λ l k. rw (e l k));
       pending = λ j h. d .pending j h ∙ sum-cong (linkCount s) _ _ (λ l k. rw (e l k));
       packed = λ t j h g. d .packed t j h g ∙ four-cong _ _ (λ i p. sum-cong (linkCount s) _ _ (λ l k. rw (e l k)));
     }
@@ -61,26 +61,25 @@ up-all s σ t m l h = go (ℕ-discrete (sourceOf s l) t)
     go (no e) = rw (ne-eqb (sourceOf s l) t e) (both-true (placed σ (sourceOf s l)))
 
 -- words that are the same say the same
-pub counted-frame : {s : Sheet} {σ : Schedule} {c : ℕ → Bool} {w w′ : List ℕ} → taskCount s ≤ 256 → ((i : ℕ) → 512 ≤ i → i < 1536 → getD w′ i 0 ≡ getD w i 0) → ((i : ℕ) → 1568 ≤ i → i < 1584 → getD w′ i 0 ≡ getD w i 0)
-    → ((i : ℕ) → 1616 ≤ i → getD w′ i 0 ≡ getD w i 0)
+pub counted-frame : {s : Sheet} {σ : Schedule} {c : ℕ → Bool} {w w′ : List ℕ} → taskCount s ≤ 256 → ((i : ℕ) → seenFrom ≤ i → i < endsFrom → getD w′ i 0 ≡ getD w i 0) → ((i : ℕ) → waitingFrom ≤ i → i < turnBytesFrom → getD w′ i 0 ≡ getD w i 0)
+    → ((i : ℕ) → packedFrom ≤ i → getD w′ i 0 ≡ getD w i 0)
     → Counted s σ c w → Counted s σ c w′
 counted-frame few f g p d =
     record {
-      seen = λ t h. f (512 + t) (omega arith) (omega arith) ∙ d .seen t h;
-      arrived = λ t h. f (768 + t) (omega arith) (omega arith) ∙ d .arrived t h;
-      main = λ t h. rw (f (1280 + t) (omega arith) (omega arith)) (f (768 + t) (omega arith) (omega arith) ∙ d .main t h);
-      off = λ t h. rw (f (1280 + t) (omega arith) (omega arith)) (f (1024 + t) (omega arith) (omega arith) ∙ d .off t h);
-      pending = λ k h. g (1568 + k) (omega arith) (omega arith) ∙ d .pending k h;
-      packed = λ t j h l. p (1616 + (4 * t + j)) (omega arith) ∙ d .packed t j h l;
+      seen = λ t h. f (seenFrom + t) (omega arith) (omega arith) ∙ d .seen t h;
+      arrived = λ t h. f (arrivalsFrom + t) (omega arith) (omega arith) ∙ d .arrived t h;
+      main = λ t h. rw (f (sendersFrom + t) (omega arith) (omega arith)) (f (arrivalsFrom + t) (omega arith) (omega arith) ∙ d .main t h);
+      pending = λ k h. g (waitingFrom + k) (omega arith) (omega arith) ∙ d .pending k h;
+      packed = λ t j h l. p (packedFrom + (4 * t + j)) (omega arith) ∙ d .packed t j h l;
     }
 
-pub gathered-frame : {s : Sheet} {w w′ : List ℕ} → taskCount s ≤ 256 → ((i : ℕ) → 0 ≤ i → i < 512 → getD w′ i 0 ≡ getD w i 0) → Gathered s w → Gathered s w′
+pub gathered-frame : {s : Sheet} {w w′ : List ℕ} → taskCount s ≤ 256 → ((i : ℕ) → 0 ≤ i → i < seenFrom → getD w′ i 0 ≡ getD w i 0) → Gathered s w → Gathered s w′
 gathered-frame few f d =
-    record { number = λ t h. f t (omega arith) (omega arith) ∙ d .number t h; bytes = λ t h. f (256 + t) (omega arith) (omega arith) ∙ d .bytes t h }
+    record { number = λ t h. f t (omega arith) (omega arith) ∙ d .number t h; bytes = λ t h. f (bytesFrom + t) (omega arith) (omega arith) ∙ d .bytes t h }
 
-pub ends-frame : {s : Sheet} {σ : Schedule} {w w′ : List ℕ} → ((i : ℕ) → 1536 ≤ i → i < 1568 → getD w′ i 0 ≡ getD w i 0) → Ends s σ w → Ends s σ w′
+pub ends-frame : {s : Sheet} {σ : Schedule} {w w′ : List ℕ} → ((i : ℕ) → endsFrom ≤ i → i < waitingFrom → getD w′ i 0 ≡ getD w i 0) → Ends s σ w → Ends s σ w′
 ends-frame f d =
-    record { ends = λ k h. f (1536 + k) (omega arith) (omega arith) ∙ d .ends k h; stores = λ k h. f (1552 + k) (omega arith) (omega arith) ∙ d .stores k h }
+    record { ends = λ k h. f (endsFrom + k) (omega arith) (omega arith) ∙ d .ends k h; stores = λ k h. f (storesFrom + k) (omega arith) (omega arith) ∙ d .stores k h }
 
 beside-none : (w : List ℕ) → Beside w w
 beside-none w = record { long = refl; low = λ i h. refl; mid = λ i h g. refl }

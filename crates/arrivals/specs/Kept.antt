@@ -1,11 +1,4 @@
--- What is kept beside the schedule, so that nothing is computed twice, in words of the planner's own. A link is known once its source is placed.
---
---   t links into task t, 256 + t their bytes (256 each)
---   512 + t those of them that are known, 768 + t their latest arrival, 1024 + t the latest that is not from the processor
---   1280 + t, from which the latest is (256 each)
---   1536 + k end, 1552 + k store of processor k, 1568 + k known links from it to tasks that are not placed (16 each)
---   1584 + k bytes and 1600 + k number of the links from processor k into the task of this turn (16 each)
---   1616 + (4 t + j) known links into task t from processors 4 j to 4 j + 3, a byte for each (1,024)
+-- What is kept beside the schedule, in the words of specs/Layout.
 use Prim.Native.Nat.{ℕ, _+_, _*_, _≤_, _<_}
 use mathlib.Core.Bool.{Bool, true, not}
 use mathlib.Core.Path.{_≡_}
@@ -20,10 +13,7 @@ use Rattle.planner.specs.Placing.{reachBy, endOf, storeOn}
 use Rattle.schedule.specs.Layout.{scheduleIn}
 use Rattle.chains.specs.Chains.{Chained}
 use Rattle.chains.specs.declared.End.the-variants.{Source, Target}
-
--- how many words these are
-abbrev pub keptLength : ℕ
-keptLength = 2640
+use Rattle.arrivals.specs.Layout.{bytesFrom, seenFrom, arrivalsFrom, sendersFrom, endsFrom, storesFrom, waitingFrom, turnBytesFrom, turnLinksFrom, packedFrom, keptLength}
 
 -- what link l gives, if it is counted (c) and of those that are asked for (q)
 unfoldable pub countedBy : (ℕ → Bool) → (ℕ → ℕ) → (ℕ → Bool) → ℕ → ℕ
@@ -36,10 +26,6 @@ into s t l = eqb (targetOf s l) t
 -- .. from a task on k
 abbrev pub intoFrom : Sheet → Schedule → ℕ → ℕ → ℕ → Bool
 intoFrom s σ t k l = both (eqb (targetOf s l) t) (stands σ (sourceOf s l) k)
-
--- .. from a task that is not on k
-abbrev pub intoOff : Sheet → Schedule → ℕ → ℕ → ℕ → Bool
-intoOff s σ t k l = both (eqb (targetOf s l) t) (not (stands σ (sourceOf s l) k))
 
 -- link l leads from a task on k to one that is not placed
 abbrev pub waits : Sheet → Schedule → ℕ → ℕ → Bool
@@ -62,21 +48,20 @@ pub record Single (s : Sheet) : Type 0 where
 -- all the links into each task
 pub record Gathered (s : Sheet) (w : List ℕ) : Type 0 where
   pub number : (t : ℕ) → t < taskCount s → getD w t 0 ≡ sum (linkCount s) (countedBy (into s t) oneBy (λ l. true))
-  pub bytes : (t : ℕ) → t < taskCount s → getD w (256 + t) 0 ≡ sum (linkCount s) (countedBy (into s t) (bytesOf s) (λ l. true))
+  pub bytes : (t : ℕ) → t < taskCount s → getD w (bytesFrom + t) 0 ≡ sum (linkCount s) (countedBy (into s t) (bytesOf s) (λ l. true))
 
 -- the links that are counted
 pub record Counted (s : Sheet) (σ : Schedule) (c : ℕ → Bool) (w : List ℕ) : Type 0 where
-  pub seen : (t : ℕ) → t < taskCount s → getD w (512 + t) 0 ≡ sum (linkCount s) (countedBy (into s t) oneBy c)
-  pub arrived : (t : ℕ) → t < taskCount s → getD w (768 + t) 0 ≡ greatest (linkCount s) (countedBy (into s t) (reachBy s σ) c)
-  pub main : (t : ℕ) → t < taskCount s → getD w (768 + t) 0 ≡ greatest (linkCount s) (countedBy (intoFrom s σ t (getD w (1280 + t) 0)) (reachBy s σ) c)
-  pub off : (t : ℕ) → t < taskCount s → getD w (1024 + t) 0 ≡ greatest (linkCount s) (countedBy (intoOff s σ t (getD w (1280 + t) 0)) (reachBy s σ) c)
-  pub pending : (k : ℕ) → k < 16 → getD w (1568 + k) 0 ≡ sum (linkCount s) (countedBy (waits s σ k) oneBy c)
-  pub packed : (t j : ℕ) → t < taskCount s → j < 4 → getD w (1616 + (4 * t + j)) 0 ≡ fourOf (λ i. sum (linkCount s) (countedBy (intoFrom s σ t (4 * j + i)) oneBy c))
+  pub seen : (t : ℕ) → t < taskCount s → getD w (seenFrom + t) 0 ≡ sum (linkCount s) (countedBy (into s t) oneBy c)
+  pub arrived : (t : ℕ) → t < taskCount s → getD w (arrivalsFrom + t) 0 ≡ greatest (linkCount s) (countedBy (into s t) (reachBy s σ) c)
+  pub main : (t : ℕ) → t < taskCount s → getD w (arrivalsFrom + t) 0 ≡ greatest (linkCount s) (countedBy (intoFrom s σ t (getD w (sendersFrom + t) 0)) (reachBy s σ) c)
+  pub pending : (k : ℕ) → k < 16 → getD w (waitingFrom + k) 0 ≡ sum (linkCount s) (countedBy (waits s σ k) oneBy c)
+  pub packed : (t j : ℕ) → t < taskCount s → j < 4 → getD w (packedFrom + (4 * t + j)) 0 ≡ fourOf (λ i. sum (linkCount s) (countedBy (intoFrom s σ t (4 * j + i)) oneBy c))
 
 -- of the task of this turn, the known links below l by the processor that they come from
 pub record SurveyedTo (s : Sheet) (σ : Schedule) (t l : ℕ) (w : List ℕ) : Type 0 where
-  pub bytes : (k : ℕ) → k < 16 → getD w (1584 + k) 0 ≡ sum l (countedBy (intoFrom s σ t k) (bytesOf s) (known s σ))
-  pub number : (k : ℕ) → k < 16 → getD w (1600 + k) 0 ≡ sum l (countedBy (intoFrom s σ t k) oneBy (known s σ))
+  pub bytes : (k : ℕ) → k < 16 → getD w (turnBytesFrom + k) 0 ≡ sum l (countedBy (intoFrom s σ t k) (bytesOf s) (known s σ))
+  pub number : (k : ℕ) → k < 16 → getD w (turnLinksFrom + k) 0 ≡ sum l (countedBy (intoFrom s σ t k) oneBy (known s σ))
 
 -- .. all of them
 abbrev pub Surveyed : Sheet → Schedule → ℕ → List ℕ → Type 0
@@ -84,8 +69,8 @@ Surveyed s σ t w = SurveyedTo s σ t (linkCount s) w
 
 -- the processors
 pub record Ends (s : Sheet) (σ : Schedule) (w : List ℕ) : Type 0 where
-  pub ends : (k : ℕ) → k < 16 → getD w (1536 + k) 0 ≡ endOf s σ k
-  pub stores : (k : ℕ) → k < 16 → getD w (1552 + k) 0 ≡ storeOn s σ k
+  pub ends : (k : ℕ) → k < 16 → getD w (endsFrom + k) 0 ≡ endOf s σ k
+  pub stores : (k : ℕ) → k < 16 → getD w (storesFrom + k) 0 ≡ storeOn s σ k
 
 -- no task is placed before its predecessors
 abbrev pub Closed : Sheet → Schedule → Type 0
@@ -117,5 +102,5 @@ pub record Arrived (w own : List ℕ) (t : ℕ) : Type 0 where
   pub ranged : Ranged (sheetIn w)
   pub task : t < taskCount (sheetIn w)
   pub number : getD own t 0 ≡ sum (linkCount (sheetIn w)) (countedBy (into (sheetIn w) t) oneBy (λ l. true))
-  pub seen : getD own (512 + t) 0 ≡ sum (linkCount (sheetIn w)) (countedBy (into (sheetIn w) t) oneBy (known (sheetIn w) (scheduleIn w)))
-  pub arrived : getD own (768 + t) 0 ≡ greatest (linkCount (sheetIn w)) (countedBy (into (sheetIn w) t) (reachBy (sheetIn w) (scheduleIn w)) (known (sheetIn w) (scheduleIn w)))
+  pub seen : getD own (seenFrom + t) 0 ≡ sum (linkCount (sheetIn w)) (countedBy (into (sheetIn w) t) oneBy (known (sheetIn w) (scheduleIn w)))
+  pub arrived : getD own (arrivalsFrom + t) 0 ≡ greatest (linkCount (sheetIn w)) (countedBy (into (sheetIn w) t) (reachBy (sheetIn w) (scheduleIn w)) (known (sheetIn w) (scheduleIn w)))

@@ -9,13 +9,14 @@ use Rattle.folds.specs.Folds.{both, either, sum}
 use Rattle.sheet.specs.Sheet.{Sheet, taskCount, linkCount, sourceOf, targetOf, bytesOf}
 use Rattle.sheet.specs.Tables.{Ranged}
 use Rattle.planner.specs.Schedule.{Schedule, placeOf, finishOf, placed}
+use Rattle.arrivals.specs.Layout.{bytesFrom, seenFrom, arrivalsFrom, sendersFrom, endsFrom, waitingFrom, turnLinksFrom, packedFrom}
 use Rattle.arrivals.specs.Kept.{countedBy, into, oneBy, Closed}
 use Rattle.arrivals.specs.declared.Reach.{Reach}
 
 -- the words with one more link into v from k
 unfoldable pub countWords : List ℕ → ℕ → ℕ → ℕ → Reach → ℕ → ℕ → List ℕ
 countWords w v k seen reach pending number =
-    set (set (set (set (set (set w (512 + v) seen) (768 + v) (reach .most)) (1024 + v) (reach .other)) (1280 + v) (reach .at)) (1568 + k) pending) (1616 + (4 * v + k / 4)) number
+    set (set (set (set (set w (seenFrom + v) seen) (arrivalsFrom + v) (reach .most)) (sendersFrom + v) (reach .at)) (waitingFrom + k) pending) (packedFrom + (4 * v + k / 4)) number
 
 -- counted are the links from placed tasks, but of those from t only the ones below i
 unfoldable pub upTo : Sheet → Schedule → ℕ → ℕ → ℕ → Bool
@@ -24,8 +25,8 @@ upTo s σ t i l = both (placed σ (sourceOf s l)) (either (not (eqb (sourceOf s 
 -- all but the words of the counted links is as it was
 pub record Beside (w w′ : List ℕ) : Type 0 where
   pub long : length w′ ≡ length w
-  pub low : (i : ℕ) → i < 512 → getD w′ i 0 ≡ getD w i 0
-  pub mid : (i : ℕ) → 1536 ≤ i → i < 1568 → getD w′ i 0 ≡ getD w i 0
+  pub low : (i : ℕ) → i < seenFrom → getD w′ i 0 ≡ getD w i 0
+  pub mid : (i : ℕ) → endsFrom ≤ i → i < waitingFrom → getD w′ i 0 ≡ getD w i 0
 
 -- t can go on k
 pub record Placeable (s : Sheet) (σ : Schedule) (t k : ℕ) : Type 0 where
@@ -48,13 +49,13 @@ pub record Landed (s : Sheet) (σ : Schedule) (t k f : ℕ) : Type 0 where
 -- the links into the task of this turn from the processors below j wait no more
 pub record Released (j : ℕ) (w w′ : List ℕ) : Type 0 where
   pub long : length w′ ≡ length w
-  pub low : (i : ℕ) → i < 1568 → getD w′ i 0 ≡ getD w i 0
-  pub high : (i : ℕ) → 1568 + j ≤ i → getD w′ i 0 ≡ getD w i 0
-  pub pending : (i : ℕ) → i < j → getD w′ (1568 + i) 0 + getD w (1600 + i) 0 ≡ getD w (1568 + i) 0
+  pub low : (i : ℕ) → i < waitingFrom → getD w′ i 0 ≡ getD w i 0
+  pub high : (i : ℕ) → waitingFrom + j ≤ i → getD w′ i 0 ≡ getD w i 0
+  pub pending : (i : ℕ) → i < j → getD w′ (waitingFrom + i) 0 + getD w (turnLinksFrom + i) 0 ≡ getD w (waitingFrom + i) 0
 
 -- .. from each processor at most as many as wait
 pub record Enough (w : List ℕ) : Type 0 where
-  pub most : (j : ℕ) → j < 16 → getD w (1600 + j) 0 ≤ getD w (1568 + j) 0
+  pub most : (j : ℕ) → j < 16 → getD w (turnLinksFrom + j) 0 ≤ getD w (waitingFrom + j) 0
 
 -- the words from a up to e are 0
 pub record Zero (a e : ℕ) (w : List ℕ) : Type 0 where
@@ -63,4 +64,4 @@ pub record Zero (a e : ℕ) (w : List ℕ) : Type 0 where
 -- the links below l are gathered
 pub record GatheredTo (s : Sheet) (l : ℕ) (w : List ℕ) : Type 0 where
   pub number : (t : ℕ) → t < taskCount s → getD w t 0 ≡ sum l (countedBy (into s t) oneBy (λ i. true))
-  pub bytes : (t : ℕ) → t < taskCount s → getD w (256 + t) 0 ≡ sum l (countedBy (into s t) (bytesOf s) (λ i. true))
+  pub bytes : (t : ℕ) → t < taskCount s → getD w (bytesFrom + t) 0 ≡ sum l (countedBy (into s t) (bytesOf s) (λ i. true))

@@ -1,28 +1,54 @@
 // What is kept beside the schedule: of each task the links that are known, of each processor its end, its store and the links that wait.
 ghost use mathlib.Core.Path.{_≡_};
 ghost use mathlib.Core.Bool.{true};
-ghost use Prim.Native.Nat.{_+_, _*_, _%_, _^_, _<_, _≤_};
-ghost use lib.ListN.{length};
+ghost use Prim.Native.Nat.{_+_, _*_, _%_, _^_, _<_, _≤_, max};
+ghost use lib.ListN.{length, getD};
+ghost use lib.Dec.{eqb};
 ghost use Rattle.folds.specs.Folds.{pick};
 ghost use Rattle.sheet.specs.Sheet.{taskCount, linkCount, sourceOf, targetOf};
+ghost use Rattle.sheet.specs.Times.{linkTime};
 ghost use Rattle.sheet.specs.Tables.{sheetIn, Loaded};
-ghost use Rattle.planner.specs.Schedule.{put, placed};
-ghost use Rattle.planner.specs.Placing.{ready, endOf};
+ghost use Rattle.planner.specs.Schedule.{put, placed, placeOf, finishOf};
+ghost use Rattle.planner.specs.Placing.{ready, endOf, startBy, startOn};
 ghost use Rattle.schedule.specs.Layout.{scheduleIn};
 ghost use Rattle.chains.specs.Frames.{Only};
 ghost use Rattle.chains.specs.Chains.{Chained};
 ghost use Rattle.chains.specs.declared.End.the-variants.{Target};
-ghost use Rattle.arrivals.specs.Kept.{keptLength, Single, Gathered, Counted, SurveyedTo, Surveyed, Ends, Kept};
+ghost use Rattle.arrivals.specs.Layout.{seenFrom, endsFrom, waitingFrom, turnBytesFrom, packedFrom, keptLength};
+ghost use Rattle.arrivals.specs.Kept.{Single, Gathered, Counted, SurveyedTo, Surveyed, Ends, Kept};
+ghost use Rattle.arrivals.specs.Lanes.{Lanes, Steps, startPast, Started, Early};
 ghost use Rattle.arrivals.specs.Reach.{further};
 ghost use Rattle.arrivals.specs.Steps.{countWords, upTo, Beside, Placeable, Landed, Released, Enough, GatheredTo};
 use chains::End;
 use sheet::tables;
 
-// The latest reach, the processor it comes from, and the latest from any other.
+// Where each table of the planner's own words begins, and how many words these are: specs/Layout says what they hold.
+pub const BYTES: usize = 256;
+
+pub const SEEN: usize = 512;
+
+pub const ARRIVALS: usize = 768;
+
+pub const SENDERS: usize = 1024;
+
+pub const ENDS: usize = 1280;
+
+pub const STORES: usize = 1296;
+
+pub const WAITING: usize = 1312;
+
+pub const TURN_BYTES: usize = 1328;
+
+pub const TURN_LINKS: usize = 1344;
+
+pub const PACKED: usize = 1360;
+
+pub const LENGTH: usize = 2384;
+
+// When the latest message to a task is there, and the processor that it comes from.
 pub struct Reach {
     pub at: usize,
     pub most: usize,
-    pub other: usize,
 }
 
 // One of two numbers by a test; without a branch, since it cannot be foretold.
@@ -37,11 +63,9 @@ fn reached(reach: Reach, k: usize, y: usize) -> Reach
     ensures { λ r. ⌜ r ≡ further reach k y ⌝ }
 {
     let most = reach.most;
-    let other = chosen(most < y, most, words::later(reach.other, y));
     Reach {
         at: chosen(most < y, k, reach.at),
         most: words::later(most, y),
-        other: chosen(reach.at == k, reach.other, other),
     }
 }
 
@@ -56,18 +80,16 @@ fn write_link(
     number: usize,
 )
     requires { ⌜ keptLength ≤ length (now kept) ⌝ }
-    requires { ⌜ (v < 256) × (k < 16) × (seen < 4294967296) × (reach .at < 4294967296) × (reach .most < 4294967296) × (reach .other < 4294967296) × (pending < 4294967296) × (number < 4294967296) ⌝ }
+    requires { ⌜ (v < 256) × (k < 16) × (seen < 4294967296) × (reach .at < 4294967296) × (reach .most < 4294967296) × (pending < 4294967296) × (number < 4294967296) ⌝ }
     ensures { λ _. ⌜ now (kept .exit) ≡ countWords (now (kept .entry)) v k seen reach pending number ⌝ }
 {
     let at = reach.at;
     let most = reach.most;
-    let other = reach.other;
-    kept[512 + v] = workspace::narrow(seen);
-    kept[768 + v] = workspace::narrow(most);
-    kept[1024 + v] = workspace::narrow(other);
-    kept[1280 + v] = workspace::narrow(at);
-    kept[1568 + k] = workspace::narrow(pending);
-    kept[1616 + (4 * v + k / 4)] = workspace::narrow(number);
+    kept[SEEN + v] = workspace::narrow(seen);
+    kept[ARRIVALS + v] = workspace::narrow(most);
+    kept[SENDERS + v] = workspace::narrow(at);
+    kept[WAITING + k] = workspace::narrow(pending);
+    kept[PACKED + (4 * v + k / 4)] = workspace::narrow(number);
 }
 
 // 1 in the byte of processor k, in a word of four counts.
@@ -87,21 +109,12 @@ pub fn count_link(w: &[u32], kept: &mut [u32], t: usize, k: usize, f: usize, l: 
 {
     let v = tables::target(w, l);
     let c = tables::cost(w, l);
-    let seen = workspace::word(kept, 512 + v);
-    let most = workspace::word(kept, 768 + v);
-    let other = workspace::word(kept, 1024 + v);
-    let at = workspace::word(kept, 1280 + v);
-    let pending = workspace::word(kept, 1568 + k);
-    let number = workspace::word(kept, 1616 + (4 * v + k / 4));
-    let reach = reached(
-        Reach {
-            at: at,
-            most: most,
-            other: other,
-        },
-        k,
-        f + c,
-    );
+    let seen = workspace::word(kept, SEEN + v);
+    let most = workspace::word(kept, ARRIVALS + v);
+    let at = workspace::word(kept, SENDERS + v);
+    let pending = workspace::word(kept, WAITING + k);
+    let number = workspace::word(kept, PACKED + (4 * v + k / 4));
+    let reach = reached(Reach { at: at, most: most }, k, f + c);
     write_link(kept, v, k, seen + 1, reach, pending + 1, number + one_of(k));
 }
 
@@ -110,16 +123,16 @@ pub fn settle(w: &[u32], kept: &mut [u32], t: usize, k: usize, a: usize, f: usiz
     requires { ⌜ Kept (now w) (now kept) ⌝ }
     requires { ⌜ Placeable (sheetIn (now w)) (scheduleIn (now w)) t k × Surveyed (sheetIn (now w)) (scheduleIn (now w)) t (now kept) ⌝ }
     requires { ⌜ (f < 2147483648) × (endOf (sheetIn (now w)) (scheduleIn (now w)) k ≤ f) ⌝ }
-    ensures { λ _. ⌜ Only 1536 1568 (now (kept .entry)) (now (kept .exit)) × Ends (sheetIn (now (w .entry))) (put (scheduleIn (now (w .entry))) t k a f) (now (kept .exit)) ⌝ }
+    ensures { λ _. ⌜ Only endsFrom waitingFrom (now (kept .entry)) (now (kept .exit)) × Ends (sheetIn (now (w .entry))) (put (scheduleIn (now (w .entry))) t k a f) (now (kept .exit)) ⌝ }
 {
-    let x = workspace::word(kept, 1552 + k);
+    let x = workspace::word(kept, STORES + k);
     let y = tables::store(w, t);
-    let z = workspace::word(kept, 256 + t);
-    let v = workspace::word(kept, 1584 + k);
+    let z = workspace::word(kept, BYTES + t);
+    let v = workspace::word(kept, TURN_BYTES + k);
     let u = x + y + z;
     let r = u - v;
-    kept[1536 + k] = workspace::narrow(f);
-    kept[1552 + k] = workspace::narrow(r);
+    kept[ENDS + k] = workspace::narrow(f);
+    kept[STORES + k] = workspace::narrow(r);
 }
 
 // The links into the task of this turn wait no more.
@@ -130,9 +143,9 @@ pub fn release(kept: &mut [u32])
 {
     let mut j: usize = 0;
     while j < 16 {
-        let x = workspace::word(kept, 1568 + j);
-        let y = workspace::word(kept, 1600 + j);
-        kept[1568 + j] = workspace::narrow(x - y);
+        let x = workspace::word(kept, WAITING + j);
+        let y = workspace::word(kept, TURN_LINKS + j);
+        kept[WAITING + j] = workspace::narrow(x - y);
         j += 1;
     }
 }
@@ -142,42 +155,144 @@ fn survey_link(w: &[u32], kept: &mut [u32], t: usize, l: usize)
     requires { ⌜ Loaded (now w) × (keptLength ≤ length (now kept)) ⌝ }
     requires { ⌜ (l < linkCount (sheetIn (now w))) × (targetOf (sheetIn (now w)) l ≡ t) × (placed (scheduleIn (now w)) (sourceOf (sheetIn (now w)) l) ≡ true) ⌝ }
     requires { ⌜ SurveyedTo (sheetIn (now w)) (scheduleIn (now w)) t l (now kept) ⌝ }
-    ensures { λ _. ⌜ Only 1584 1616 (now (kept .entry)) (now (kept .exit)) × SurveyedTo (sheetIn (now (w .entry))) (scheduleIn (now (w .entry))) t (l + 1) (now (kept .exit)) ⌝ }
+    ensures { λ _. ⌜ Only turnBytesFrom packedFrom (now (kept .entry)) (now (kept .exit)) × SurveyedTo (sheetIn (now (w .entry))) (scheduleIn (now (w .entry))) t (l + 1) (now (kept .exit)) ⌝ }
 {
     let k = schedule::place(w, tables::source(w, l));
     let b = tables::size(w, l);
-    let x = workspace::word(kept, 1584 + k);
-    let y = workspace::word(kept, 1600 + k);
-    kept[1584 + k] = workspace::narrow(x + b);
-    kept[1600 + k] = workspace::narrow(y + 1);
+    let x = workspace::word(kept, TURN_BYTES + k);
+    let y = workspace::word(kept, TURN_LINKS + k);
+    kept[TURN_BYTES + k] = workspace::narrow(x + b);
+    kept[TURN_LINKS + k] = workspace::narrow(y + 1);
 }
 
-// All links into t are surveyed. The walk ends by their number, which is known before the links are.
-fn survey_links(w: &[u32], kept: &mut [u32], t: usize)
+// The start of a task on each of the sixteen processors.
+pub struct Starts {
+    pub at: [u32; 16],
+}
+
+// The later of two times; without a branch.
+fn later(a: u32, b: u32) -> u32
+    ensures { λ r. ⌜ r ≡ max a b ⌝ }
+{
+    if a < b { b } else { a }
+}
+
+// How long a message from source is under way to k: it takes no time on the same processor.
+fn way(source: usize, k: usize, time: u32) -> u32
+    ensures { λ r. ⌜ r ≡ pick (eqb source k) 0 time ⌝ }
+{
+    if source == k { 0 } else { time }
+}
+
+// A start x on k, past one link more.
+fn start_past(x: u32, k: usize, source: usize, finish: u32, time: u32) -> u32
+    requires { ⌜ (finish ≤ 33553920) × (time ≤ 65535) ⌝ }
+    ensures { λ r. ⌜ r ≡ startPast source finish time k x ⌝ }
+{
+    later(x, finish + way(source, k, time))
+}
+
+// The starts on all processors, past one link more: the loop is a few vector instructions.
+fn starts_past(starts: Starts, source: usize, finish: u32, time: u32) -> Starts
+    requires { ⌜ (finish ≤ 33553920) × (time ≤ 65535) ⌝ }
+    ensures { λ r. ⌜ Steps (startPast source finish time) starts r ⌝ }
+{
+    let mut r = starts;
+    let mut k: usize = 0;
+    while k < 16 {
+        r.at[k] = start_past(r.at[k], k, source, finish, time);
+        k += 1;
+    }
+    r
+}
+
+// Past link l, whose source is placed.
+fn starts_with(w: &[u32], starts: Starts, l: usize) -> Starts
+    requires { ⌜ Loaded (now w) × (l < linkCount (sheetIn (now w))) ⌝ }
+    requires { ⌜ Early (scheduleIn (now w)) ⌝ }
+    ensures { λ r. ⌜ Steps (startPast (placeOf (scheduleIn (now (w .entry))) (sourceOf (sheetIn (now (w .entry))) l)) (finishOf (scheduleIn (now (w .entry))) (sourceOf (sheetIn (now (w .entry))) l)) (linkTime (sheetIn (now (w .entry))) l)) starts r ⌝ }
+{
+    let u = tables::source(w, l);
+    let k = schedule::place(w, u);
+    let f = workspace::narrow(schedule::finish(w, u));
+    starts_past(starts, k, f, workspace::narrow(tables::cost(w, l)))
+}
+
+// Where nothing has to be waited for: the processors' ends.
+fn begun(kept: &[u32]) -> Starts
+    requires { ⌜ keptLength ≤ length (now kept) ⌝ }
+    ensures { λ r. ⌜ Lanes (λ k. getD (now (kept .entry)) (endsFrom + k) 0) r ⌝ }
+{
+    let at = [0u32; 16];
+    let mut r = Starts { at: at };
+    let mut k: usize = 0;
+    while k < 16 {
+        r.at[k] = kept[ENDS + k];
+        k += 1;
+    }
+    r
+}
+
+// All links into t are surveyed, and give its starts. The walk ends by their number, which is known before the links are.
+fn survey_links(w: &[u32], kept: &mut [u32], t: usize) -> Starts
     requires { ⌜ Loaded (now w) × (keptLength ≤ length (now kept)) ⌝ }
     requires { ⌜ Chained Target (sheetIn (now w)) (now w) ⌝ }
     requires { ⌜ (t < taskCount (sheetIn (now w))) × (ready (sheetIn (now w)) (scheduleIn (now w)) t ≡ true) ⌝ }
     requires { ⌜ Gathered (sheetIn (now w)) (now kept) × SurveyedTo (sheetIn (now w)) (scheduleIn (now w)) t 0 (now kept) ⌝ }
-    ensures { λ _. ⌜ Only 1584 1616 (now (kept .entry)) (now (kept .exit)) × Surveyed (sheetIn (now (w .entry))) (scheduleIn (now (w .entry))) t (now (kept .exit)) ⌝ }
+    requires { ⌜ Ends (sheetIn (now w)) (scheduleIn (now w)) (now kept) × Early (scheduleIn (now w)) ⌝ }
+    ensures { λ r. ⌜ Only turnBytesFrom packedFrom (now (kept .entry)) (now (kept .exit)) × Surveyed (sheetIn (now (w .entry))) (scheduleIn (now (w .entry))) t (now (kept .exit)) × Started (now (w .entry)) t r ⌝ }
 {
     let n = workspace::word(kept, t);
+    let mut starts = begun(kept);
     let mut l = chains::first(w, End::Target, t);
     let mut i: usize = 0;
     while i < n {
+        starts = starts_with(w, starts, l);
         survey_link(w, kept, t, l);
         l = chains::next(w, End::Target, l);
         i += 1;
     }
+    starts
 }
 
-// The links into t, whose turn it is, by the processor that they come from.
-pub fn survey(w: &[u32], kept: &mut [u32], t: usize)
+// The links into t, whose turn it is, by the processor that they come from, and t's starts.
+pub fn survey(w: &[u32], kept: &mut [u32], t: usize) -> Starts
     requires { ⌜ Kept (now w) (now kept) ⌝ }
     requires { ⌜ (t < taskCount (sheetIn (now w))) × (ready (sheetIn (now w)) (scheduleIn (now w)) t ≡ true) ⌝ }
-    ensures { λ _. ⌜ Only 1584 1616 (now (kept .entry)) (now (kept .exit)) × Surveyed (sheetIn (now (w .entry))) (scheduleIn (now (w .entry))) t (now (kept .exit)) ⌝ }
+    requires { ⌜ Early (scheduleIn (now w)) ⌝ }
+    ensures { λ r. ⌜ Only turnBytesFrom packedFrom (now (kept .entry)) (now (kept .exit)) × Surveyed (sheetIn (now (w .entry))) (scheduleIn (now (w .entry))) t (now (kept .exit)) × Started (now (w .entry)) t r ⌝ }
 {
-    workspace::clear_words(kept, 1584, 1616);
-    survey_links(w, kept, t);
+    workspace::clear_words(kept, TURN_BYTES, PACKED);
+    survey_links(w, kept, t)
+}
+
+// What t, to which link l leads, waits for on k: nothing while the link's source is not placed.
+fn start_by(w: &[u32], k: usize, l: usize) -> usize
+    requires { ⌜ Loaded (now w) × (l < linkCount (sheetIn (now w))) ⌝ }
+    ensures { λ r. ⌜ r ≡ startBy (sheetIn (now (w .entry))) (scheduleIn (now (w .entry))) (targetOf (sheetIn (now (w .entry))) l) k l ⌝ }
+{
+    let u = tables::source(w, l);
+    let at = schedule::place(w, u);
+    let c = chosen(at == k, 0, tables::cost(w, l));
+    chosen(at < 16, schedule::finish(w, u) + c, 0)
+}
+
+// The start of t on k by its placed predecessors.
+pub fn start_on(w: &[u32], kept: &[u32], t: usize, k: usize) -> usize
+    requires { ⌜ Kept (now w) (now kept) ⌝ }
+    requires { ⌜ (t < taskCount (sheetIn (now w))) × (k < 16) ⌝ }
+    ensures { λ r. ⌜ r ≡ startOn (sheetIn (now (w .entry))) (scheduleIn (now (w .entry))) t k ⌝ }
+{
+    let n = workspace::word(kept, t);
+    let mut start = workspace::word(kept, ENDS + k);
+    let mut l = chains::first(w, End::Target, t);
+    let mut i: usize = 0;
+    while i < n {
+        start = words::later(start, start_by(w, k, l));
+        l = chains::next(w, End::Target, l);
+        i += 1;
+    }
+    start
 }
 
 // Link l is gathered at its target.
@@ -185,21 +300,21 @@ fn gather_one(w: &[u32], kept: &mut [u32], l: usize)
     requires { ⌜ Loaded (now w) × (keptLength ≤ length (now kept)) ⌝ }
     requires { ⌜ l < linkCount (sheetIn (now w)) ⌝ }
     requires { ⌜ GatheredTo (sheetIn (now w)) l (now kept) ⌝ }
-    ensures { λ _. ⌜ Only 0 512 (now (kept .entry)) (now (kept .exit)) × GatheredTo (sheetIn (now (w .entry))) (l + 1) (now (kept .exit)) ⌝ }
+    ensures { λ _. ⌜ Only 0 seenFrom (now (kept .entry)) (now (kept .exit)) × GatheredTo (sheetIn (now (w .entry))) (l + 1) (now (kept .exit)) ⌝ }
 {
     let t = tables::target(w, l);
     let b = tables::size(w, l);
     let x = workspace::word(kept, t);
-    let y = workspace::word(kept, 256 + t);
+    let y = workspace::word(kept, BYTES + t);
     kept[t] = workspace::narrow(x + 1);
-    kept[256 + t] = workspace::narrow(y + b);
+    kept[BYTES + t] = workspace::narrow(y + b);
 }
 
 // All links are gathered.
 pub fn gather(w: &[u32], kept: &mut [u32])
     requires { ⌜ Loaded (now w) × (keptLength ≤ length (now kept)) ⌝ }
     requires { ⌜ GatheredTo (sheetIn (now w)) 0 (now kept) ⌝ }
-    ensures { λ _. ⌜ Only 0 512 (now (kept .entry)) (now (kept .exit)) × GatheredTo (sheetIn (now (w .entry))) (linkCount (sheetIn (now (w .entry)))) (now (kept .exit)) ⌝ }
+    ensures { λ _. ⌜ Only 0 seenFrom (now (kept .entry)) (now (kept .exit)) × GatheredTo (sheetIn (now (w .entry))) (linkCount (sheetIn (now (w .entry)))) (now (kept .exit)) ⌝ }
 {
     let m = tables::links(w);
     let mut l: usize = 0;

@@ -1,14 +1,14 @@
 -- A walk along a chain passes over links that give nothing.
-use Prim.Native.Nat.{ℕ, _+_, _-_, _≤_, _<_}
+use Prim.Native.Nat.{ℕ, _+_, _-_, _≤_, _<_, max}
 use mathlib.Core.Path.{_≡_, ap, _∙_}
 use mathlib.Core.Logic.{_≢_}
 use mathlib.Core.List.{List}
 use native.Mathlib.Omega.{arith}
 use lib.ListN.{getD}
 use Rattle.workspace.specs.Area.{headsAt, marksAt, nextsAt}
-use Rattle.folds.specs.Folds.{sum}
-use Rattle.folds.proofs.Loops.{sum-more}
-use Rattle.folds.proofs.Laws.{sum-skip}
+use Rattle.folds.specs.Folds.{sum, greatest}
+use Rattle.folds.proofs.Loops.{sum-more, greatest-zero, greatest-one}
+use Rattle.folds.proofs.Laws.{sum-skip, greatest-skip}
 use Rattle.sheet.specs.Sheet.{Sheet, taskCount, linkCount}
 use Rattle.chains.specs.Chains.{endBy, half, headOf, nextOf, Rechained, Chained}
 use Rattle.chains.specs.declared.End.{End}
@@ -37,7 +37,7 @@ pub chained-under : {s : Sheet} {w w′ : List ℕ} → Rechained Source w w′ 
 unfolding headOf nextOf
 chained-under r = chained-same (λ t h. r .under (headsAt + t)) (λ l h. r .under (nextsAt + l))
 
--- a sum to which only the links of t give something
+-- a sum, or the greatest, of terms of which only those of the links of t are not 0
 module _ {e : End} {s : Sheet} {w : List ℕ} (d : Chained e s w) (t : ℕ) (t-in : t < taskCount s) (f : ℕ → ℕ) (else : (l : ℕ) → l < linkCount s → endBy e s l ≢ t → f l ≡ 0) where
   pub own-first : {l : ℕ} → l ≡ headOf e w t → l < linkCount s → endBy e s l ≡ t
   own-first q h = rw q (d .head-own t t-in (rw q at h))
@@ -48,6 +48,11 @@ module _ {e : End} {s : Sheet} {w : List ℕ} (d : Chained e s w) (t : ℕ) (t-i
     where
       rest : l ≡ 0 + l → 0 ≡ sum l f
       rest z = omega (arith, sum-skip f 0 l (λ i p k. else i (omega arith) (d .head-none t t-in i (omega arith))), ap (λ (k : ℕ). sum k f) z)
+
+  pub greatest-first : {l : ℕ} → l ≡ headOf e w t → l ≤ linkCount s → greatest l f ≡ 0
+  greatest-first {l} q h =
+      let z : 0 + l ≡ l = omega arith in
+      omega (arith, greatest-zero f, greatest-skip f 0 l (λ i p k. else i (omega arith) (d .head-none t t-in i (omega arith))), ap (λ (k : ℕ). greatest k f) z)
 
   module _ {l l′ : ℕ} (l-in : l < linkCount s) (own : endBy e s l ≡ t) (q : l′ ≡ nextOf e w l) (more : l < l′) (few : l′ ≤ linkCount s) where
     pub own-next : l′ < linkCount s → endBy e s l′ ≡ t
@@ -61,4 +66,14 @@ module _ {e : End} {s : Sheet} {w : List ℕ} (d : Chained e s w) (t : ℕ) (t-i
           sum-more l f p r,
           sum-skip f (l + 1) (l′ - (l + 1)) (λ i x y. else i (omega arith) (λ g. d .next-none l l-in i (omega arith) (omega arith) (rw own g))),
           ap (λ (k : ℕ). sum k f) z,
+        )
+
+    pub greatest-next : greatest l′ f ≡ max (greatest l f) (f l)
+    greatest-next =
+        let z : l + 1 + (l′ - (l + 1)) ≡ l′ = omega arith in
+        omega (
+          arith,
+          greatest-one l f,
+          greatest-skip f (l + 1) (l′ - (l + 1)) (λ i x y. else i (omega arith) (λ g. d .next-none l l-in i (omega arith) (omega arith) (rw own g))),
+          ap (λ (k : ℕ). greatest k f) z,
         )

@@ -5,7 +5,8 @@ use mathlib.Core.Option.{Option, none, some}
 use mathlib.Core.List.{List}
 use lib.ListN.{getD, set, replicate, getElem?}
 use Rattle.folds.specs.Folds.{then}
-use Rattle.sheet.specs.Sheet.{Sheet, workOf, costOf, linkCount}
+use Rattle.sheet.specs.Sheet.{Sheet, workOf, linkCount}
+use Rattle.sheet.specs.Times.{linkTime}
 use Rattle.bundle.specs.Bundle.{Command, run, send, receive, Bundle, programmeCount, programmeOf}
 use Rattle.messages.specs.Counting.{need}
 
@@ -44,7 +45,7 @@ waits σ (receive l) = stampOf σ l
 -- the stated time of a command of processor k: a run's work, the time that a send's message is under way, a receive's unpacking
 unfoldable pub stated : Sheet → Bundle → ℕ → Command → ℕ
 stated s b k (run t) = workOf s t
-stated s b k (send l) = costOf s l
+stated s b k (send l) = linkTime s l
 stated s b k (receive l) = 0
 
 -- what a command of the time d adds to the clock: a message is under way while its sender goes on

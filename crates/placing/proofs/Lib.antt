@@ -5,4 +5,3 @@ pub mod Spent
 pub mod Due
 pub mod Guards
 pub mod Steps
-pub mod Joins

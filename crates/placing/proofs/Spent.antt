@@ -18,6 +18,7 @@ use Rattle.planner.specs.Schedule.{Schedule, placed, stands}
 use Rattle.planner.specs.Placing.{followsBy, follows, spentBy, spent}
 use Rattle.planner.proofs.Ready.{ready-free}
 use Rattle.schedule.specs.Layout.{scheduleIn}
+use Rattle.arrivals.specs.Layout.{seenFrom, waitingFrom, packedFrom}
 use Rattle.arrivals.specs.Kept.{countedBy, into, intoFrom, waits, oneBy, known, fourOf, Single, Closed, Counted}
 use Rattle.arrivals.proofs.Counts.{sum-single, counts-from-le}
 use Rattle.arrivals.proofs.Placing.{stands-placed}
@@ -134,7 +135,7 @@ one-le-all s σ t k i =
     less true h = h
     less false h = omega arith
 
-module _ (w own : List ℕ) (t k : ℕ) (c : Choosing w own t) (k-in : k < 16) {p : ℕ} (ep : p ≡ getD own (1568 + k) 0) where
+module _ (w own : List ℕ) (t k : ℕ) (c : Choosing w own t) (k-in : k < 16) {p : ℕ} (ep : p ≡ getD own (waitingFrom + k) 0) where
   abbrev s : Sheet
   s = sheetIn w
 
@@ -172,7 +173,7 @@ target-free {w} {own} {t} c l h from ev = ap (placed (scheduleIn w)) ev ∙ go (
 
 -- the known links into v stand in its words
 module _ {s : Sheet} {σ : Schedule} {w : List ℕ} (ranged : Ranged s) (d : Counted s σ (known s σ) w) (v : ℕ) (h : v < taskCount s) where
-  pub known-one : Single s → placed σ v ≡ false → {from : Senders} {k x : ℕ} → from ≡ One k → OnBoard from → x ≡ getD w (1616 + (4 * v + k / 4)) 0
+  pub known-one : Single s → placed σ v ≡ false → {from : Senders} {k x : ℕ} → from ≡ One k → OnBoard from → x ≡ getD w (packedFrom + (4 * v + k / 4)) 0
       → (x / 2 ^ (8 * (k % 4)) % 256 ≡ knownInto s σ v from) × (x / 2 ^ (8 * (k % 4)) % 256 < 4294967296)
   unfolding knownInto
   known-one single free {from} {k} {x} e on ex =
@@ -185,11 +186,11 @@ module _ {s : Sheet} {σ : Schedule} {w : List ℕ} (ranged : Ranged s) (d : Cou
         omega arith,
       )
 
-  pub known-all : {from : Senders} {x : ℕ} → from ≡ All → x ≡ getD w (512 + v) 0 → (x ≡ knownInto s σ v from) × (x < 4294967296)
+  pub known-all : {from : Senders} {x : ℕ} → from ≡ All → x ≡ getD w (seenFrom + v) 0 → (x ≡ knownInto s σ v from) × (x < 4294967296)
   unfolding knownInto
   known-all {from} e ex = (ex ∙ d .seen v h ∙ ap (knownInto s σ v) (sym e), omega (arith, ex, few-counted ranged d v 0 h (omega arith) .seen))
 
-  pub known-four : {from : Senders} {j x : ℕ} → from ≡ Four j → OnBoard from → x ≡ getD w (1616 + (4 * v + j)) 0 → x < 4294967296 → (x ≡ knownInto s σ v from) × (x < 4294967296)
+  pub known-four : {from : Senders} {j x : ℕ} → from ≡ Four j → OnBoard from → x ≡ getD w (packedFrom + (4 * v + j)) 0 → x < 4294967296 → (x ≡ knownInto s σ v from) × (x < 4294967296)
   unfolding knownInto
   known-four {from} {j} e on ex few = (ex ∙ d .packed v j h (subst OnBoard e on) ∙ ap (knownInto s σ v) (sym e), few)
 

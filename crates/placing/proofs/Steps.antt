@@ -24,22 +24,21 @@ use Rattle.placing.specs.Choosing.{Choosing, dueBy}
 use Rattle.placing.specs.declared.Senders.the-variants.{All}
 use Rattle.placing.proofs.Spent.{spent-more}
 use Rattle.placing.proofs.Ranks.{least-by-key, latest-by-key}
+use Rattle.arrivals.specs.Layout.{endsFrom, waitingFrom}
 
 module _ (s : Sheet) (σ : Schedule) (t : ℕ) where
   abbrev guard : Schedule → ℕ → ℕ → Bool
   guard = barred s
 
   module _ (k : ℕ) where
-    pub join-key-is : {x a bars r : ℕ} {fit early may : Bool} → k < 16 → Bars s σ t bars → holdsPredecessor s σ t k ≡ true → x ≡ startOn s σ t k → a ≡ arrival s σ t → fit ≡ fits s σ t k → early ≡ both (not (eqb k bars)) (ltb x a)
-        → may ≡ both fit early → r ≡ pick may (lowKey x k) 0 → r ≡ joinKey s σ t k
+    pub join-key-is : {x a bars r : ℕ} {held fit both-hold early may : Bool} → k < 16 → Bars s σ t bars → held ≡ holdsPredecessor s σ t k → x ≡ startOn s σ t k → a ≡ arrival s σ t → fit ≡ fits s σ t k → both-hold ≡ both held fit
+        → early ≡ both (not (eqb k bars)) (ltb x a) → may ≡ both both-hold early → r ≡ pick may (lowKey x k) 0 → r ≡ joinKey s σ t k
     unfolding mayJoin joinKey
-    join-key-is {x} {a} {bars} h b held ex ea ef ee em er =
-        er ∙ rw held (ap₂ (λ (m : Bool) (y : ℕ). pick m (lowKey y k) 0) (em ∙ ap₂ both ef (ee ∙ ap₂ both (ap not (b .is k h)) (ap₂ ltb ex ea))) ex)
-
-    -- 0 where k holds no predecessor
-    pub join-none : holdsPredecessor s σ t k ≡ false → joinKey s σ t k ≡ 0
-    unfolding mayJoin joinKey
-    join-none e = rw e
+    join-key-is {x} {a} {bars} {r} {held} {fit} h b eh ex ea ef eb ee em er = er ∙ ap₂ (λ (m : Bool) (y : ℕ). pick m (lowKey y k) 0) (em ∙ ap₂ both eb ee ∙ go held refl) ex
+      where
+        go : (q : Bool) → held ≡ q → both (both held fit) (both (not (eqb k bars)) (ltb x a)) ≡ both (both (holdsPredecessor s σ t k) (fits s σ t k)) (both (not (barred s σ t k)) (ltb (startOn s σ t k) (arrival s σ t)))
+        go true e = ap₂ both (ap₂ both eh ef) (ap₂ both (ap not (b .is k h (sym eh ∙ e))) (ap₂ ltb ex ea))
+        go false e = rw (e, ← eh, e)
 
     pub idle-late : {x a : ℕ} → x ≡ endOf s σ k → a ≡ arrival s σ t → a < x → 0 ≡ idleKey s σ t k
     unfolding mayTake idleKey
@@ -100,15 +99,15 @@ module _ (s : Sheet) (σ : Schedule) (t : ℕ) where
 module _ (w own : List ℕ) (t : ℕ) (c : Choosing w own t) {a d : ℕ} (ea : a ≡ arrival (sheetIn w) (scheduleIn w) t) (ed : d ≡ sum (linkCount (sheetIn w)) (dueBy (sheetIn w) (scheduleIn w) t All)) where
   no-key : (k : ℕ) → k < 16 → mayBeIdle own a d k ≡ false → idleKey (sheetIn w) (scheduleIn w) t k ≡ 0
   unfolding mayBeIdle
-  no-key k h e = go (decLt d (getD own (1568 + k) 0)) (decLt a (getD own (1536 + k) 0))
+  no-key k h e = go (decLt d (getD own (waitingFrom + k) 0)) (decLt a (getD own (endsFrom + k) 0))
     where
-      go : Dec (d < getD own (1568 + k) 0) → Dec (a < getD own (1536 + k) 0) → idleKey (sheetIn w) (scheduleIn w) t k ≡ 0
+      go : Dec (d < getD own (waitingFrom + k) 0) → Dec (a < getD own (endsFrom + k) 0) → idleKey (sheetIn w) (scheduleIn w) t k ≡ 0
       go (yes l) b = sym (idle-waits (sheetIn w) (scheduleIn w) t k (sym (spent-more w own t k c h refl ed l)))
       go (no l) (yes b) = sym (idle-late (sheetIn w) (scheduleIn w) t k (c .kept .caches .ends .ends k h) ea b)
-      go (no l) (no b) = absurd (true≢false (sym (parts-both (leb (getD own (1536 + k) 0) a) (leb (getD own (1568 + k) 0) d) (le-leb (getD own (1536 + k) 0) a (omega arith)) (le-leb (getD own (1568 + k) 0) d (omega arith))) ∙ e))
+      go (no l) (no b) = absurd (true≢false (sym (parts-both (leb (getD own (endsFrom + k) 0) a) (leb (getD own (waitingFrom + k) 0) d) (le-leb (getD own (endsFrom + k) 0) a (omega arith)) (le-leb (getD own (waitingFrom + k) 0) d (omega arith))) ∙ e))
 
   -- as the code tests it
-  pub not-idle : (k : ℕ) → k < 16 → {x p : ℕ} {b : Bool} → x ≡ endOf (sheetIn w) (scheduleIn w) k → p ≡ getD own (1568 + k) 0 → b ≡ both (leb x a) (leb p d) → b ≡ false → 0 ≡ idleKey (sheetIn w) (scheduleIn w) t k
+  pub not-idle : (k : ℕ) → k < 16 → {x p : ℕ} {b : Bool} → x ≡ endOf (sheetIn w) (scheduleIn w) k → p ≡ getD own (waitingFrom + k) 0 → b ≡ both (leb x a) (leb p d) → b ≡ false → 0 ≡ idleKey (sheetIn w) (scheduleIn w) t k
   unfolding mayBeIdle
   not-idle k h ex ep eb e = sym (no-key k h (ap₂ both (ap (λ (y : ℕ). leb y a) (c .kept .caches .ends .ends k h ∙ sym ex)) (ap (λ (y : ℕ). leb y d) (sym ep)) ∙ sym eb ∙ e))
 

@@ -14,6 +14,7 @@ use Rattle.schedule.specs.Layout.{scheduleIn}
 use Rattle.placing.specs.declared.Counts.{Counts}
 use Rattle.placing.specs.declared.Senders.{Senders}
 use Rattle.placing.specs.declared.Senders.the-variants.{One, All, Four}
+use Rattle.arrivals.specs.Lanes.{Early}
 use Rattle.arrivals.specs.Kept.{countedBy, into, intoFrom, oneBy, known, fourOf, Surveyed, Kept}
 
 pub record Choosing (w own : List ℕ) (t : ℕ) : Type 0 where
@@ -22,6 +23,7 @@ pub record Choosing (w own : List ℕ) (t : ℕ) : Type 0 where
   pub task : t < taskCount (sheetIn w)
   pub isReady : ready (sheetIn w) (scheduleIn w) t ≡ true
   pub surveyed : Surveyed (sheetIn w) (scheduleIn w) t own
+  pub early : Early (scheduleIn w)
 
 -- the known links into v from one processor, from all, or from four of them, a byte for each
 unfoldable pub knownInto : Sheet → Schedule → ℕ → Senders → ℕ

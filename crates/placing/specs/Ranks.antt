@@ -11,6 +11,7 @@ use Rattle.sheet.specs.Sheet.{Sheet}
 use Rattle.planner.specs.Schedule.{Schedule}
 use Rattle.planner.specs.Placing.{endOf, startOn, fits, barred}
 use Rattle.planner.specs.Planner.{mayJoin, mayTake}
+use Rattle.arrivals.specs.Layout.{endsFrom, waitingFrom}
 
 -- the least value first
 unfoldable pub lowKey : ℕ → ℕ → ℕ
@@ -37,4 +38,4 @@ module _ (s : Sheet) (σ : Schedule) (t : ℕ) where
 
 -- by what is kept of it, k ends by a, and no more than d links from it wait
 unfoldable pub mayBeIdle : List ℕ → ℕ → ℕ → ℕ → Bool
-mayBeIdle w a d k = both (leb (getD w (1536 + k) 0) a) (leb (getD w (1568 + k) 0) d)
+mayBeIdle w a d k = both (leb (getD w (endsFrom + k) 0) a) (leb (getD w (waitingFrom + k) 0) d)

@@ -2,22 +2,25 @@
 ghost use mathlib.Core.Path.{_≡_};
 ghost use mathlib.Core.Bool.{true, false};
 ghost use mathlib.Core.Option.{none};
-ghost use Prim.Native.Nat.{_+_, _*_, _<_, _≤_, max};
+ghost use mathlib.Core.Logic.{_≢_};
+ghost use Prim.Native.Nat.{_+_, _*_, _<_, _≤_};
 ghost use lib.ListN.{getD, length};
-ghost use lib.Dec.{eqb};
 ghost use Rattle.folds.specs.Folds.{pick, both, either, any, sum};
 ghost use Rattle.sheet.specs.Sheet.{taskCount, linkCount};
 ghost use Rattle.sheet.specs.Tables.{sheetIn};
 ghost use Rattle.planner.specs.Schedule.{placed};
-ghost use Rattle.planner.specs.Placing.{arrival, endOf, startFrom, startOn, fits, holdsPredecessor, barred, spent};
+ghost use Rattle.planner.specs.Placing.{arrival, endOf, startOn, fits, holdsPredecessor, barred, spent};
 ghost use Rattle.planner.specs.Planner.{join, idle, another, lastResort, choice};
 ghost use Rattle.schedule.specs.Layout.{scheduleIn};
-ghost use Rattle.arrivals.specs.Kept.{keptLength, Kept};
+ghost use Rattle.arrivals.specs.Layout.{sendersFrom, waitingFrom, keptLength};
+ghost use Rattle.arrivals.specs.Lanes.{Started};
+ghost use Rattle.arrivals.specs.Kept.{Kept};
 ghost use Rattle.words.specs.Found.{foundOf, Below};
 ghost use Rattle.readiness.specs.Keyed.{Keyed};
 ghost use Rattle.placing.specs.Choosing.{Choosing, knownInto, dueBy, fourIn, Small, MoreDue, DuesTo, Dues, OnBoard};
 ghost use Rattle.placing.specs.Ranks.{lowKey, highKey, processorOf, joinKey, idleKey, mayBeIdle};
 ghost use Rattle.placing.specs.Guards.{BarsFor, Bars};
+use arrivals::Starts;
 use chains::End;
 use sheet::tables;
 use words::Found;
@@ -28,38 +31,7 @@ fn end_of(w: &[u32], kept: &[u32], k: usize) -> usize
     requires { ⌜ k < 16 ⌝ }
     ensures { λ r. ⌜ (r ≡ endOf (sheetIn (now (w .entry))) (scheduleIn (now (w .entry))) k) × (r < 4294967296) ⌝ }
 {
-    workspace::word(kept, 1536 + k)
-}
-
-// The latest reach of t from all processors but k.
-fn reach_of(w: &[u32], kept: &[u32], t: usize, k: usize) -> usize
-    requires { ⌜ Kept (now w) (now kept) ⌝ }
-    requires { ⌜ t < taskCount (sheetIn (now w)) ⌝ }
-    ensures { λ r. ⌜ (r ≡ pick (eqb k (getD (now (kept .entry)) (1280 + t) 0)) (getD (now (kept .entry)) (1024 + t) 0) (getD (now (kept .entry)) (768 + t) 0)) × (r < 4294967296) ⌝ }
-{
-    let at = workspace::word(kept, 1280 + t);
-    let other = workspace::word(kept, 1024 + t);
-    let most = workspace::word(kept, 768 + t);
-    if k == at { other } else { most }
-}
-
-// The start of t on k, if k ends at e.
-fn start_from(w: &[u32], kept: &[u32], t: usize, k: usize, e: usize) -> usize
-    requires { ⌜ Kept (now w) (now kept) ⌝ }
-    requires { ⌜ (t < taskCount (sheetIn (now w))) × (k < 16) ⌝ }
-    requires { ⌜ endOf (sheetIn (now w)) (scheduleIn (now w)) k ≤ e ⌝ }
-    ensures { λ r. ⌜ (r ≡ startFrom (sheetIn (now (w .entry))) (scheduleIn (now (w .entry))) t k e) × (r ≤ max e 4294967295) ⌝ }
-{
-    words::later(e, reach_of(w, kept, t, k))
-}
-
-// The start of t on k.
-pub fn start_on(w: &[u32], kept: &[u32], t: usize, k: usize) -> usize
-    requires { ⌜ Kept (now w) (now kept) ⌝ }
-    requires { ⌜ (t < taskCount (sheetIn (now w))) × (k < 16) ⌝ }
-    ensures { λ r. ⌜ (r ≡ startOn (sheetIn (now (w .entry))) (scheduleIn (now (w .entry))) t k) × (r < 4294967296) ⌝ }
-{
-    start_from(w, kept, t, k, end_of(w, kept, k))
+    workspace::word(kept, arrivals::ENDS + k)
 }
 
 // t fits k.
@@ -68,10 +40,10 @@ fn fits_on(w: &[u32], kept: &[u32], t: usize, k: usize) -> bool
     requires { ⌜ k < 16 ⌝ }
     ensures { λ r. ⌜ r ≡ fits (sheetIn (now (w .entry))) (scheduleIn (now (w .entry))) t k ⌝ }
 {
-    let x = workspace::word(kept, 1552 + k);
+    let x = workspace::word(kept, arrivals::STORES + k);
     let y = tables::store(w, t);
-    let z = workspace::word(kept, 256 + t);
-    let v = workspace::word(kept, 1584 + k);
+    let z = workspace::word(kept, arrivals::BYTES + t);
+    let v = workspace::word(kept, arrivals::TURN_BYTES + k);
     x + y + z <= tables::limit(w) + v
 }
 
@@ -89,9 +61,11 @@ fn known_into(w: &[u32], kept: &[u32], v: usize, from: Senders) -> usize
     ensures { λ r. ⌜ (r ≡ knownInto (sheetIn (now (w .entry))) (scheduleIn (now (w .entry))) v from) × (r < 4294967296) ⌝ }
 {
     match from {
-        Senders::One(k) => (workspace::word(kept, 1616 + (4 * v + k / 4)) >> (8 * (k % 4))) % 256,
-        Senders::All => workspace::word(kept, 512 + v),
-        Senders::Four(j) => workspace::word(kept, 1616 + (4 * v + j)),
+        Senders::One(k) => (workspace::word(kept, arrivals::PACKED + (4 * v + k / 4))
+            >> (8 * (k % 4)))
+            % 256,
+        Senders::All => workspace::word(kept, arrivals::SEEN + v),
+        Senders::Four(j) => workspace::word(kept, arrivals::PACKED + (4 * v + j)),
     }
 }
 
@@ -195,7 +169,7 @@ fn due_of(w: &[u32], kept: &[u32], t: usize, d: usize, dues: Counts, k: usize) -
 // Each successor of each task on k is placed or is a successor of t: no other link from k waits than the p that are due.
 fn is_spent(w: &[u32], kept: &[u32], t: usize, d: usize, dues: Counts, k: usize, p: usize) -> bool
     requires { ⌜ Choosing (now w) (now kept) t ⌝ }
-    requires { ⌜ Dues (sheetIn (now w)) (scheduleIn (now w)) t d dues × (k < 16) × (p ≡ getD (now kept) (1568 + k) 0) ⌝ }
+    requires { ⌜ Dues (sheetIn (now w)) (scheduleIn (now w)) t d dues × (k < 16) × (p ≡ getD (now kept) (waitingFrom + k) 0) ⌝ }
     ensures { λ r. ⌜ r ≡ spent (sheetIn (now (w .entry))) (scheduleIn (now (w .entry))) t k ⌝ }
 {
     due_of(w, kept, t, d, dues, k) == p
@@ -228,20 +202,16 @@ fn processor_of(key: usize) -> Found
     Found::At(15 - key % 16)
 }
 
-// The processor that the guard bars for u's sake, or 16. Before its arrival u can start only where its latest message comes
-// from, so that only there its best start can rise.
-fn bars_for(w: &[u32], kept: &[u32], t: usize, u: usize) -> usize
-    requires { ⌜ Choosing (now w) (now kept) t ⌝ }
-    requires { ⌜ u < taskCount (sheetIn (now w)) ⌝ }
+// The processor that the guard bars for u's sake, or 16. Before its arrival u can start only where its latest message comes from,
+// which is k, so that only there its best start can rise: if t finishes after it.
+fn bars_on(w: &[u32], kept: &[u32], t: usize, starts: Starts, u: usize, a: usize, k: usize) -> usize
+    requires { ⌜ Choosing (now w) (now kept) t × Started (now w) t starts ⌝ }
+    requires { ⌜ (u < taskCount (sheetIn (now w))) × (a ≡ arrival (sheetIn (now w)) (scheduleIn (now w)) u) × (a ≢ 0) ⌝ }
+    requires { ⌜ (k ≡ getD (now kept) (sendersFrom + u) 0) × (k < 16) ⌝ }
     ensures { λ r. ⌜ BarsFor (sheetIn (now (w .entry))) (scheduleIn (now (w .entry))) t u r ⌝ }
 {
-    let a = readiness::arrival_of(w, kept, u);
-    if a == 0 {
-        return 16;
-    }
-    let k = workspace::word(kept, 1280 + u);
-    let best = start_on(w, kept, u, k);
-    let finish = start_on(w, kept, t, k) + tables::work(w, t);
+    let best = arrivals::start_on(w, kept, u, k);
+    let finish = workspace::wide(starts.at[k]) + tables::work(w, t);
     if best < a {
         if best < finish {
             return k;
@@ -250,9 +220,29 @@ fn bars_for(w: &[u32], kept: &[u32], t: usize, u: usize) -> usize
     16
 }
 
+// .. asked only of a processor that holds a predecessor of t and ends before u's arrival: elsewhere nothing is barred.
+fn bars_for(w: &[u32], kept: &[u32], t: usize, starts: Starts, u: usize) -> usize
+    requires { ⌜ Choosing (now w) (now kept) t × Started (now w) t starts ⌝ }
+    requires { ⌜ u < taskCount (sheetIn (now w)) ⌝ }
+    ensures { λ r. ⌜ BarsFor (sheetIn (now (w .entry))) (scheduleIn (now (w .entry))) t u r ⌝ }
+{
+    let a = readiness::arrival_of(w, kept, u);
+    if a == 0 {
+        return 16;
+    }
+    let k = workspace::word(kept, arrivals::SENDERS + u);
+    if workspace::word(kept, arrivals::TURN_LINKS + k) == 0 {
+        return 16;
+    }
+    if a <= end_of(w, kept, k) {
+        return 16;
+    }
+    bars_on(w, kept, t, starts, u, a, k)
+}
+
 // The processor that the guard bars in this turn, or 16; q holds the keys.
-fn guard_of(w: &[u32], kept: &[u32], q: &[u64], t: usize) -> usize
-    requires { ⌜ Choosing (now w) (now kept) t ⌝ }
+fn guard_of(w: &[u32], kept: &[u32], q: &[u64], t: usize, starts: Starts) -> usize
+    requires { ⌜ Choosing (now w) (now kept) t × Started (now w) t starts ⌝ }
     requires { ⌜ Keyed (sheetIn (now w)) (scheduleIn (now w)) (now q) ⌝ }
     ensures { λ r. ⌜ Bars (sheetIn (now (w .entry))) (scheduleIn (now (w .entry))) t r ⌝ }
 {
@@ -260,41 +250,41 @@ fn guard_of(w: &[u32], kept: &[u32], q: &[u64], t: usize) -> usize
         Found::Nothing => 16,
         Found::At(u) => {
             if readiness::priority_of(w, kept, t) < readiness::priority_of(w, kept, u) {
-                return bars_for(w, kept, t, u);
+                return bars_for(w, kept, t, starts, u);
             }
             16
         }
     }
 }
 
-// The key of k, which holds a predecessor of t, in step 1; a is t's arrival, and the guard bars one processor.
-fn join_key(w: &[u32], kept: &[u32], t: usize, bars: usize, a: usize, k: usize) -> usize
+// The key of k in step 1; a is t's arrival, x its start on k, and the guard bars one processor. k holds a predecessor of t if a link
+// comes from it.
+fn join_key(w: &[u32], kept: &[u32], t: usize, bars: usize, a: usize, k: usize, x: usize) -> usize
     requires { ⌜ Choosing (now w) (now kept) t ⌝ }
-    requires { ⌜ (a ≡ arrival (sheetIn (now w)) (scheduleIn (now w)) t) × (k < 16) × (holdsPredecessor (sheetIn (now w)) (scheduleIn (now w)) t k ≡ true) ⌝ }
-    requires { ⌜ Bars (sheetIn (now w)) (scheduleIn (now w)) t bars ⌝ }
+    requires { ⌜ (a ≡ arrival (sheetIn (now w)) (scheduleIn (now w)) t) × (k < 16) ⌝ }
+    requires { ⌜ Bars (sheetIn (now w)) (scheduleIn (now w)) t bars × (x ≡ startOn (sheetIn (now w)) (scheduleIn (now w)) t k) × (x < 4294967296) ⌝ }
     ensures { λ r. ⌜ r ≡ joinKey (sheetIn (now (w .entry))) (scheduleIn (now (w .entry))) t k ⌝ }
 {
-    let x = start_on(w, kept, t, k);
+    let held = 0 < workspace::word(kept, arrivals::TURN_LINKS + k);
     let early = are_both(k != bars, x < a);
-    low_key(are_both(fits_on(w, kept, t, k), early), x, k)
+    let fit = are_both(held, fits_on(w, kept, t, k));
+    low_key(are_both(fit, early), x, k)
 }
 
-// Step 1: join. Only where t's links come from, which are mostly fewer than the processors.
-fn join_on(w: &[u32], kept: &[u32], t: usize, bars: usize, a: usize) -> Found
-    requires { ⌜ Choosing (now w) (now kept) t ⌝ }
+// Step 1: join.
+fn join_on(w: &[u32], kept: &[u32], t: usize, starts: Starts, bars: usize, a: usize) -> Found
+    requires { ⌜ Choosing (now w) (now kept) t × Started (now w) t starts ⌝ }
     requires { ⌜ a ≡ arrival (sheetIn (now w)) (scheduleIn (now w)) t ⌝ }
     requires { ⌜ Bars (sheetIn (now w)) (scheduleIn (now w)) t bars ⌝ }
     ensures { λ r. ⌜ (foundOf r ≡ join (sheetIn (now (w .entry))) (barred (sheetIn (now (w .entry)))) (scheduleIn (now (w .entry))) t) × Below 16 r ⌝ }
 {
-    let n = workspace::word(kept, t);
-    let mut l = chains::first(w, End::Target, t);
+    let n = schedule::opened(w);
     let mut best: usize = 0;
-    let mut i: usize = 0;
-    while i < n {
-        let k = schedule::place(w, tables::source(w, l));
-        best = words::later(best, join_key(w, kept, t, bars, a, k));
-        l = chains::next(w, End::Target, l);
-        i += 1;
+    let mut k: usize = 0;
+    while k < n {
+        let x = workspace::wide(starts.at[k]);
+        best = words::later(best, join_key(w, kept, t, bars, a, k, x));
+        k += 1;
     }
     processor_of(best)
 }
@@ -308,7 +298,7 @@ fn idle_key(w: &[u32], kept: &[u32], t: usize, a: usize, d: usize, dues: Counts,
     ensures { λ r. ⌜ r ≡ idleKey (sheetIn (now (w .entry))) (scheduleIn (now (w .entry))) t k ⌝ }
 {
     let e = end_of(w, kept, k);
-    let p = workspace::word(kept, 1568 + k);
+    let p = workspace::word(kept, arrivals::WAITING + k);
     if are_both(e <= a, p <= d) {
         if is_spent(w, kept, t, d, dues, k, p) {
             if fits_on(w, kept, t, k) {
@@ -334,8 +324,8 @@ fn may_be_idle(kept: &[u32], n: usize, a: usize, d: usize) -> bool
     let mut found = false;
     let mut k: usize = 0;
     while k < n {
-        let e = workspace::word(kept, 1536 + k);
-        let p = workspace::word(kept, 1568 + k);
+        let e = workspace::word(kept, arrivals::ENDS + k);
+        let p = workspace::word(kept, arrivals::WAITING + k);
         found = is_either(found, are_both(e <= a, p <= d));
         k += 1;
     }
@@ -387,26 +377,24 @@ fn another_one(w: &[u32], kept: &[u32], t: usize) -> Found
 }
 
 // Step 4: last resort.
-fn last_on(w: &[u32], kept: &[u32], t: usize) -> Found
-    requires { ⌜ Choosing (now w) (now kept) t ⌝ }
+fn last_on(w: &[u32], kept: &[u32], t: usize, starts: Starts) -> Found
+    requires { ⌜ Choosing (now w) (now kept) t × Started (now w) t starts ⌝ }
     ensures { λ r. ⌜ (foundOf r ≡ lastResort (sheetIn (now (w .entry))) (barred (sheetIn (now (w .entry)))) (scheduleIn (now (w .entry))) t) × Below 16 r ⌝ }
 {
     let n = schedule::opened(w);
     let mut best: usize = 0;
     let mut k: usize = 0;
     while k < n {
-        best = words::later(
-            best,
-            low_key(fits_on(w, kept, t, k), start_on(w, kept, t, k), k),
-        );
+        let x = workspace::wide(starts.at[k]);
+        best = words::later(best, low_key(fits_on(w, kept, t, k), x, k));
         k += 1;
     }
     processor_of(best)
 }
 
 // Steps 2 to 4, where nothing is joined.
-fn without_join(w: &[u32], kept: &[u32], t: usize, a: usize) -> Found
-    requires { ⌜ Choosing (now w) (now kept) t ⌝ }
+fn without_join(w: &[u32], kept: &[u32], t: usize, starts: Starts, a: usize) -> Found
+    requires { ⌜ Choosing (now w) (now kept) t × Started (now w) t starts ⌝ }
     requires { ⌜ a ≡ arrival (sheetIn (now w)) (scheduleIn (now w)) t ⌝ }
     requires { ⌜ none ≡ join (sheetIn (now w)) (barred (sheetIn (now w))) (scheduleIn (now w)) t ⌝ }
     ensures { λ r. ⌜ (foundOf r ≡ choice (sheetIn (now (w .entry))) (barred (sheetIn (now (w .entry)))) (scheduleIn (now (w .entry))) t) × Below 16 r ⌝ }
@@ -415,20 +403,21 @@ fn without_join(w: &[u32], kept: &[u32], t: usize, a: usize) -> Found
         Found::At(k) => Found::At(k),
         Found::Nothing => match another_one(w, kept, t) {
             Found::At(k) => Found::At(k),
-            Found::Nothing => last_on(w, kept, t),
+            Found::Nothing => last_on(w, kept, t, starts),
         },
     }
 }
 
-// The processor for t; q holds the keys.
-pub fn choice_of(w: &[u32], kept: &[u32], q: &[u64], t: usize) -> Found
-    requires { ⌜ Choosing (now w) (now kept) t ⌝ }
+// The processor for t, by its starts; q holds the keys.
+pub fn choice_of(w: &[u32], kept: &[u32], q: &[u64], t: usize, starts: Starts) -> Found
+    requires { ⌜ Choosing (now w) (now kept) t × Started (now w) t starts ⌝ }
     requires { ⌜ Keyed (sheetIn (now w)) (scheduleIn (now w)) (now q) ⌝ }
     ensures { λ r. ⌜ (foundOf r ≡ choice (sheetIn (now (w .entry))) (barred (sheetIn (now (w .entry)))) (scheduleIn (now (w .entry))) t) × Below 16 r ⌝ }
 {
     let a = readiness::arrival_of(w, kept, t);
-    match join_on(w, kept, t, guard_of(w, kept, q, t), a) {
+    let bars = guard_of(w, kept, q, t, starts);
+    match join_on(w, kept, t, starts, bars, a) {
         Found::At(k) => Found::At(k),
-        Found::Nothing => without_join(w, kept, t, a),
+        Found::Nothing => without_join(w, kept, t, starts, a),
     }
 }

@@ -5,7 +5,8 @@ use mathlib.Core.Bool.{Bool, false, not}
 use mathlib.Core.Option.{Option, none, some}
 use lib.Dec.{ltb, leb, eqb}
 use Rattle.folds.specs.Folds.{pick, both, either, any, all, sum, greatest, leading, least}
-use Rattle.sheet.specs.Sheet.{Sheet, taskCount, linkCount, workOf, storeOf, sourceOf, targetOf, costOf, bytesOf}
+use Rattle.sheet.specs.Sheet.{Sheet, taskCount, linkCount, workOf, storeOf, sourceOf, targetOf, bytesOf}
+use Rattle.sheet.specs.Times.{linkTime}
 use Rattle.graph.specs.Graph.{level}
 use Rattle.planner.specs.Schedule.{Schedule, finishOf, placed, stands, put}
 
@@ -28,9 +29,9 @@ module _ (s : Sheet) where
   unfoldable pub partlyReady : Schedule → ℕ → Bool
   partlyReady σ t = both (not (placed σ t)) (both (any (linkCount s) (comes σ t)) (any (linkCount s) (lacks σ t)))
 
-  -- when the message of l is there: its source's finish and its cost
+  -- when the message of l is there: its source's finish and the time that it takes
   abbrev pub reachBy : Schedule → ℕ → ℕ
-  reachBy σ l = finishOf σ (sourceOf s l) + costOf s l
+  reachBy σ l = finishOf σ (sourceOf s l) + linkTime s l
 
   unfoldable pub arrivalBy : Schedule → ℕ → ℕ → ℕ
   arrivalBy σ t l = pick (comes σ t l) (reachBy σ l) 0
@@ -61,7 +62,7 @@ module _ (s : Sheet) where
 
   -- "finish + (0 if on k, else cost)"
   unfoldable pub startBy : Schedule → ℕ → ℕ → ℕ → ℕ
-  startBy σ t k l = pick (comes σ t l) (finishOf σ (sourceOf s l) + pick (stands σ (sourceOf s l) k) 0 (costOf s l)) 0
+  startBy σ t k l = pick (comes σ t l) (finishOf σ (sourceOf s l) + pick (stands σ (sourceOf s l) k) 0 (linkTime s l)) 0
 
   -- the start of t on k, whose end is e, by its placed predecessors
   unfoldable pub startFrom : Schedule → ℕ → ℕ → ℕ → ℕ

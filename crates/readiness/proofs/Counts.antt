@@ -16,6 +16,7 @@ use Rattle.sheet.specs.Tables.{sheetIn}
 use Rattle.planner.specs.Schedule.{Schedule, placed}
 use Rattle.planner.specs.Placing.{comes, lacks, satisfied, ready, partlyReady, arrivalBy, arrival}
 use Rattle.schedule.specs.Layout.{scheduleIn}
+use Rattle.arrivals.specs.Layout.{seenFrom, arrivalsFrom}
 use Rattle.arrivals.specs.Kept.{countedBy, into, oneBy, known, Arrived}
 
 module _ (s : Sheet) (σ : Schedule) (t : ℕ) where
@@ -34,7 +35,7 @@ module _ {w kept : List ℕ} {t : ℕ} (c : Arrived w kept t) where
   abbrev σ : Schedule
   σ = scheduleIn w
 
-  pub arrival-kept : getD kept (768 + t) 0 ≡ arrival s σ t
+  pub arrival-kept : getD kept (arrivalsFrom + t) 0 ≡ arrival s σ t
   unfolding arrival arrivalBy comes countedBy
   arrival-kept = c .arrived
 
@@ -43,14 +44,14 @@ module _ {w kept : List ℕ} {t : ℕ} (c : Arrived w kept t) where
   less true false = omega arith
   less false b = omega arith
 
-  few : getD kept (512 + t) 0 ≤ getD kept t 0
+  few : getD kept (seenFrom + t) 0 ≤ getD kept t 0
   unfolding countedBy
   few =
       rw (c .seen, c .number)
       (sum-mono (linkCount s) (countedBy (into s t) oneBy (known s σ)) (countedBy (into s t) oneBy (λ l. true)) (λ l k. less (eqb (targetOf s l) t) (placed σ (sourceOf s l))))
 
   -- as many links are known as there are
-  satisfied-kept : eqb (getD kept (512 + t) 0) (getD kept t 0) ≡ all (linkCount s) (satisfied s σ t)
+  satisfied-kept : eqb (getD kept (seenFrom + t) 0) (getD kept t 0) ≡ all (linkCount s) (satisfied s σ t)
   unfolding countedBy satisfied
   satisfied-kept =
       rw (c .seen, c .number)
@@ -62,7 +63,7 @@ module _ {w kept : List ℕ} {t : ℕ} (c : Arrived w kept t) where
       is true false = refl
       is false b = refl
 
-  lacks-kept : ltb (getD kept (512 + t) 0) (getD kept t 0) ≡ any (linkCount s) (lacks s σ t)
+  lacks-kept : ltb (getD kept (seenFrom + t) 0) (getD kept t 0) ≡ any (linkCount s) (lacks s σ t)
   unfolding countedBy lacks
   lacks-kept =
       rw (c .seen, c .number)
@@ -74,7 +75,7 @@ module _ {w kept : List ℕ} {t : ℕ} (c : Arrived w kept t) where
       is true false = refl
       is false b = refl
 
-  comes-kept : ltb 0 (getD kept (512 + t) 0) ≡ any (linkCount s) (comes s σ t)
+  comes-kept : ltb 0 (getD kept (seenFrom + t) 0) ≡ any (linkCount s) (comes s σ t)
   unfolding countedBy comes
   comes-kept =
       rw (c .seen)
@@ -86,7 +87,7 @@ module _ {w kept : List ℕ} {t : ℕ} (c : Arrived w kept t) where
       is false = refl
 
   -- as the code reads it: x of n links are known
-  module _ {x n : ℕ} (ex : x ≡ getD kept (512 + t) 0) (en : n ≡ getD kept t 0) where
+  module _ {x n : ℕ} (ex : x ≡ getD kept (seenFrom + t) 0) (en : n ≡ getD kept t 0) where
     pub ready-kept : placed σ t ≡ false → eqb x n ≡ ready s σ t
     unfolding ready
     ready-kept e = rw (e, ex, en) satisfied-kept

@@ -24,7 +24,8 @@ use Rattle.planner.proofs.Choosing.{leading-some}
 use Rattle.words.specs.Found.{foundOf, Below}
 use Rattle.words.specs.declared.Found.{Found}
 use Rattle.words.specs.declared.Found.the-variants.{At, Nothing}
-use Rattle.readiness.specs.Keyed.{keyOf, readyKey, partlyKey, taskOf, Early, Keyed}
+use Rattle.arrivals.specs.Lanes.{Early}
+use Rattle.readiness.specs.Keyed.{keyOf, readyKey, partlyKey, taskOf, Keyed}
 
 module _ (s : Sheet) (ranged : Ranged s) where
   -- a level is at most a work and a cost for each round

@@ -11,7 +11,7 @@ use Rattle.folds.specs.Folds.{pick, any}
 use Rattle.keys.specs.Keys.{indexOf, Blocked}
 use Rattle.sheet.specs.Sheet.{Sheet, taskCount, linkCount, sourceOf, targetOf}
 use Rattle.graph.specs.Graph.{level}
-use Rattle.planner.specs.Schedule.{Schedule, placed, finishOf}
+use Rattle.planner.specs.Schedule.{Schedule, placed}
 use Rattle.planner.specs.Placing.{comes, ready, partlyReady, priority}
 
 unfoldable pub keyOf : Sheet → Schedule → ℕ → ℕ
@@ -26,10 +26,6 @@ partlyKey s σ t = pick (partlyReady s σ t) (keyOf s σ t) 0
 -- the task of a key, and none of 0
 abbrev pub taskOf : ℕ → Option ℕ
 taskOf x = indexOf 256 x
-
--- no finish is past what 256 turns of a cost and a work come to, so that a key fits 64 bits
-pub record Early (σ : Schedule) : Type 0 where
-  pub early : (u : ℕ) → finishOf σ u ≤ 33553920
 
 -- the table holds the keys of u
 pub record Fresh (s : Sheet) (σ : Schedule) (q : List ℕ) (u : ℕ) : Type 0 where

@@ -13,9 +13,11 @@ ghost use Rattle.levelling.specs.Found.{Levelled};
 ghost use Rattle.schedule.specs.Layout.{scheduleIn};
 ghost use Rattle.chains.specs.Chains.{Chained};
 ghost use Rattle.chains.specs.declared.End.the-variants.{Source};
-ghost use Rattle.arrivals.specs.Kept.{keptLength, known, Single, Gathered, Counted, Kept, Arrived};
+ghost use Rattle.arrivals.specs.Layout.{keptLength};
+ghost use Rattle.arrivals.specs.Kept.{known, Single, Gathered, Counted, Kept, Arrived};
 ghost use Rattle.arrivals.specs.Steps.{upTo, Beside, Landed};
-ghost use Rattle.readiness.specs.Keyed.{keyOf, taskOf, Early, Renewed, Waiting, Keyed, KeyedBeside};
+ghost use Rattle.arrivals.specs.Lanes.{Early};
+ghost use Rattle.readiness.specs.Keyed.{keyOf, taskOf, Renewed, Waiting, Keyed, KeyedBeside};
 use chains::End;
 use sheet::tables;
 use words::Found;
@@ -33,7 +35,7 @@ pub fn arrival_of(w: &[u32], kept: &[u32], t: usize) -> usize
     requires { ⌜ Arrived (now w) (now kept) t ⌝ }
     ensures { λ r. ⌜ (r ≡ arrival (sheetIn (now (w .entry))) (scheduleIn (now (w .entry))) t) × (r < 4294967296) ⌝ }
 {
-    workspace::word(kept, 768 + t)
+    workspace::word(kept, arrivals::ARRIVALS + t)
 }
 
 fn is_ready(w: &[u32], kept: &[u32], t: usize) -> bool
@@ -43,7 +45,7 @@ fn is_ready(w: &[u32], kept: &[u32], t: usize) -> bool
     if is_placed(w, t) {
         false
     } else {
-        workspace::word(kept, 512 + t) == workspace::word(kept, t)
+        workspace::word(kept, arrivals::SEEN + t) == workspace::word(kept, t)
     }
 }
 
@@ -54,7 +56,7 @@ fn is_partly_ready(w: &[u32], kept: &[u32], t: usize) -> bool
     if is_placed(w, t) {
         return false;
     }
-    let x = workspace::word(kept, 512 + t);
+    let x = workspace::word(kept, arrivals::SEEN + t);
     let n = workspace::word(kept, t);
     if 0 < x { x < n } else { false }
 }
@@ -111,7 +113,7 @@ fn renew_target(w: &[u32], kept: &[u32], q: &mut [u64], t: usize)
     ensures { λ _. ⌜ Renewed (sheetIn (now (w .entry))) (scheduleIn (now (w .entry))) (now (q .entry)) (now (q .exit)) t ⌝ }
 {
     let key = key_of(w, kept, t);
-    if workspace::word(kept, 512 + t) == workspace::word(kept, t) {
+    if workspace::word(kept, arrivals::SEEN + t) == workspace::word(kept, t) {
         keys::raise(q, t, key);
         keys::put(q, 256 + t, 0);
     } else {

@@ -23,7 +23,8 @@ use Rattle.chains.specs.Frames.{Only}
 use Rattle.chains.specs.declared.End.the-variants.{Source, Target}
 use Rattle.chains.proofs.Frames.{same-sheet, same-loaded, only-sheet, only-loaded}
 use Rattle.chains.proofs.Walks.{chained-frame, chained-under}
-use Rattle.arrivals.specs.Kept.{keptLength, Single, Caches}
+use Rattle.arrivals.specs.Layout.{seenFrom, keptLength}
+use Rattle.arrivals.specs.Kept.{Single, Caches}
 use Rattle.arrivals.specs.Steps.{Zero, GatheredTo}
 use Rattle.arrivals.proofs.Gathering.{gather-none, gathered-all}
 use Rattle.arrivals.proofs.Beginning.{counted-zero, ends-zero, closed-zero}
@@ -84,8 +85,8 @@ module _ {w w₁ : List ℕ} (loaded : Loaded w) (levelled : Levelled (sheetIn w
       pub gathers : (Loaded w₂ × (keptLength ≤ length zeros)) × GatheredTo (sheetIn w₂) 0 zeros
       gathers = ((loaded₂, omega (arith, long-zeros)), gather-none (record { at = λ i h l. zero i }) (ranged w₂ loaded₂ .few-tasks))
 
-      module _ {own : List ℕ} (o : Only 0 512 zeros own) (gathered : GatheredTo (sheetIn w₂) (linkCount (sheetIn w₂)) own) where
-        zeros-on : Zero 512 keptLength own
+      module _ {own : List ℕ} (o : Only 0 seenFrom zeros own) (gathered : GatheredTo (sheetIn w₂) (linkCount (sheetIn w₂)) own) where
+        zeros-on : Zero seenFrom keptLength own
         zeros-on = record { at = λ i h l. o .high i h ∙ zero i }
 
         caches₂ : Caches s (scheduleIn w₂) w₂ own

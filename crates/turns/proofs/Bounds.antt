@@ -5,35 +5,17 @@ use native.Mathlib.Omega.{arith}
 use native.Mathlib.Decide.{ℕ-discrete, decLt}
 use lib.ListN.{length, getD, set}
 use lib.Seq.{getD-set-same, getD-set-other, set-out}
-use Rattle.folds.specs.Folds.{pick, greatest}
-use Rattle.folds.proofs.Tests.{pick-le}
-use Rattle.folds.proofs.Laws.{greatest-le}
 use Rattle.folds.proofs.Lists.{getD-replicate}
-use Rattle.sheet.specs.Sheet.{Sheet, taskCount, linkCount, workOf, sourceOf, costOf}
+use Rattle.sheet.specs.Sheet.{Sheet, taskCount, workOf}
 use Rattle.sheet.specs.Tables.{Ranged}
-use Rattle.planner.specs.Schedule.{Schedule, empty, put, stands, finishOf}
-use Rattle.planner.specs.Placing.{comes, endBy, endOf, startBy, startFrom, startOn}
-use Rattle.readiness.specs.Keyed.{Early}
+use Rattle.planner.specs.Schedule.{Schedule, empty, put, finishOf}
+use Rattle.planner.specs.Placing.{startOn}
+use Rattle.arrivals.specs.Lanes.{Early}
+use Rattle.arrivals.proofs.Reaching.{start-early}
 use Rattle.turns.specs.Turns.{Timely}
 
-module _ (s : Sheet) (σ : Schedule) (j : ℕ) (ranged : Ranged s) (timely : Timely j σ) (t k : ℕ) where
-  end-early : endOf s σ k ≤ 131070 * j
-  unfolding endOf endBy
-  end-early = greatest-le (taskCount s) (endBy s σ k) (131070 * j) (λ u h. pick-le (stands σ u k) (finishOf σ u) 0 (131070 * j) (timely .early u) (omega arith))
-
-  start-by-early : greatest (linkCount s) (startBy s σ t k) ≤ 131070 * j + 65535
-  unfolding startBy
-  start-by-early =
-      greatest-le (linkCount s) (startBy s σ t k) (131070 * j + 65535)
-      (λ l h. pick-le (comes s σ t l) (finishOf σ (sourceOf s l) + pick (stands σ (sourceOf s l) k) 0 (costOf s l)) 0 (131070 * j + 65535)
-      (omega (arith, timely .early (sourceOf s l), pick-le (stands σ (sourceOf s l) k) 0 (costOf s l) 65535 (omega arith) (omega (arith, ranged .costs l h)))) (omega arith))
-
-  start-early : startOn s σ t k ≤ 131070 * j + 65535
-  unfolding startOn startFrom
-  start-early = omega (arith, end-early, start-by-early)
-
-  pub finish-early : {a b : ℕ} → a ≡ startOn s σ t k → b ≡ workOf s t → t < taskCount s → a + b ≤ 131070 * (j + 1)
-  finish-early ea eb h = omega (arith, start-early, ranged .works t h)
+pub finish-early : (s : Sheet) (σ : Schedule) (j : ℕ) → Ranged s → Timely j σ → (t k : ℕ) {a b : ℕ} → a ≡ startOn s σ t k → b ≡ workOf s t → t < taskCount s → a + b ≤ 131070 * (j + 1)
+finish-early s σ j ranged timely t k ea eb h = omega (arith, start-early s σ t ranged (131070 * j) (λ u. timely .early u) k, ranged .works t h)
 
 pub put-timely : (σ : Schedule) (j t k a b : ℕ) → Timely j σ → b ≤ 131070 * (j + 1) → Timely (j + 1) (put σ t k a b)
 unfolding finishOf

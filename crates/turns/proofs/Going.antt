@@ -22,13 +22,15 @@ use Rattle.chains.specs.Frames.{Only}
 use Rattle.chains.specs.declared.End.the-variants.{Source}
 use Rattle.chains.proofs.Frames.{same-sheet, same-loaded}
 use Rattle.chains.proofs.Walks.{chained-frame}
-use Rattle.arrivals.specs.Kept.{keptLength, known, Single, Gathered, Counted, Surveyed, Ends, Caches}
+use Rattle.arrivals.specs.Layout.{endsFrom, waitingFrom, turnBytesFrom, turnLinksFrom, packedFrom, keptLength}
+use Rattle.arrivals.specs.Kept.{known, Single, Gathered, Counted, Surveyed, Ends, Caches}
 use Rattle.arrivals.specs.Steps.{upTo, Beside, Placeable, Landed, Released, Enough}
 use Rattle.arrivals.proofs.Walks.{counted-frame, gathered-frame, ends-frame}
 use Rattle.arrivals.proofs.Placing as placing
 use Rattle.arrivals.proofs.Settling.{enough}
 use Rattle.arrivals.proofs.Surveys.{surveyed-frame, kept-frame}
-use Rattle.readiness.specs.Keyed.{Early, Keyed, KeyedBeside}
+use Rattle.arrivals.specs.Lanes.{Early}
+use Rattle.readiness.specs.Keyed.{Keyed, KeyedBeside}
 use Rattle.readiness.proofs.Renewing.{keyed-beside}
 use Rattle.placing.specs.Choosing.{Choosing}
 use Rattle.placing.proofs.Starts.{placeable}
@@ -48,7 +50,7 @@ pub record Putting (w own : List ℕ) (j t k a f p o : ℕ) : Type 0 where
   pub placed-is : p ≡ getD w placedAt 0
   pub opened-is : o ≡ max (scheduleIn w .opened) (k + 1)
 
-module _ {w own own₁ : List ℕ} {j t k a f p o : ℕ} (u : Putting w own j t k a f p o) (o₁ : Only 1536 1568 own own₁) (ends : Ends (sheetIn w) (put (scheduleIn w) t k a f) own₁) where
+module _ {w own own₁ : List ℕ} {j t k a f p o : ℕ} (u : Putting w own j t k a f p o) (o₁ : Only endsFrom waitingFrom own own₁) (ends : Ends (sheetIn w) (put (scheduleIn w) t k a f) own₁) where
   abbrev s : Sheet
   s = sheetIn w
 
@@ -77,7 +79,7 @@ module _ {w own own₁ : List ℕ} {j t k a f p o : ℕ} (u : Putting w own j t 
   enough₁ =
       let kept = u .going .kept in
       let before = enough s σ own t k a f (omega (arith, kept .long)) (u .can) (u .late) (kept .caches .gathered) (kept .caches .counted) (u .surveyed) (kept .caches .ends) in
-      (omega (arith, long₁), record { most = λ i h. omega (arith, before .most i h, o₁ .high (1568 + i) (omega arith), o₁ .high (1600 + i) (omega arith)) })
+      (omega (arith, long₁), record { most = λ i h. omega (arith, before .most i h, o₁ .high (waitingFrom + i) (omega arith), o₁ .high (turnLinksFrom + i) (omega arith)) })
 
   module _ {own₂ : List ℕ} (r₂ : Released 16 own₁ own₂) where
     long₂ : length own₂ ≡ keptLength
@@ -175,8 +177,8 @@ module _ {w own own₁ : List ℕ} {j t k a f p o : ℕ} (u : Putting w own j t 
             }
 
 -- the task is chosen for
-pub choosing : {w own : List ℕ} {j t : ℕ} → Going w j w own → t < taskCount (sheetIn w) → ready (sheetIn w) (scheduleIn w) t ≡ true → Surveyed (sheetIn w) (scheduleIn w) t own → Choosing w own t
-choosing g h r v = record { kept = g .kept; levelled = g .levelled; task = h; isReady = r; surveyed = v }
+pub choosing : {w own : List ℕ} {j t : ℕ} → Going w j w own → j < 256 → t < taskCount (sheetIn w) → ready (sheetIn w) (scheduleIn w) t ≡ true → Surveyed (sheetIn w) (scheduleIn w) t own → Choosing w own t
+choosing g turn h r v = record { kept = g .kept; levelled = g .levelled; task = h; isReady = r; surveyed = v; early = early (g .timely) (omega arith) }
 
 -- the numbers as the code finds them
 pub putting : {w own : List ℕ} {j t k a y p x o : ℕ} → Going w j w own → j < 256 → t < taskCount (sheetIn w) → k < 16 → ready (sheetIn w) (scheduleIn w) t ≡ true → Surveyed (sheetIn w) (scheduleIn w) t own
@@ -184,7 +186,7 @@ pub putting : {w own : List ℕ} {j t k a y p x o : ℕ} → Going w j w own →
 putting {w} {own} {j} {t} {k} {a} g turn h on r v ea ey ep ex eo =
     record {
       going = g;
-      can = placeable w own t k (choosing g h r v) on;
+      can = placeable w own t k (choosing g turn h r v) on;
       surveyed = v;
       turn = turn;
       late = omega (arith, end-le-start (sheetIn w) (scheduleIn w) t k);
@@ -223,7 +225,7 @@ after g h =
     }
 
 -- the task of this turn is surveyed
-pub surveyed-going : {w₀ w own own′ : List ℕ} {j : ℕ} → Going w₀ j w own → Only 1584 1616 own own′ → Going w₀ j w own′
+pub surveyed-going : {w₀ w own own′ : List ℕ} {j : ℕ} → Going w₀ j w own → Only turnBytesFrom packedFrom own own′ → Going w₀ j w own′
 surveyed-going g o =
     record {
       long = g .long;

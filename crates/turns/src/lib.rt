@@ -8,9 +8,11 @@ ghost use Rattle.planner.specs.Placing.{ready, startOn, barred};
 ghost use Rattle.planner.specs.Planner.{choice, placedFrom, placeOn, turn, turns, planned};
 ghost use Rattle.levelling.specs.Found.{Levelled};
 ghost use Rattle.schedule.specs.Layout.{scheduleIn};
+ghost use Rattle.arrivals.specs.Lanes.{Started};
 ghost use Rattle.arrivals.specs.Kept.{Single, Surveyed};
 ghost use Rattle.readiness.specs.Keyed.{Keyed};
 ghost use Rattle.turns.specs.Turns.{answerOf, Going, Cleared, Emptied, Afterwards};
+use arrivals::Starts;
 use chains::End;
 use sheet::tables;
 use words::Found;
@@ -25,15 +27,22 @@ pub enum Planned {
     Refused(usize),
 }
 
-// t goes on k at turn j, and the keys follow.
-fn put_on(w: &mut [u32], kept: &mut [u32], q: &mut [u64], j: usize, t: usize, k: usize)
+// t goes on k at turn j, from its start there on, and the keys follow.
+fn put_on(
+    w: &mut [u32],
+    kept: &mut [u32],
+    q: &mut [u64],
+    j: usize,
+    t: usize,
+    k: usize,
+    start: usize,
+)
     requires { ⌜ Going (now w) j (now w) (now kept) ⌝ }
-    requires { ⌜ (j < 256) × (t < taskCount (sheetIn (now w))) × (k < 16) ⌝ }
+    requires { ⌜ (j < 256) × (t < taskCount (sheetIn (now w))) × (k < 16) × (start ≡ startOn (sheetIn (now w)) (scheduleIn (now w)) t k) × (start < 4294967296) ⌝ }
     requires { ⌜ (ready (sheetIn (now w)) (scheduleIn (now w)) t ≡ true) × Surveyed (sheetIn (now w)) (scheduleIn (now w)) t (now kept) ⌝ }
     requires { ⌜ Keyed (sheetIn (now w)) (scheduleIn (now w)) (now q) ⌝ }
     ensures { λ _. ⌜ (scheduleIn (now (w .exit)) ≡ placedFrom (sheetIn (now (w .entry))) (barred (sheetIn (now (w .entry)))) (scheduleIn (now (w .entry))) t k (startOn (sheetIn (now (w .entry))) (scheduleIn (now (w .entry))) t k)) × Going (now (w .entry)) (j + 1) (now (w .exit)) (now (kept .exit)) × Keyed (sheetIn (now (w .exit))) (scheduleIn (now (w .exit))) (now (q .exit)) ⌝ }
 {
-    let start = placing::start_on(w, kept, t, k);
     let finish = start + tables::work(w, t);
     let open = words::later(schedule::opened(w), k + 1);
     let n = schedule::placed(w);
@@ -43,18 +52,26 @@ fn put_on(w: &mut [u32], kept: &mut [u32], q: &mut [u64], j: usize, t: usize, k:
     readiness::count_links(w, kept, q, t, k, finish);
 }
 
-// The first ready task, which is surveyed, goes where the steps say, or is refused.
-fn place_surveyed(w: &mut [u32], kept: &mut [u32], q: &mut [u64], j: usize, t: usize) -> Planned
+// The first ready task, which is surveyed, goes where the steps say by its starts, or is refused.
+fn place_surveyed(
+    w: &mut [u32],
+    kept: &mut [u32],
+    q: &mut [u64],
+    j: usize,
+    t: usize,
+    starts: Starts,
+) -> Planned
     requires { ⌜ Going (now w) j (now w) (now kept) ⌝ }
     requires { ⌜ (j < 256) × (t < taskCount (sheetIn (now w))) ⌝ }
-    requires { ⌜ (ready (sheetIn (now w)) (scheduleIn (now w)) t ≡ true) × Surveyed (sheetIn (now w)) (scheduleIn (now w)) t (now kept) ⌝ }
+    requires { ⌜ (ready (sheetIn (now w)) (scheduleIn (now w)) t ≡ true) × Surveyed (sheetIn (now w)) (scheduleIn (now w)) t (now kept) × Started (now w) t starts ⌝ }
     requires { ⌜ Keyed (sheetIn (now w)) (scheduleIn (now w)) (now q) ⌝ }
     ensures { λ r. ⌜ (answerOf r (scheduleIn (now (w .exit))) ≡ placeOn (sheetIn (now (w .entry))) (barred (sheetIn (now (w .entry)))) (scheduleIn (now (w .entry))) t (choice (sheetIn (now (w .entry))) (barred (sheetIn (now (w .entry)))) (scheduleIn (now (w .entry))) t)) × Going (now (w .entry)) (j + 1) (now (w .exit)) (now (kept .exit)) × Keyed (sheetIn (now (w .exit))) (scheduleIn (now (w .exit))) (now (q .exit)) ⌝ }
 {
-    match placing::choice_of(w, kept, q, t) {
+    match placing::choice_of(w, kept, q, t, starts) {
         Found::Nothing => Planned::Refused(t),
         Found::At(k) => {
-            put_on(w, kept, q, j, t, k);
+            let start = workspace::wide(starts.at[k]);
+            put_on(w, kept, q, j, t, k, start);
             Planned::Done
         }
     }
@@ -68,8 +85,8 @@ fn place_task(w: &mut [u32], kept: &mut [u32], q: &mut [u64], j: usize, t: usize
     requires { ⌜ Keyed (sheetIn (now w)) (scheduleIn (now w)) (now q) ⌝ }
     ensures { λ r. ⌜ (answerOf r (scheduleIn (now (w .exit))) ≡ placeOn (sheetIn (now (w .entry))) (barred (sheetIn (now (w .entry)))) (scheduleIn (now (w .entry))) t (choice (sheetIn (now (w .entry))) (barred (sheetIn (now (w .entry)))) (scheduleIn (now (w .entry))) t)) × Going (now (w .entry)) (j + 1) (now (w .exit)) (now (kept .exit)) × Keyed (sheetIn (now (w .exit))) (scheduleIn (now (w .exit))) (now (q .exit)) ⌝ }
 {
-    arrivals::survey(w, kept, t);
-    place_surveyed(w, kept, q, j, t)
+    let starts = arrivals::survey(w, kept, t);
+    place_surveyed(w, kept, q, j, t, starts)
 }
 
 // One turn.
@@ -147,7 +164,7 @@ pub fn schedule(w: &mut [u32]) -> Planned
     requires { ⌜ Single (sheetIn (now w)) ⌝ }
     ensures { λ r. ⌜ (answerOf r (scheduleIn (now (w .exit))) ≡ planned (sheetIn (now (w .entry)))) × Afterwards (now (w .entry)) (now (w .exit)) ⌝ }
 {
-    let mut kept = [0u32; 2640];
+    let mut kept = [0u32; arrivals::LENGTH];
     clear(w);
     chains::chain(w, End::Source);
     arrivals::gather(w, &mut kept);

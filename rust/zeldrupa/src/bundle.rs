@@ -60,8 +60,9 @@ impl AsRef<[u8]> for Bundle {
     }
 }
 
-/// Two values for each command of these programmes, those that open one among them.
-pub(crate) fn to_values(programmes: &[Vec<Command>]) -> Vec<u16> {
+/// Two values for each command of these programmes, those that open one among them, as the library's
+/// functions take them.
+pub fn bundle_values(programmes: &[Vec<Command>]) -> Vec<u16> {
     let mut values = Vec::new();
     for (number, programme) in programmes.iter().enumerate() {
         // A number that is too great for a byte stays one that no processor has.

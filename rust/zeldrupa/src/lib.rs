@@ -2,7 +2,8 @@
 //!
 //! A [`WorkArea`] has every call: it reads and writes a [`Sheet`] of tasks and a [`Bundle`] of
 //! programmes, plans, checks, lists, and starts a [`Machine`]. Each answer is the static library's
-//! own; a [`Refusal`] has document 01's number, place and word.
+//! own; a [`Refusal`] has document 01's number, place and word, and [`Refusal::explain`] tells it in
+//! the user's terms.
 //!
 //! ```
 //! use zeldrupa::{Link, Refusal, Task, WorkArea};
@@ -44,8 +45,8 @@ mod work_area;
 #[doc = include_str!("../../../README.md")]
 struct Readme;
 
-pub use bundle::{Bundle, Command};
-pub use machine::{Machine, Processor};
-pub use refusal::Refusal;
+pub use bundle::{bundle_values, Bundle, Command};
+pub use machine::{Machine, Processor, Wait};
+pub use refusal::{About, Explanation, Refusal, Subject};
 pub use sheet::{Link, Sheet, Task};
 pub use work_area::WorkArea;

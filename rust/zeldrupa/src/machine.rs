@@ -1,6 +1,6 @@
 //! The stepping machine: a sheet's bundle being run, one command of one chosen processor at a time.
 
-use crate::{raw, Bundle, Refusal, Sheet, WorkArea};
+use crate::{raw, Bundle, Command, Refusal, Sheet, WorkArea};
 
 /// A processor at some point of its programme.
 #[derive(Clone, Copy, Debug, PartialEq, Eq, Hash)]
@@ -11,6 +11,21 @@ pub struct Processor {
     pub position: u32,
     /// The store in use.
     pub store: u32,
+}
+
+/// What a processor that cannot step waits for.
+#[derive(Clone, Copy, Debug, PartialEq, Eq, Hash)]
+pub struct Wait {
+    /// The processor that waits.
+    pub processor: usize,
+    /// The position of its receive in its programme.
+    pub position: usize,
+    /// The link whose message is not sent yet.
+    pub link: u16,
+    /// The processor that has to send it.
+    pub sender: usize,
+    /// The position of that send in the sender's programme.
+    pub send: usize,
 }
 
 /// A started machine; [`WorkArea::start`] makes one.
@@ -63,6 +78,51 @@ impl<'a> Machine<'a> {
     pub fn run(&mut self, work: &mut WorkArea, choices: &[u8]) -> u64 {
         let (sheet, bundle) = (self.sheet.bytes(), self.bundle.bytes());
         result(raw::run(sheet, bundle, choices, work.words(), &mut self.state))
+    }
+
+    /// Steps until nobody can; by demand 3 all orders end alike.
+    pub fn run_out(&mut self) {
+        let programmes = self.bundle.programmes().len() as u64;
+        while (0..programmes).filter(|&k| self.step(k)).count() > 0 {}
+    }
+
+    /// The next command of a processor, if one is left.
+    pub fn next(&self, k: usize) -> Option<Command> {
+        let position = self.processor(k)?.position as usize;
+        self.bundle.programmes()[k].get(position).copied()
+    }
+
+    /// What a processor waits for, if its next command is a receive whose message is not sent.
+    pub fn waits(&self, k: usize) -> Option<Wait> {
+        let Some(Command::Receive(link)) = self.next(k) else { return None };
+        if self.stamp(link.into()).is_some() {
+            return None;
+        }
+        let position = self.processor(k)?.position as usize;
+        let sends = |programme: &Vec<Command>| {
+            programme.iter().position(|&command| command == Command::Send(link))
+        };
+        let mut programmes = self.bundle.programmes().iter().enumerate();
+        let found = programmes.find_map(|(sender, programme)| Some((sender, sends(programme)?)));
+        found.map(|(sender, send)| Wait { processor: k, position, link, sender, send })
+    }
+
+    /// The circle of processors that wait for each other, from its lowest one on, each behind the
+    /// one that waits for it; empty unless the machine is stuck.
+    pub fn circle(&self) -> Vec<Wait> {
+        let mut path: Vec<Wait> = Vec::new();
+        let mut next = (0..self.bundle.programmes().len()).find_map(|k| self.waits(k));
+        while let Some(wait) = next {
+            if let Some(start) = path.iter().position(|seen| seen.processor == wait.processor) {
+                let mut circle = path.split_off(start);
+                let lowest = (0..circle.len()).min_by_key(|&at| circle[at].processor);
+                circle.rotate_left(lowest.unwrap_or(0));
+                return circle;
+            }
+            path.push(wait);
+            next = self.waits(wait.sender);
+        }
+        Vec::new()
     }
 
     /// How many commands are still to do.

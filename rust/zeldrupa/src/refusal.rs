@@ -1,5 +1,13 @@
 //! A refusal: document 01's number and place, and its word for it.
 
+mod explanation;
+mod form;
+mod kinds;
+mod programmes;
+mod seen;
+
+pub use explanation::{About, Explanation, Subject};
+
 use std::error::Error;
 use std::fmt::{self, Display, Formatter};
 
@@ -39,31 +47,7 @@ impl Refusal {
 
     /// The documents' word for it.
     pub fn word(self) -> &'static str {
-        match self.number {
-            1 => "cut sheet",
-            2 | 22 => "strange command",
-            3 | 23 => "out of turn",
-            4 | 24 => "tail",
-            5 => "over-full",
-            6 => "range",
-            7 => "loose link",
-            8 => "doubled link",
-            9 => "bare sheet",
-            10 => "loop",
-            11 => "no store",
-            12 => "short output",
-            13 => "short work area",
-            21 => "cut bundle",
-            25 => "unknown number",
-            26 => "run count",
-            28 => "over store",
-            29 => "stuck",
-            30 => "wrong claim",
-            31 => "send",
-            32 => "receive",
-            33 => "local order",
-            _ => "unknown refusal",
-        }
+        kinds::kind(self.number).map_or("unknown refusal", |kind| kind.word)
     }
 }
 

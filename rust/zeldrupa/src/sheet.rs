@@ -9,6 +9,13 @@ pub struct Task {
     pub store: u16,
 }
 
+impl Task {
+    /// Its values as the library's functions take them.
+    pub fn values(self) -> [u16; 2] {
+        [self.work, self.store]
+    }
+}
+
 /// A link: its target needs what its source makes, as a message if they run on two processors.
 #[derive(Clone, Copy, Debug, PartialEq, Eq, Hash)]
 pub struct Link {
@@ -20,6 +27,13 @@ pub struct Link {
     pub cost: u16,
     /// The store that the message takes where it is received.
     pub bytes: u16,
+}
+
+impl Link {
+    /// Its values as the library's functions take them.
+    pub fn values(self) -> [u16; 4] {
+        [self.source.into(), self.target.into(), self.cost, self.bytes]
+    }
 }
 
 /// A sheet to which none of the refusals 1 to 10 applies, made by

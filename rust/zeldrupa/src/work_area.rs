@@ -1,7 +1,7 @@
 //! The work area, lent to every call: reading, writing, levels, planning, checking and listing.
 
-use crate::bundle::{from_values, to_values};
-use crate::{raw, Bundle, Command, Link, Machine, Refusal, Sheet, Task};
+use crate::bundle::from_values;
+use crate::{bundle_values, raw, Bundle, Command, Link, Machine, Refusal, Sheet, Task};
 
 /// The most tasks and links of a sheet.
 const MOST_TASKS: usize = 256;
@@ -66,11 +66,8 @@ impl WorkArea {
         tasks: &[Task],
         links: &[Link],
     ) -> Result<Sheet, Refusal> {
-        let task_values: Vec<u16> = tasks.iter().flat_map(|task| [task.work, task.store]).collect();
-        let link_values: Vec<u16> = links
-            .iter()
-            .flat_map(|link| [link.source.into(), link.target.into(), link.cost, link.bytes])
-            .collect();
+        let task_values: Vec<u16> = tasks.iter().flat_map(|task| task.values()).collect();
+        let link_values: Vec<u16> = links.iter().flat_map(|link| link.values()).collect();
         let words = &mut self.words;
         let bytes = filled(&mut self.bytes, |out| {
             raw::write_sheet(processors, limit, &task_values, &link_values, words, out)
@@ -148,7 +145,7 @@ impl WorkArea {
         programmes: &[Vec<Command>],
         claim: u32,
     ) -> Result<Bundle, Refusal> {
-        let (words, values) = (&mut self.words, to_values(programmes));
+        let (words, values) = (&mut self.words, bundle_values(programmes));
         let bytes = filled(&mut self.bytes, |out| {
             raw::write_bundle(sheet.bytes(), &values, claim, words, out)
         })?;

@@ -2,7 +2,7 @@
 
 use std::collections::BTreeMap;
 use std::fs;
-use zeldrupa::{Machine, Refusal, Sheet, WorkArea};
+use zeldrupa::{About, Refusal, Sheet, Subject, WorkArea};
 
 /// The example files by name, the figures among them.
 fn files() -> BTreeMap<String, Vec<u8>> {
@@ -17,12 +17,6 @@ fn files() -> BTreeMap<String, Vec<u8>> {
 
 fn number_and_place<T>(answer: Result<T, Refusal>) -> Option<(u8, u64)> {
     answer.err().map(|refusal| (refusal.number(), refusal.place()))
-}
-
-/// Chooses each processor in turn until nobody can step.
-fn run_out(machine: &mut Machine) {
-    let programmes = machine.processors().count() as u64;
-    while (0..programmes).filter(|&k| machine.step(k)).count() > 0 {}
 }
 
 fn valid_sheets(work: &mut WorkArea) -> Vec<(String, Sheet)> {
@@ -60,7 +54,7 @@ fn plans_are_accepted_and_run_to_their_claims() {
         }
         assert_eq!(work.check(&sheet, &bundle), Ok(()), "{name}");
         let mut machine = work.start(&sheet, &bundle).unwrap();
-        run_out(&mut machine);
+        machine.run_out();
         assert_eq!((machine.left(), machine.latest_clock()), (0, bundle.claim()), "{name}");
     }
 }
@@ -88,7 +82,31 @@ fn a_stuck_bundle_starts_and_stops() {
     let bundle = work.read_bundle(&sheet, &files["k6.bundle"]).unwrap();
     assert_eq!(number_and_place(work.check(&sheet, &bundle)), Some((29, 0)));
     let mut machine = work.start(&sheet, &bundle).unwrap();
-    run_out(&mut machine);
+    machine.run_out();
     assert_eq!((machine.left(), machine.stamp(0), machine.processor(2)), (8, None, None));
     assert_eq!(machine.run(&mut work, &[0, 1, 255]), 0);
+}
+
+#[test]
+fn refusals_are_explained() {
+    let (mut work, files) = (WorkArea::new(), files());
+    let names = ["in", "ping", "pong", "out"].map(String::from);
+    let circle = &files["k8-circle.sheet"];
+    let about = About { sheet: circle, bundle: &[], names: &names };
+    let explained = work.read_sheet(circle).unwrap_err().explain(about);
+    assert_eq!(explained.place, "task ping: ping -> pong -> ping");
+    assert_eq!(explained.subject, Subject::Task(1));
+
+    let (sheet, bundle) = (&files["k6.sheet"], &files["k6.bundle"]);
+    let about = About { sheet, bundle, names: &names };
+    let explained = work.check(sheet, bundle).unwrap_err().explain(about);
+    assert!(explained.place.starts_with("processor 0 waits at command 0 for link 1, pong -> out"));
+    assert_eq!(explained.commands, [[0, 0], [1, 3], [1, 0], [0, 3]]);
+
+    // Also where the caller lends something else than what was refused, there are words.
+    for bundle in [&[][..], &[0x50][..], b"?"] {
+        let refusal = work.check(sheet, &files["k6.bundle"]).unwrap_err();
+        let explained = refusal.explain(About { sheet: &[], bundle, names: &[] });
+        assert_eq!((explained.word, &explained.place[..]), ("stuck", "place 0"));
+    }
 }

@@ -4,6 +4,7 @@ use native.Mathlib.Omega.{arith}
 use Rattle.sheet.specs.Tables.{sheetIn}
 use Rattle.chains.specs.Frames.{Only}
 use Rattle.chains.proofs.Frames.{only-none, only-trans}
+use Rattle.arrivals.specs.Layout.{seenFrom}
 use Rattle.arrivals.specs.Steps.{GatheredTo}
 use Rattle.arrivals.proofs.Gathering.{gathers-at}
 use borrow.Author.Needs.{needs}
@@ -11,7 +12,7 @@ use Rattle.arrivals.proofs.gather.Statement.{statement}
 use Rattle.arrivals.proofs.gather.Tie as tie
 
 abbrev Inv-loop : tie.InvT-loop
-Inv-loop w kept₀ m l₀ kept l = (l ≤ m) × Only 0 512 kept₀ kept × GatheredTo (sheetIn w) l kept
+Inv-loop w kept₀ m l₀ kept l = (l ≤ m) × Only 0 seenFrom kept₀ kept × GatheredTo (sheetIn w) l kept
 
 abbrev μ-loop : tie.MeasureT-loop
 μ-loop w kept₀ m l₀ kept l = m - l

@@ -11,37 +11,65 @@ use Rattle.arrivals.proofs.survey_links.Statement.{statement}
 use Rattle.arrivals.proofs.survey_links.Tie as tie
 
 abbrev Inv-loop : tie.InvT-loop
-Inv-loop w kept₀ t n l₀ i₀ kept l i = Surveying (sheetIn w) (scheduleIn w) t i l kept₀ kept
+Inv-loop w kept₀ t n starts₀ l₀ i₀ kept starts l i = Surveying (sheetIn w) (scheduleIn w) t i l kept₀ kept starts
 
 abbrev μ-loop : tie.MeasureT-loop
-μ-loop w kept₀ t n l₀ i₀ kept l i = n - i
+μ-loop w kept₀ t n starts₀ l₀ i₀ kept starts l i = n - i
 
 word-requires : tie.Need-word-requires Inv-loop μ-loop
 word-requires c κs = let s = c .before .before .before in omega (arith, task-index (now (s .args .w)) (s .args .t) (s .pre .0 .0) (s .pre .1 .1 .0 .0), s .pre .0 .1)
 
 loop-holds : tie.Need-loop-holds Inv-loop μ-loop
-loop-holds c = let s = c .before .before .before .before .before in survey-begins (s .pre .1 .0) (s .pre .1 .1 .1 .0) (s .args .t) (s .pre .1 .1 .0 .0) (c .first .ensures .0) (c .first .ensures .1) (s .pre .1 .1 .1 .1)
+loop-holds c =
+    let s = c .before .before .before .before .before .before .before in
+    let p = s .pre .1 in
+    survey-begins (p .0) (p .1 .1 .0 .0) (s .args .t) (p .1 .0 .0) (c .first .ensures .0) (c .first .ensures .1) (p .1 .1 .0 .1) (p .1 .1 .1 .0) (c .before .begun .ensures)
+
+starts-with-requires : tie.Need-starts-with-requires Inv-loop μ-loop
+starts-with-requires c κs =
+    let s = c .before .before .before .before .before .before .before .before .before in
+    let p = s .pre .1 in
+    let m = there-more (p .0) (p .1 .1 .0 .0) (s .args .t) (p .1 .0 .0) (c .before .loop .inv) (c .before .before .before .before .before .word .ensures .0) (c .loop-test .taken) in
+    ((s .pre .0 .0, m), p .1 .1 .1 .1)
 
 survey-link-requires : tie.Need-survey-link-requires Inv-loop μ-loop
-survey-link-requires c κs = let s = c .before .before .before .before .before .before .before .before in let g = c .before .before .loop .inv in ((s .pre .0 .0, omega (arith, g .only .long, s .pre .0 .1)), (there-link (s .pre .1 .0) (s .pre .1 .1 .1 .0) (s .args .t) (s .pre .1 .1 .0 .0) g (s .pre .1 .1 .0 .1) (there-more (s .pre .1 .0) (s .pre .1 .1 .1 .0) (s .args .t) (s .pre .1 .1 .0 .0) (c .before .before .loop .inv) (c .before .before .before .before .word .ensures .0) (c .before .loop-test .taken)), g .surveyed))
+survey-link-requires c κs =
+    let s = c .before .before .before .before .before .before .before .before .before .before .before in
+    let p = s .pre .1 in
+    let g = c .before .before .before .loop .inv in
+    let m = there-more (p .0) (p .1 .1 .0 .0) (s .args .t) (p .1 .0 .0) g (c .before .before .before .before .before .before .before .word .ensures .0) (c .before .before .loop-test .taken) in
+    ((s .pre .0 .0, omega (arith, g .only .long, s .pre .0 .1)), (there-link (p .0) (p .1 .1 .0 .0) (s .args .t) (p .1 .0 .0) g (p .1 .0 .1) m, g .surveyed))
 
 next-requires : tie.Need-next-requires Inv-loop μ-loop
-next-requires c κs = let s = c .before .before .before .before .before .before .before .before .before .before .before in (s .pre .0 .0, (s .pre .1 .0, there-more (s .pre .1 .0) (s .pre .1 .1 .1 .0) (s .args .t) (s .pre .1 .1 .0 .0) (c .before .before .before .before .before .loop .inv) (c .before .before .before .before .before .before .before .word .ensures .0) (c .before .before .before .before .loop-test .taken)))
+next-requires c κs =
+    let s = c .before .before .before .before .before .before .before .before .before .before .before .before .before .before in
+    let p = s .pre .1 in
+    let m = there-more (p .0) (p .1 .1 .0 .0) (s .args .t) (p .1 .0 .0) (c .before .before .before .before .before .before .loop .inv) (c .before .before .before .before .before .before .before .before .before .before .word .ensures .0) (c .before .before .before .before .before .loop-test .taken) in
+    (s .pre .0 .0, (p .0, m))
 
 add-i : tie.Need-add-i Inv-loop μ-loop
-add-i c = omega (arith, c .before .before .before .before .before .loop-test .taken, c .before .before .before .before .before .before .before .before .word .ensures .1)
+add-i c = omega (arith, c .before .before .before .before .before .before .loop-test .taken, c .before .before .before .before .before .before .before .before .before .before .before .word .ensures .1)
 
 loop-less : tie.Need-loop-less Inv-loop μ-loop
-loop-less c = omega (arith, c .before .before .before .before .before .loop-test .taken)
+loop-less c = omega (arith, c .before .before .before .before .before .before .loop-test .taken)
 
 loop-again : tie.Need-loop-again Inv-loop μ-loop
-loop-again c = let s = c .before .before .before .before .before .before .before .before .before .before .before .before in survey-more (s .pre .1 .0) (s .pre .1 .1 .1 .0) (s .args .t) (s .pre .1 .1 .0 .0) (c .before .before .before .before .before .before .loop .inv) (c .before .before .before .survey-link .ensures .0) (there-more (s .pre .1 .0) (s .pre .1 .1 .1 .0) (s .args .t) (s .pre .1 .1 .0 .0) (c .before .before .before .before .before .before .loop .inv) (c .before .before .before .before .before .before .before .before .word .ensures .0) (c .before .before .before .before .before .loop-test .taken)) (c .next .ensures .0) (c .next .ensures .1) (c .next .ensures .2) (c .before .before .before .survey-link .ensures .1)
+loop-again c =
+    let s = c .before .before .before .before .before .before .before .before .before .before .before .before .before .before .before in
+    let p = s .pre .1 in
+    let g = c .before .before .before .before .before .before .before .loop .inv in
+    let e = c .before .before .before .survey-link .ensures in
+    let m = there-more (p .0) (p .1 .1 .0 .0) (s .args .t) (p .1 .0 .0) g (c .before .before .before .before .before .before .before .before .before .before .before .word .ensures .0) (c .before .before .before .before .before .before .loop-test .taken) in
+    survey-more (p .0) (p .1 .1 .0 .0) (s .args .t) (p .1 .0 .0) g (p .1 .0 .1) (e .0) m (c .next .ensures .0) (c .next .ensures .1) (c .next .ensures .2) (e .1) (c .before .before .before .before .before .starts-with .ensures)
 
 same-length : tie.Need-same-length Inv-loop μ-loop
 same-length c = c .before .loop .inv .only .long
 
 returns : tie.Need-returns Inv-loop μ-loop
-returns c = let s = c .before .before .before .before .before .before .before in survey-done (s .pre .1 .0) (s .pre .1 .1 .1 .0) (s .args .t) (s .pre .1 .1 .0 .0) (c .before .loop .inv) (c .before .before .before .word .ensures .0) (omega (arith, c .loop-test .left))
+returns c =
+    let s = c .before .before .before .before .before .before .before .before .before in
+    let p = s .pre .1 in
+    survey-done (p .0) (p .1 .1 .0 .0) (s .args .t) (p .1 .0 .0) (c .before .loop .inv) (c .before .before .before .before .before .word .ensures .0) (omega (arith, c .loop-test .left))
 
 pub survey-links-spec : {M : Type 1} → statement M
 survey-links-spec =
@@ -51,7 +79,9 @@ survey-links-spec =
     μ-loop
     word-requires
     (λ c κs. search needs)
+    (λ c κs. search needs)
     loop-holds
+    starts-with-requires
     survey-link-requires
     next-requires
     add-i

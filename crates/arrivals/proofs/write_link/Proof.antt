@@ -18,15 +18,12 @@ slice-write-kept-4 c = simp length-set (omega arith)
 slice-write-kept-5 : tie.Need-slice-write-kept-5
 slice-write-kept-5 c = simp length-set (omega arith)
 
-slice-write-kept-6 : tie.Need-slice-write-kept-6
-slice-write-kept-6 c = simp length-set (omega arith)
-
 same-length : tie.Need-same-length
 same-length c = simp length-set
 
 returns : tie.Need-returns
 unfolding countWords
-returns c = simp (c .narrow6 .ensures, c .before .narrow5 .ensures, c .before .before .narrow4 .ensures, c .before .before .before .narrow3 .ensures, c .before .before .before .before .narrow2 .ensures, c .before .before .before .before .before .narrow .ensures)
+returns c = simp (c .narrow5 .ensures, c .before .narrow4 .ensures, c .before .before .narrow3 .ensures, c .before .before .before .narrow2 .ensures, c .before .before .before .before .narrow .ensures)
 
 pub write-link-spec : {M : Type 1} → statement M
 write-link-spec =
@@ -51,12 +48,8 @@ write-link-spec =
     (λ c κs. search needs)
     (λ c. search needs)
     (λ c. search needs)
+    (λ c. search needs)
+    (λ c. search needs)
     slice-write-kept-5
-    (λ c κs. search needs)
-    (λ c. search needs)
-    (λ c. search needs)
-    (λ c. search needs)
-    (λ c. search needs)
-    slice-write-kept-6
     same-length
     returns)

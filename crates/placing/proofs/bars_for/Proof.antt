@@ -1,33 +1,52 @@
 -- `bars_for` (src/lib.rt) keeps its contract.
-use mathlib.Core.Path.{ap₂}
-use Prim.Native.Nat.{_+_}
+use native.Mathlib.Omega.{arith}
 use denote.Ref.{now}
 use Rattle.arrivals.proofs.Walks.{kept-arrived}
-use Rattle.placing.proofs.Guards.{bars-done, bars-here, bars-late, bars-never, main-of}
+use Rattle.placing.proofs.Starts.{holds-none}
+use Rattle.placing.proofs.Guards.{bars-apart, bars-busy, bars-never, main-of}
 use borrow.Author.Needs.{needs}
 use Rattle.placing.proofs.bars_for.Statement.{statement}
 use Rattle.placing.proofs.bars_for.Tie as tie
 
 arrival-of-requires : tie.Need-arrival-of-requires
-arrival-of-requires c κs = let a = c .before .before in kept-arrived (a .pre .0 .kept) (a .args .u) (a .pre .1)
+arrival-of-requires c κs = let s = c .before .before in kept-arrived (s .pre .0 .0 .kept) (s .args .u) (s .pre .1)
 
 returns : tie.Need-returns
-returns c = let a = c .before .before .before .before in bars-never (now (a .args .w)) (now (a .args .kept)) (a .pre .0 .kept) (a .args .u) (a .pre .1) (a .args .t) (c .before .arrival-of .ensures .0) (c .if1 .taken)
+returns c =
+    let s = c .before .before .before .before in
+    let a = s .args in
+    bars-never (now (a .w)) (now (a .kept)) (s .pre .0 .0 .kept) (a .u) (s .pre .1) (a .t) (c .before .arrival-of .ensures .0) (c .if1 .taken)
 
-start-on-requires : tie.Need-start-on-requires
-start-on-requires c κs = let a = c .before .before .before .before .before in (a .pre .0 .kept, (a .pre .1, main-of (now (a .args .w)) (now (a .args .kept)) (a .pre .0 .kept) (a .args .u) (a .pre .1) (c .before .before .arrival-of .ensures .0) (c .before .if1 .left) (c .word .ensures .0)))
-
-start-on-requires-2 : tie.Need-start-on-requires-2
-start-on-requires-2 c κs = let a = c .before .before .before .before .before .before in (a .pre .0 .kept, (a .pre .0 .task, main-of (now (a .args .w)) (now (a .args .kept)) (a .pre .0 .kept) (a .args .u) (a .pre .1) (c .before .before .before .arrival-of .ensures .0) (c .before .before .if1 .left) (c .before .word .ensures .0)))
+word-requires-2 : tie.Need-word-requires-2
+word-requires-2 c κs =
+    let s = c .before .before .before .before .before in
+    let a = s .args in
+    omega (arith, main-of (now (a .w)) (now (a .kept)) (s .pre .0 .0 .kept) (a .u) (s .pre .1) (c .before .before .arrival-of .ensures .0) (c .before .if1 .left) (c .word .ensures .0), s .pre .0 .0 .kept .long)
 
 returns-2 : tie.Need-returns-2
-returns-2 c = let a = c .before .before .before .before .before .before .before .before .before .before in bars-here (now (a .args .w)) (now (a .args .kept)) (a .pre .0 .kept) (a .args .u) (a .pre .1) (a .args .t) (c .before .before .before .before .before .before .before .arrival-of .ensures .0) (c .before .before .before .before .before .before .if1 .left) (c .before .before .before .before .before .word .ensures .0) (c .before .before .before .before .start-on .ensures .0) (ap₂ _+_ (c .before .before .before .start-on2 .ensures .0) (c .before .before .work .ensures .0)) (c .before .if2 .taken) (c .if3 .taken)
+returns-2 c =
+    let s = c .before .before .before .before .before .before .before in
+    let a = s .args in
+    let k-in = main-of (now (a .w)) (now (a .kept)) (s .pre .0 .0 .kept) (a .u) (s .pre .1) (c .before .before .before .before .arrival-of .ensures .0) (c .before .before .before .if1 .left) (c .before .before .word .ensures .0) in
+    bars-apart (now (a .w)) (now (a .kept)) (s .pre .0 .0 .kept) (a .u) (s .pre .1) (a .t) (c .before .before .before .before .arrival-of .ensures .0) (c .before .before .before .if1 .left) (c .before .before .word .ensures .0) (holds-none (now (a .w)) (now (a .kept)) (a .t) _ (s .pre .0 .0) k-in (c .before .word2 .ensures .0) (c .if2 .taken))
+
+end-of-requires : tie.Need-end-of-requires
+end-of-requires c κs =
+    let s = c .before .before .before .before .before .before .before in
+    let a = s .args in
+    (s .pre .0 .0 .kept, main-of (now (a .w)) (now (a .kept)) (s .pre .0 .0 .kept) (a .u) (s .pre .1) (c .before .before .before .before .arrival-of .ensures .0) (c .before .before .before .if1 .left) (c .before .before .word .ensures .0))
 
 returns-3 : tie.Need-returns-3
-returns-3 c = let a = c .before .before .before .before .before .before .before .before .before .before in bars-done (now (a .args .w)) (now (a .args .kept)) (a .pre .0 .kept) (a .args .u) (a .pre .1) (a .args .t) (c .before .before .before .before .before .before .before .arrival-of .ensures .0) (c .before .before .before .before .before .before .if1 .left) (c .before .before .before .before .before .word .ensures .0) (c .before .before .before .before .start-on .ensures .0) (ap₂ _+_ (c .before .before .before .start-on2 .ensures .0) (c .before .before .work .ensures .0)) (c .before .if2 .taken) (c .if3 .left)
+returns-3 c =
+    let s = c .before .before .before .before .before .before .before .before .before in
+    let a = s .args in
+    bars-busy (now (a .w)) (now (a .kept)) (s .pre .0 .0 .kept) (a .u) (s .pre .1) (a .t) (c .before .before .before .before .before .before .arrival-of .ensures .0) (c .before .before .before .before .before .if1 .left) (c .before .before .before .before .word .ensures .0) (c .before .end-of .ensures .0) (c .if3 .taken)
 
-returns-4 : tie.Need-returns-4
-returns-4 c = let a = c .before .before .before .before .before .before .before .before .before in bars-late (now (a .args .w)) (now (a .args .kept)) (a .pre .0 .kept) (a .args .u) (a .pre .1) (a .args .t) (c .before .before .before .before .before .before .arrival-of .ensures .0) (c .before .before .before .before .before .if1 .left) (c .before .before .before .before .word .ensures .0) (c .before .before .before .start-on .ensures .0) (ap₂ _+_ (c .before .before .start-on2 .ensures .0) (c .before .work .ensures .0)) (c .if2 .left)
+bars-on-requires : tie.Need-bars-on-requires
+bars-on-requires c κs =
+    let s = c .before .before .before .before .before .before .before .before .before in
+    let a = s .args in
+    (s .pre .0, ((s .pre .1, c .before .before .before .before .before .before .arrival-of .ensures .0, c .before .before .before .before .before .if1 .left), (c .before .before .before .before .word .ensures .0, main-of (now (a .w)) (now (a .kept)) (s .pre .0 .0 .kept) (a .u) (s .pre .1) (c .before .before .before .before .before .before .arrival-of .ensures .0) (c .before .before .before .before .before .if1 .left) (c .before .before .before .before .word .ensures .0))))
 
 pub bars-for-spec : {M : Type 1} → statement M
 bars-for-spec =
@@ -37,10 +56,10 @@ bars-for-spec =
     returns
     (λ c. search needs)
     (λ c κs. search needs)
-    start-on-requires
-    start-on-requires-2
-    (λ c κs. search needs)
     (λ c. search needs)
+    word-requires-2
     returns-2
+    end-of-requires
     returns-3
-    returns-4)
+    bars-on-requires
+    (λ c. search needs))

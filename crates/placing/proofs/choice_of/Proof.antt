@@ -9,7 +9,7 @@ use Rattle.placing.proofs.choice_of.Statement.{statement}
 use Rattle.placing.proofs.choice_of.Tie as tie
 
 arrival-of-requires : tie.Need-arrival-of-requires
-arrival-of-requires c κs = let a = c .before .before .before in kept-arrived (a .pre .0 .kept) (a .args .t) (a .pre .0 .task)
+arrival-of-requires c κs = let a = c .before .before .before in kept-arrived (a .pre .0 .0 .kept) (a .args .t) (a .pre .0 .0 .task)
 
 without-join-requires : tie.Need-without-join-requires
 without-join-requires c κs = (c .before .before .before .before .before .before .before .before .pre .0, (c .before .before .before .before .arrival-of .ensures .0, sym (ap foundOf (c .enum-told .given .1)) ∙ c .before .before .join-on .ensures .0))

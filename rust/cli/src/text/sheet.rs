@@ -1,0 +1,109 @@
+//! The sheet in a text: `board`, `task` and `link`.
+
+use super::line::{Line, Placed, Problem, Task as TaskWord, MOST_PROBLEMS};
+use super::names::Names;
+use zeldrupa::{Link, Task};
+
+const U8: u32 = u8::MAX as u32;
+const U16: u32 = u16::MAX as u32;
+
+/// A sheet as a text has it.
+#[derive(Debug)]
+pub struct SheetText {
+    pub processors: u8,
+    pub limit: u32,
+    pub names: Names,
+    pub tasks: Vec<Task>,
+    pub links: Vec<Link>,
+    /// The line of each command: the board, the tasks, the links.
+    pub lines: Vec<usize>,
+}
+
+/// The lines of a sheet, until all names are known.
+#[derive(Debug, Default)]
+pub struct SheetLines {
+    board: Option<(usize, u8, u32)>,
+    names: Names,
+    tasks: Vec<(usize, Task)>,
+    links: Vec<LinkLine>,
+}
+
+#[derive(Debug)]
+struct LinkLine {
+    line: usize,
+    ends: [Placed<TaskWord>; 2],
+    cost: u16,
+    bytes: u16,
+}
+
+impl SheetLines {
+    pub fn is_empty(&self) -> bool {
+        self.board.is_none() && self.tasks.is_empty() && self.links.is_empty()
+    }
+
+    /// `board processors 4 store 4096`
+    pub fn board(&mut self, word: Placed<usize>, line: &mut Line) -> Result<(), Problem> {
+        if let Some((first, ..)) = self.board {
+            return Err(word.problem(format!("a second board; the first is in line {first}")));
+        }
+        let [processors, limit] = line.numbers([("processors", U8), ("store", u32::MAX)])?;
+        self.board = Some((word.line, processors as u8, limit));
+        Ok(())
+    }
+
+    /// `task window work 1024 store 256`
+    pub fn task(&mut self, word: Placed<usize>, line: &mut Line) -> Result<(), Problem> {
+        // The name counts although the rest may be in fault, so that links to it are not.
+        self.names.add(line.task()?)?;
+        let numbers = line.numbers([("work", U16), ("store", U16)]);
+        let [work, store] = *numbers.as_ref().unwrap_or(&[1, 0]);
+        self.tasks.push((word.line, Task { work: work as u16, store: store as u16 }));
+        numbers.map(|_| ())
+    }
+
+    /// `link detrend -> window cost 15 bytes 512`
+    pub fn link(&mut self, word: Placed<usize>, line: &mut Line) -> Result<(), Problem> {
+        let ends = line.ends()?;
+        let [cost, bytes] = line.numbers([("cost", U16), ("bytes", U16)])?;
+        self.links.push(LinkLine { line: word.line, ends, cost: cost as u16, bytes: bytes as u16 });
+        Ok(())
+    }
+
+    /// The sheet, if the text has one; every link's tasks are looked up now.
+    pub fn end(self, last: usize, problems: &mut Vec<Problem>) -> Option<SheetText> {
+        if self.is_empty() {
+            return None;
+        }
+        let mut links = Vec::new();
+        for link in &self.links {
+            if problems.len() >= MOST_PROBLEMS {
+                break;
+            }
+            match link.ends.each_ref().map(|end| self.names.find(end)) {
+                [Ok(source), Ok(target)] => {
+                    // More tasks than a byte can number are refused before any link is looked at.
+                    let [source, target] = [source, target].map(|task| task.min(255) as u8);
+                    links.push(Link { source, target, cost: link.cost, bytes: link.bytes });
+                }
+                [Err(problem), _] | [_, Err(problem)] => problems.push(problem),
+            }
+        }
+        let Some((board, processors, limit)) = self.board else {
+            // A board that is in fault was told already.
+            if problems.is_empty() {
+                let told = "expected \"board processors .. store ..\" in this text";
+                problems.push(Problem { line: last, column: 1, told: told.into() });
+            }
+            return None;
+        };
+        let lines = [board].into_iter().chain(self.tasks.iter().map(|&(line, _)| line));
+        Some(SheetText {
+            processors,
+            limit,
+            lines: lines.chain(self.links.iter().map(|link| link.line)).collect(),
+            tasks: self.tasks.into_iter().map(|(_, task)| task).collect(),
+            links,
+            names: self.names,
+        })
+    }
+}

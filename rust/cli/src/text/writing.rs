@@ -1,0 +1,56 @@
+//! Sheets and bundles written as text.
+
+use super::names::Names;
+use crate::table::aligned;
+use zeldrupa::{Bundle, Command, Sheet};
+
+/// The text of a sheet.
+pub fn sheet_text(sheet: &Sheet, names: &Names) -> String {
+    let mut text = format!("board processors {} store {}\n\n", sheet.processors(), sheet.limit());
+    let field = |name: &str, value: u16| format!("{name} {value}");
+    let tasks = sheet.tasks().iter().enumerate().map(|(number, task)| {
+        let name = format!("task {}", names.shown(number));
+        vec![name, field("work", task.work), field("store", task.store)]
+    });
+    text += &aligned(&tasks.collect::<Vec<_>>());
+    let links = sheet.links().iter().enumerate().map(|(number, link)| {
+        let name = format!("link {}", link_shown(sheet, names, number));
+        vec![name, field("cost", link.cost), field("bytes", link.bytes)]
+    });
+    let links: Vec<_> = links.collect();
+    if !links.is_empty() {
+        text.push('\n');
+        text += &aligned(&links);
+    }
+    text
+}
+
+/// A link by its two tasks; no two links have the same.
+pub fn link_shown(sheet: &Sheet, names: &Names, link: usize) -> String {
+    let ends = sheet.links()[link];
+    format!("{} -> {}", names.shown(ends.source.into()), names.shown(ends.target.into()))
+}
+
+/// The text of a bundle; without its sheet links go by their numbers.
+pub fn bundle_text(bundle: &Bundle, sheet: Option<(&Sheet, &Names)>) -> String {
+    let task = |task: u8| match sheet {
+        Some((_, names)) => names.shown(task.into()),
+        None => task.to_string(),
+    };
+    let link = |link: u16| match sheet {
+        Some((sheet, names)) => link_shown(sheet, names, link.into()),
+        None => link.to_string(),
+    };
+    let mut text = String::new();
+    for (number, programme) in bundle.programmes().iter().enumerate() {
+        text += &format!("processor {number}\n");
+        for &command in programme {
+            text += &match command {
+                Command::Run(number) => format!("  run {}\n", task(number)),
+                Command::Send(number) => format!("  send {}\n", link(number)),
+                Command::Receive(number) => format!("  receive {}\n", link(number)),
+            };
+        }
+    }
+    text + &format!("claim {}\n", bundle.claim())
+}

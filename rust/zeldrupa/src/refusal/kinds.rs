@@ -1,0 +1,221 @@
+//! Every refusal by its number: its word, what its place counts, and what to say of it.
+
+/// What the place of a refusal counts.
+#[derive(Clone, Copy, Debug, PartialEq, Eq)]
+pub(crate) enum Counts {
+    SheetBytes,
+    BundleBytes,
+    Tasks,
+    Links,
+    Processors,
+    Time,
+    Lent,
+}
+
+/// A refusal: its number, its word in the trade, a sentence on why there is no result, and a remedy.
+pub(crate) struct Kind {
+    pub number: u8,
+    pub word: &'static str,
+    pub counts: Counts,
+    pub cause: &'static str,
+    pub remedy: &'static str,
+}
+
+/// The refusal of this number, if there is one.
+pub(crate) fn kind(number: u8) -> Option<&'static Kind> {
+    KINDS.iter().find(|kind| kind.number == number)
+}
+
+/// All of them; docs/FORMAT.md has the same sentences.
+pub(crate) static KINDS: [Kind; 23] = [
+    Kind {
+        number: 1,
+        word: "cut sheet",
+        counts: Counts::SheetBytes,
+        cause: "The sheet stops inside a command or before its end.",
+        remedy: "Copy or pack the sheet again: a part of it is missing.",
+    },
+    Kind {
+        number: 2,
+        word: "strange command",
+        counts: Counts::SheetBytes,
+        cause: "This byte is no command of a sheet.",
+        remedy: "Look whether this file is a sheet at all, and pack it again.",
+    },
+    Kind {
+        number: 3,
+        word: "out of turn",
+        counts: Counts::SheetBytes,
+        cause: "The board comes first and only once, then all tasks, then all links, then the end.",
+        remedy: "Move the command to its place in this order.",
+    },
+    Kind {
+        number: 4,
+        word: "tail",
+        counts: Counts::SheetBytes,
+        cause: "Bytes follow the end of the sheet.",
+        remedy: "Remove them, or look whether two files were joined.",
+    },
+    Kind {
+        number: 5,
+        word: "over-full",
+        counts: Counts::SheetBytes,
+        cause: "A sheet has at most 256 tasks and 1,024 links.",
+        remedy: "Join tasks that always follow each other, or leave out links.",
+    },
+    Kind {
+        number: 6,
+        word: "range",
+        counts: Counts::SheetBytes,
+        cause: "A board has 1 to 16 processors, and the work of a task is 1 to 65,535.",
+        remedy: "Correct the number; count work in a coarser unit if it is too large.",
+    },
+    Kind {
+        number: 7,
+        word: "loose link",
+        counts: Counts::SheetBytes,
+        cause: "A link leads from or to a task that the sheet does not have.",
+        remedy: "Correct the number of the task, or add the task.",
+    },
+    Kind {
+        number: 8,
+        word: "doubled link",
+        counts: Counts::SheetBytes,
+        cause: "A second link leads from the same task to the same task.",
+        remedy: "Make the two links one.",
+    },
+    Kind {
+        number: 9,
+        word: "bare sheet",
+        counts: Counts::SheetBytes,
+        cause: "The sheet has no task.",
+        remedy: "Add a task.",
+    },
+    Kind {
+        number: 10,
+        word: "loop",
+        counts: Counts::Tasks,
+        cause: "Tasks wait for each other in a circle.",
+        remedy: "Remove a link of the circle, or turn it round.",
+    },
+    Kind {
+        number: 11,
+        word: "no store",
+        counts: Counts::Tasks,
+        cause: "The planner came to a task for which no processor has store left.",
+        remedy: "Raise the store limit or the processors, or arrange the programmes by hand: \
+                 a bundle that fits may exist.",
+    },
+    Kind {
+        number: 12,
+        word: "short output",
+        counts: Counts::Lent,
+        cause: "The result is longer than the lent output.",
+        remedy: "Lend as many elements as the place says.",
+    },
+    Kind {
+        number: 13,
+        word: "short work area",
+        counts: Counts::Lent,
+        cause: "The lent work area, or the area of the machine's state, is too short.",
+        remedy: "Lend as many words as the place says.",
+    },
+    Kind {
+        number: 21,
+        word: "cut bundle",
+        counts: Counts::BundleBytes,
+        cause: "The bundle stops inside a command or before its claim.",
+        remedy: "Copy or pack the bundle again: a part of it is missing.",
+    },
+    Kind {
+        number: 22,
+        word: "strange command",
+        counts: Counts::BundleBytes,
+        cause: "This byte is no command of a bundle.",
+        remedy: "Look whether this file is a bundle at all, and pack it again.",
+    },
+    Kind {
+        number: 23,
+        word: "out of turn",
+        counts: Counts::BundleBytes,
+        cause: "A bundle opens the programmes 0, 1, 2 and so on, no more than the board has \
+                processors, and every command stands in one.",
+        remedy: "Open the programmes in rising order without a gap, before their commands.",
+    },
+    Kind {
+        number: 24,
+        word: "tail",
+        counts: Counts::BundleBytes,
+        cause: "Bytes follow the claim.",
+        remedy: "Remove them, or look whether two files were joined.",
+    },
+    Kind {
+        number: 25,
+        word: "unknown number",
+        counts: Counts::BundleBytes,
+        cause: "A command names a task or a link that the sheet does not have.",
+        remedy: "Correct the number, or look whether the bundle belongs to another sheet.",
+    },
+    Kind {
+        number: 26,
+        word: "run count",
+        counts: Counts::Tasks,
+        cause: "Every task is run just once in the whole bundle; this one is not.",
+        remedy: "Add the run that is missing, or remove those that are too many.",
+    },
+    Kind {
+        number: 27,
+        word: "message",
+        counts: Counts::Links,
+        cause:
+            "A link between two processors has one send, behind its source, and one receive, \
+                before its target; a link inside one processor has none, and its source runs first.",
+        remedy: "Put the send and the receive where the two tasks run, or the two runs in order.",
+    },
+    Kind {
+        number: 28,
+        word: "over store",
+        counts: Counts::Processors,
+        cause: "The tasks of a programme and the messages that it receives need more than the \
+                store limit.",
+        remedy: "Move a task to another processor, or raise the store limit.",
+    },
+    Kind {
+        number: 29,
+        word: "stuck",
+        counts: Counts::Processors,
+        cause: "Nobody can step and commands are left: processors wait for each other's messages \
+                in a circle.",
+        remedy: "In one programme of the circle move the send up, before the receive that waits.",
+    },
+    Kind {
+        number: 30,
+        word: "wrong claim",
+        counts: Counts::Time,
+        cause: "The claimed time is not the time at which the last processor ends.",
+        remedy: "Claim that time (in a text: claim auto).",
+    },
+];
+
+#[cfg(test)]
+mod tests {
+    use super::KINDS;
+
+    /// docs/FORMAT.md has a row for each refusal, with the same words.
+    #[test]
+    fn the_page_has_every_refusal() {
+        let path = concat!(env!("CARGO_MANIFEST_DIR"), "/../../docs/FORMAT.md");
+        let page = std::fs::read_to_string(path).unwrap();
+        for kind in &KINDS {
+            let row = format!("| {} | {} | {} |", kind.number, kind.word, kind.cause);
+            let row = page.lines().find(|line| line.starts_with(&row));
+            let row = row.unwrap_or_else(|| panic!("no row for {}", kind.number));
+            assert!(row.ends_with(&format!("| {} |", kind.remedy)), "{row}");
+        }
+        let rows = page.lines().filter(|line| {
+            let number = line.strip_prefix("| ").and_then(|line| line.split(' ').next());
+            number.is_some_and(|number| number.parse::<u8>().is_ok())
+        });
+        assert_eq!(rows.count(), KINDS.len());
+    }
+}

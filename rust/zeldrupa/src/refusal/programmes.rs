@@ -1,0 +1,176 @@
+//! The places of refusals of what the programmes do: runs, messages, store, circles and claims.
+
+use super::explanation::{counted, Place, Read, Subject};
+use super::kinds::Counts;
+use super::Refusal;
+use crate::{Bundle, Command, Machine, Wait};
+
+/// Where a command stands: its programme, and its position in it.
+type Stand = [usize; 2];
+
+/// Where it is and what stands there, and the commands that this speaks of.
+pub(super) fn place(refusal: Refusal, counts: Counts, read: &Read) -> Place {
+    let place = usize::try_from(refusal.place).unwrap_or(usize::MAX);
+    let programmes = read.bundle.as_ref().map_or(0, |bundle| bundle.programmes().len());
+    let known = match counts {
+        Counts::Tasks => place < read.sheet.tasks().len(),
+        Counts::Links => place < read.sheet.links().len(),
+        Counts::Processors => place < programmes,
+        _ => true,
+    };
+    match (counts, read.bundle.as_ref()) {
+        // Something else was lent than what was refused.
+        _ if !known => (format!("place {place}"), Subject::Other, Vec::new()),
+        (Counts::Tasks, None) => (store_of_task(read, place), Subject::Task(place), Vec::new()),
+        (Counts::Tasks, Some(bundle)) => {
+            let (told, stands) = runs(read, bundle, place);
+            (told, Subject::Task(place), stands)
+        }
+        (Counts::Links, Some(bundle)) => {
+            let (told, stands) = message(read, bundle, place);
+            (format!("{}: {told}", read.link(place)), Subject::Link(place), stands)
+        }
+        (Counts::Processors, Some(bundle)) => {
+            // Only a machine that starts can get stuck.
+            let (told, stands) = match read.work.clone().start(&read.sheet, bundle) {
+                Ok(machine) => waits(read, machine),
+                Err(_) => (store(read, bundle, place), Vec::new()),
+            };
+            (told, Subject::Processor(place), stands)
+        }
+        (Counts::Time, Some(bundle)) => {
+            let told = format!("the claim is {}, the latest clock {place}", bundle.claim());
+            (told, Subject::Other, Vec::new())
+        }
+        _ => (format!("place {place}"), Subject::Other, Vec::new()),
+    }
+}
+
+/// What a task that found no processor needs.
+fn store_of_task(read: &Read, task: usize) -> String {
+    let links = read.sheet.links().iter().filter(|link| usize::from(link.target) == task);
+    let bytes: u64 = links.map(|link| u64::from(link.bytes)).sum();
+    let store = read.sheet.tasks()[task].store;
+    let limit = read.sheet.limit();
+    let name = read.about.task(task);
+    format!("task {name}: store {store}, its messages up to {bytes}; a processor has {limit}")
+}
+
+/// Wherever this command stands in the whole bundle.
+fn stands(bundle: &Bundle, command: Command) -> Vec<Stand> {
+    let programmes = bundle.programmes().iter().enumerate();
+    programmes
+        .flat_map(|(k, programme)| {
+            let positions = programme.iter().enumerate().filter(|&(_, other)| *other == command);
+            positions.map(move |(position, _)| [k, position]).collect::<Vec<_>>()
+        })
+        .collect()
+}
+
+fn told(&[k, position]: &Stand) -> String {
+    format!("processor {k}, command {position}")
+}
+
+fn all_told(stands: &[Stand]) -> String {
+    stands.iter().map(told).collect::<Vec<_>>().join("; ")
+}
+
+/// Where a task is run.
+fn runs(read: &Read, bundle: &Bundle, task: usize) -> (String, Vec<Stand>) {
+    let stands = stands(bundle, Command::Run(task as u8));
+    let name = read.about.task(task);
+    let told = match stands.len() {
+        0 => format!("task {name} is not run"),
+        count => format!("task {name} is run {}: {}", counted(count, "time"), all_told(&stands)),
+    };
+    (told, stands)
+}
+
+/// What is wrong with a link's message: the send is looked at first, then the receive, then the
+/// order inside one processor.
+fn message(read: &Read, bundle: &Bundle, link: usize) -> (String, Vec<Stand>) {
+    let ends = read.sheet.links()[link];
+    let run = |task| stands(bundle, Command::Run(task)).first().copied().unwrap_or([0, 0]);
+    let (source, target) = (run(ends.source), run(ends.target));
+    let [from, to] =
+        [ends.source, ends.target].map(|task| format!("task {}", read.about.task(task.into())));
+    let sends = stands(bundle, Command::Send(link as u16));
+    let receives = stands(bundle, Command::Receive(link as u16));
+    let home = source[0];
+    if home == target[0] {
+        let both = format!("both tasks run on processor {home}, so that no message is needed");
+        return match (&sends[..], &receives[..]) {
+            ([], []) => {
+                let [behind, before] = [source[1], target[1]];
+                let told = format!(
+                    "{from} runs at processor {home}, command {behind}, behind {to} at command \
+                     {before}"
+                );
+                (told, vec![source, target])
+            }
+            ([], _) => (format!("{both}; it is received at {}", all_told(&receives)), receives),
+            _ => (format!("{both}; it is sent at {}", all_told(&sends)), sends),
+        };
+    }
+    let apart = format!("{from} runs at {}, {to} at {}", told(&source), told(&target));
+    let runs = vec![source, target];
+    match (&sends[..], &receives[..]) {
+        ([], _) => (format!("it is not sent; {apart}"), runs),
+        ([_, _, ..], _) => (format!("it is sent more than once: {}", all_told(&sends)), sends),
+        ([send], _) if send[0] != home || send[1] < source[1] => {
+            let at = told(send);
+            let told = format!("it is sent at {at}, not behind {from} on its processor; {apart}");
+            (told, [sends, runs].concat())
+        }
+        (_, []) => (format!("it is not received; {apart}"), runs),
+        (_, [_, _, ..]) => {
+            (format!("it is received more than once: {}", all_told(&receives)), receives)
+        }
+        (_, [receive]) => {
+            let at = told(receive);
+            let told = format!("it is received at {at}, not before {to} on its processor; {apart}");
+            (told, [receives, runs].concat())
+        }
+    }
+}
+
+/// What a programme needs of the store.
+fn store(read: &Read, bundle: &Bundle, processor: usize) -> String {
+    let (mut tasks, mut messages) = (0, 0);
+    for command in &bundle.programmes()[processor] {
+        match *command {
+            Command::Run(task) => tasks += u64::from(read.sheet.tasks()[usize::from(task)].store),
+            Command::Receive(link) => {
+                messages += u64::from(read.sheet.links()[usize::from(link)].bytes)
+            }
+            Command::Send(_) => (),
+        }
+    }
+    let (all, limit) = (tasks + messages, read.sheet.limit());
+    format!(
+        "processor {processor}: needs {all} (tasks {tasks}, received messages {messages}); \
+         the limit is {limit}"
+    )
+}
+
+/// Who waits for whom when nobody can step.
+fn waits(read: &Read, mut machine: Machine) -> (String, Vec<Stand>) {
+    machine.run_out();
+    let circle = machine.circle();
+    if circle.is_empty() {
+        return ("this bundle does not get stuck".into(), Vec::new());
+    }
+    let tell = |wait: &Wait| {
+        format!(
+            "processor {} waits at command {} for {}, which processor {} sends at command {}",
+            wait.processor,
+            wait.position,
+            read.link(wait.link.into()),
+            wait.sender,
+            wait.send
+        )
+    };
+    let told = circle.iter().map(tell).collect::<Vec<_>>().join("; ");
+    let ends = |wait: &Wait| [[wait.processor, wait.position], [wait.sender, wait.send]];
+    (told, circle.iter().flat_map(ends).collect())
+}
