@@ -48,10 +48,12 @@ enum zeldrupa_refusal {
     ZELDRUPA_BUNDLE_TAIL = 24,
     ZELDRUPA_UNKNOWN_NUMBER = 25,
     ZELDRUPA_RUN_COUNT = 26,       /* the lowest task */
-    ZELDRUPA_MESSAGE = 27,         /* the lowest link */
     ZELDRUPA_OVER_STORE = 28,      /* the lowest processor */
     ZELDRUPA_STUCK = 29,           /* the lowest unfinished processor */
-    ZELDRUPA_WRONG_CLAIM = 30      /* the latest clock */
+    ZELDRUPA_WRONG_CLAIM = 30,     /* the latest clock */
+    ZELDRUPA_SEND = 31,            /* the lowest link with a wrong message: its send is wrong */
+    ZELDRUPA_RECEIVE = 32,         /* that link: its send is right, its receive is wrong */
+    ZELDRUPA_LOCAL_ORDER = 33      /* that link, inside one processor: its source runs behind its target */
 };
 
 /* Reads a sheet: two values a task (work, store), four a link (source, target, cost, bytes), and the board

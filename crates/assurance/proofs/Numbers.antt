@@ -8,7 +8,7 @@ use native.Mathlib.Omega.{arith}
 use lib.ListN.{length}
 use lib.Dec.{ltb}
 use Rattle.folds.specs.Folds.{pick}
-use Rattle.folds.specs.Answers.{Answer, value, refused, andThen, unless, longEnough, fitting, number}
+use Rattle.folds.specs.Answers.{Answer, value, refused, andThen, unless, unlessAt, longEnough, fitting, number}
 use Rattle.folds.proofs.Tests.{not-value}
 use Rattle.sheet.specs.Sheet.{Sheet}
 use Rattle.sheet.specs.Format.{readForm}
@@ -18,7 +18,8 @@ use Rattle.bundle.specs.Bundle.{Bundle}
 use Rattle.bundle.specs.Format.{readBundle}
 use Rattle.bundle.proofs.Numbers.{bundle-numbered}
 use Rattle.bundle.specs.Writing.{bundleBytes}
-use Rattle.messages.specs.Messages.{at26, at27, at28}
+use Rattle.messages.specs.Messages.{at26, atMessage, at28}
+use Rattle.messages.proofs.Splits.{message-number}
 use Rattle.messages.specs.Admitted.{admitted, admittedBytes}
 use Rattle.machine.specs.Runs.{settled}
 use Rattle.stepping_machine.specs.Starts.{starting}
@@ -49,6 +50,10 @@ numbered-unless : {A : Type 0} (n : ℕ) (o : Option ℕ) (a : Answer A) → 0 <
 numbered-unless n none a h g = g
 numbered-unless n (some at) a h g = numbered-refused n at h
 
+numbered-at : {A : Type 0} (o : Option (ℕ × ℕ)) (a : Answer A) → ((n at : ℕ) → o ≡ some (n, at) → 0 < n) → Numbered a → Numbered (unlessAt o a)
+numbered-at none a h g = g
+numbered-at (some x) a h g = numbered-refused (x .0) (x .1) (h (x .0) (x .1) refl)
+
 pub numbered-pick : {A : Type 0} (t : Bool) (a b : Answer A) → Numbered a → Numbered b → Numbered (pick t a b)
 numbered-pick true a b h g = h
 numbered-pick false a b h g = g
@@ -69,18 +74,21 @@ module _ (s : Sheet) where
   pub numbered-bundle : (b : List ℕ) → Numbered (readBundle s b)
   numbered-bundle b = record { some = λ n at e. omega (arith, bundle-numbered s b n at e .0) }
 
+  numbered-message : {A : Type 0} (b : Bundle) (a : Answer A) → Numbered a → Numbered (unlessAt (atMessage s b) a)
+  numbered-message b a g = numbered-at (atMessage s b) a (λ n at e. omega (arith, message-number s b n at e .0)) g
+
   numbered-checked : (b : Bundle) → Numbered (checked s b)
   unfolding checked closing
   numbered-checked b =
       numbered-unless 26 (at26 s b) _ (omega arith)
-      (numbered-unless 27 (at27 s b) _ (omega arith)
+      (numbered-message b _
       (numbered-unless 28 (at28 s b) _ (omega arith)
       (numbered-unless 29 (at29 b (settled s b)) _ (omega arith) (numbered-unless 30 (at30 b (settled s b)) _ (omega arith) (numbered-value b)))))
 
   numbered-admitted : (b : Bundle) → Numbered (admitted s b)
   unfolding admitted
   numbered-admitted b =
-      numbered-unless 26 (at26 s b) _ (omega arith) (numbered-unless 27 (at27 s b) _ (omega arith) (numbered-unless 28 (at28 s b) _ (omega arith) (numbered-value b)))
+      numbered-unless 26 (at26 s b) _ (omega arith) (numbered-message b _ (numbered-unless 28 (at28 s b) _ (omega arith) (numbered-value b)))
 
 pub numbered-check : (sheet bundle : List ℕ) → Numbered (check sheet bundle)
 unfolding check

@@ -5,7 +5,7 @@ use mathlib.Core.Path.{_≡_, refl, sym, ap, ap₂, _∙_, subst}
 use mathlib.Core.List.{List, [], _++_}
 use lib.ListN.{length, take}
 use Rattle.folds.specs.Answers.{Answer, value, andThen, unless, longEnough, fitting, number, placeOr}
-use Rattle.folds.proofs.Tests.{andThen-value, unless-value, value-same}
+use Rattle.folds.proofs.Tests.{andThen-value, unless-value, unlessAt-value, value-same}
 use Rattle.numbers.specs.Number.{Bytes}
 use Rattle.workspace.specs.Area.{fixed}
 use Rattle.sheet.specs.Sheet.{Sheet}
@@ -15,7 +15,7 @@ use Rattle.bundle.specs.Bundle.{Bundle}
 use Rattle.bundle.specs.Format.{readBundle}
 use Rattle.bundle.specs.Writing.{bundleBytes}
 use Rattle.bundle.proofs.Backs.{read-back}
-use Rattle.messages.specs.Messages.{at26, at27, at28}
+use Rattle.messages.specs.Messages.{at26, atMessage, at28}
 use Rattle.messages.specs.Admitted.{admitted, admittedBytes}
 use Rattle.machine.specs.Runs.{runFrom, runOf}
 use Rattle.checker.specs.Checker.{checked, check}
@@ -93,7 +93,7 @@ starts-checked : (s : Sheet) (b x : Bundle) → checked s b ≡ value x → admi
 unfolding checked admitted
 starts-checked s b x e =
     let p = unless-value 26 (at26 s b) _ x e in
-    let q = unless-value 27 (at27 s b) _ x (p .1) in
+    let q = unlessAt-value (atMessage s b) _ x (p .1) in
     let r = unless-value 28 (at28 s b) _ x (q .1) in
     rw (p .0, q .0, r .0)
 
@@ -116,7 +116,7 @@ start-read sheet bundle s b e =
     let q = andThen-value (admittedBytes (p .0) bundle) (λ b. value (p .0, b)) (s, b) (p .2) in
     let r = andThen-value (readBundle (p .0) bundle) (admitted (p .0)) (q .0) (q .1) in
     let u = unless-value 26 (at26 (p .0) (r .0)) _ (q .0) (r .2) in
-    let v = unless-value 27 (at27 (p .0) (r .0)) _ (q .0) (u .1) in
+    let v = unlessAt-value (atMessage (p .0) (r .0)) _ (q .0) (u .1) in
     let w = unless-value 28 (at28 (p .0) (r .0)) _ (q .0) (v .1) in
     let pair : _≡_ {A = Sheet × Bundle} (p .0, q .0) (s, b) = value-same (q .2) in
     let es : p .0 ≡ s = ap (λ (z : Sheet × Bundle). z .0) pair in

@@ -1,4 +1,4 @@
--- The bundle of a plan: 26, 27 and 28 do not apply to it, and its bytes can hold it.
+-- The bundle of a plan: 26, 31 to 33 and 28 do not apply to it, and its bytes can hold it.
 use Prim.Native.Nat.{ℕ, _+_, _*_, _≤_, _<_}
 use native.Mathlib.Omega.{arith}
 use mathlib.Core.Bool.{Bool, true, false, not}
@@ -18,7 +18,9 @@ use Rattle.bundle.specs.Bundle.{Command, run, send, receive, Bundle, programmeC
 use Rattle.bundle.specs.Fits.{Known, Each, Fits}
 use Rattle.bundle.proofs.Parts.{each-append}
 use Rattle.messages.specs.Counting.{weigh, wholeOf, whole, is, need}
-use Rattle.messages.specs.Messages.{notOnce, home, before, insideOk, acrossOk, linkOk, wrongMessage, at26, at27, Published}
+use Rattle.messages.specs.Messages.{notOnce, home, before, at26, Published}
+use Rattle.messages.specs.Unsplit.{insideOk, acrossOk, linkOk}
+use Rattle.messages.proofs.Splits.{right-links}
 use Rattle.messages.proofs.Weights.{programme-or}
 use Rattle.messages.proofs.Messages.{home-is}
 use Rattle.planner.specs.Schedule.{Schedule, nowhere, empty, placeOf, finishOf, stands}
@@ -115,11 +117,11 @@ module _ (s : Sheet) (proper : Proper s) {φ : Schedule} {ts : List ℕ} (how : 
         (⊎-elim (λ q. rw (eq-eqb from to q) (inside-ok q)) (λ d. rw (ne-eqb from to d) (across-ok d)) (equal-or from to))
 
   pub published : Published s b
-  unfolding at26 at27 notOnce wrongMessage
+  unfolding at26 notOnce
   published =
       record {
         once = none-first (taskCount s) (notOnce b) (λ t h. ap not (eq-eqb (whole b (is (run t))) 1 (run-once t h)));
-        messages = none-first (linkCount s) (wrongMessage s b) (λ l h. ap not (link-ok l h));
+        messages = right-links s b link-ok;
       }
 
   store-is : (k : ℕ) → k < φ .opened → wholeOf b (need s) k ≡ storeOn s φ k

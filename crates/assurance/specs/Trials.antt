@@ -4,7 +4,7 @@ use mathlib.Core.Bool.{Bool, true, false}
 use mathlib.Core.Option.{Option, none, some}
 use mathlib.Core.Path.{_≡_, refl}
 use mathlib.Core.List.{List, [], _∷_}
-use Rattle.folds.specs.Folds.{all, any, sum, greatest, first, leading, least, listed, gather}
+use Rattle.folds.specs.Folds.{all, any, sum, greatest, first, firstWith, leading, least, listed, gather}
 use Rattle.folds.specs.Answers.{Answer, value, refused, andThen}
 use Rattle.numbers.specs.Number.{numberAt}
 use Rattle.commands.specs.Commands.{judge, readFrom, readAll}
@@ -18,7 +18,7 @@ use Rattle.bundle.specs.Format as bundles
 use Rattle.sheet.specs.Format as sheets
 use Rattle.bundle.specs.Writing.{bundleBytes}
 use Rattle.messages.specs.Counting.{weigh, wholeOf, whole, is}
-use Rattle.messages.specs.Messages.{notOnce, holds, home, before, insideOk, acrossOk, wrongMessage, overStore, at26, at27, at28}
+use Rattle.messages.specs.Messages.{notOnce, holds, home, before, inside, sendFault, receiveFault, orderFault, messageFault, overStore, at26, atMessage, at28}
 use Rattle.machine.specs.Machine.{processorOf, stampOf, next, stated, stepIn, step, canStep}
 use Rattle.machine.specs.Runs.{clockOf, latest, settle, settled}
 use Rattle.checker.specs.Checker.{unfinished, at29, at30, closing, checked, check}
@@ -124,7 +124,7 @@ pub record Trials : Type 0 where
   pub k8-circle : readSheet (sheetBytes (k8 (link 0 1 0 0 ∷ link 1 2 0 0 ∷ link 2 1 0 0 ∷ []))) ≡ refused 10 1
 
 pub trials : Trials
-unfolding all any sum greatest first leading least listed gather numberAt judge readFrom readAll taskCount linkCount workOf storeOf sourceOf targetOf costOf bytesOf joinsBy joins readForm sheetBytes reachesBy reaches onCircle circle levelBy levelWithin level readSheet programmeCount programmeOf readBundle bundleBytes weigh wholeOf whole is notOnce holds home before insideOk acrossOk wrongMessage overStore at26 at27 at28 processorOf stampOf next stated stepIn step canStep clockOf latest settle settled unfinished at29 at30 closing checked check placeOf startOf finishOf placed stands comes lacks satisfied ready partlyReady arrivalBy arrival priority ahead firstReady firstPartlyReady endBy endOf startBy startFrom startOn storeBy bytesBy storeOn fits holdsBy holdsPredecessor startWith bestStart endsWith delays barred followsBy follows spentBy spent mayJoin join mayTake idle another lastResort choice turn turns plannedBy planned brings takesAway receiveOf sendOf blockOf blocks programme claimOf bundleOf plan decimalWithin decimal planLine taskLine refusalLine scheduleLines listing sheets.fault sheets.ended bundles.fault bundles.ended
+unfolding all any sum greatest first leading least listed gather numberAt judge readFrom readAll taskCount linkCount workOf storeOf sourceOf targetOf costOf bytesOf joinsBy joins readForm sheetBytes reachesBy reaches onCircle circle levelBy levelWithin level readSheet programmeCount programmeOf readBundle bundleBytes weigh wholeOf whole is notOnce holds home before inside sendFault receiveFault orderFault messageFault overStore at26 atMessage at28 firstWith processorOf stampOf next stated stepIn step canStep clockOf latest settle settled unfinished at29 at30 closing checked check placeOf startOf finishOf placed stands comes lacks satisfied ready partlyReady arrivalBy arrival priority ahead firstReady firstPartlyReady endBy endOf startBy startFrom startOn storeBy bytesBy storeOn fits holdsBy holdsPredecessor startWith bestStart endsWith delays barred followsBy follows spentBy spent mayJoin join mayTake idle another lastResort choice turn turns plannedBy planned brings takesAway receiveOf sendOf blockOf blocks programme claimOf bundleOf plan decimalWithin decimal planLine taskLine refusalLine scheduleLines listing sheets.fault sheets.ended bundles.fault bundles.ended
 trials =
     record {
       k1-read = refl;

@@ -9,12 +9,12 @@ use lib.Dec.{eqb}
 use borrow.Author.Tests.{eqb-true, eq-eqb, ltb-false, le-ltb}
 use Rattle.folds.specs.Folds.{pick}
 use Rattle.folds.specs.Answers.{value}
-use Rattle.folds.proofs.Tests.{unless-value, not-some}
+use Rattle.folds.proofs.Tests.{unless-value, unlessAt-value, not-some}
 use Rattle.folds.proofs.Laws.{sum-zeros, first-none, none-first}
 use Rattle.sheet.specs.Sheet.{Sheet}
 use Rattle.bundle.specs.Bundle.{Bundle, programmeCount, programmeOf}
 use Rattle.messages.specs.Counting.{wholeOf, each, need}
-use Rattle.messages.specs.Messages.{at26, at27, at28, Published}
+use Rattle.messages.specs.Messages.{at26, atMessage, at28, Published}
 use Rattle.messages.proofs.Weights.{weigh-each}
 use Rattle.messages.proofs.Messages.{within-limit, limit-within}
 use Rattle.machine.specs.Machine.{State, freshState, processorOf}
@@ -71,11 +71,11 @@ module _ (s : Sheet) (b : Bundle) where
   unfolding checked closing
   passes v e =
       let r26 = unless-value 26 (at26 s b) _ v e in
-      let r27 = unless-value 27 (at27 s b) _ v (r26 .1) in
-      let r28 = unless-value 28 (at28 s b) _ v (r27 .1) in
+      let sent = unlessAt-value (atMessage s b) _ v (r26 .1) in
+      let r28 = unless-value 28 (at28 s b) _ v (sent .1) in
       let r29 = unless-value 29 (at29 b (settled s b)) _ v (r28 .1) in
       let r30 = unless-value 30 (at30 b (settled s b)) _ v (r29 .1) in
-      let published : Published s b = record { once = r26 .0; messages = r27 .0 } in (
+      let published : Published s b = record { once = r26 .0; messages = sent .0 } in (
         record {
           published = published;
           within = within-limit s b (r28 .0);

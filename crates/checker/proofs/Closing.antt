@@ -10,14 +10,14 @@ use native.Mathlib.Numerals.{add-one}
 use borrow.Author.Tests.{lt-ltb, le-ltb, eq-eqb, ne-eqb}
 use lib.Dec.{ltb, eqb}
 use Rattle.folds.specs.Folds.{pick, greatest}
-use Rattle.folds.specs.Answers.{Answer, value, refused, unless, andThen}
+use Rattle.folds.specs.Answers.{Answer, value, refused, unless, andThen, unlessAt}
 use Rattle.folds.proofs.Tests.{below-suc, not-value}
 use Rattle.folds.proofs.Laws.{none-first}
 use Rattle.sheet.specs.Sheet.{Sheet}
 use Rattle.bundle.specs.Bundle.{Bundle, programmeCount}
 use Rattle.bundle.specs.Format.{readBundle}
 use Rattle.bundle.specs.Counts.{commandCount}
-use Rattle.messages.specs.Messages.{at26, at27, at28, Published}
+use Rattle.messages.specs.Messages.{at26, atMessage, at28, Published}
 use Rattle.words.specs.Found.{foundOf}
 use Rattle.messages.specs.Admitted.{admitted, admittedBytes, judgedOf}
 use Rattle.messages.specs.declared.view.View.{View}
@@ -131,12 +131,12 @@ good-clock claim a e = rw (eq-eqb claim a (sym e))
 pub bad-clock : (claim a : ℕ) → (a ≡ claim → ⊥) → Refused 30 a ≡ onClock claim a
 bad-clock claim a e = rw (ne-eqb claim a (λ q. e (sym q)))
 
--- the checker's answer goes on where 26 to 28 do not apply
+-- the checker's answer goes on where 26, 31 to 33 and 28 do not apply
 checked-refused : (s : Sheet) (b : Bundle) (n at : ℕ) → admitted s b ≡ refused n at → checked s b ≡ refused n at
 unfolding admitted checked
-checked-refused s b n at e = by (at26 s b) (at27 s b) (at28 s b) e
+checked-refused s b n at e = by (at26 s b) (atMessage s b) (at28 s b) e
   where
-    by : (o p q : Option ℕ) → unless 26 o (unless 27 p (unless 28 q (value b))) ≡ refused n at → unless 26 o (unless 27 p (unless 28 q (closing b (settled s b)))) ≡ refused n at
+    by : (o : Option ℕ) (p : Option (ℕ × ℕ)) (q : Option ℕ) → unless 26 o (unlessAt p (unless 28 q (value b))) ≡ refused n at → unless 26 o (unlessAt p (unless 28 q (closing b (settled s b)))) ≡ refused n at
     by (some i) p q e = e
     by none (some i) q e = e
     by none none (some i) e = e

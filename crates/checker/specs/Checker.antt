@@ -1,4 +1,4 @@
--- The checker's answer: 26 to 30 behind the readers, or the bundle.
+-- The checker's answer: 26, 31 to 33 and 28 to 30 behind the readers, or the bundle.
 use Prim.Native.Nat.{ℕ}
 use mathlib.Core.Bool.{Bool}
 use mathlib.Core.Option.{Option, none, some}
@@ -6,12 +6,12 @@ use mathlib.Core.List.{List}
 use lib.ListN.{length}
 use lib.Dec.{ltb, eqb}
 use Rattle.folds.specs.Folds.{pick, first}
-use Rattle.folds.specs.Answers.{Answer, value, unless, andThen}
+use Rattle.folds.specs.Answers.{Answer, value, unless, unlessAt, andThen}
 use Rattle.sheet.specs.Sheet.{Sheet}
 use Rattle.graph.specs.Graph.{readSheet}
 use Rattle.bundle.specs.Bundle.{Bundle, programmeCount, programmeOf}
 use Rattle.bundle.specs.Format.{readBundle}
-use Rattle.messages.specs.Messages.{at26, at27, at28}
+use Rattle.messages.specs.Messages.{at26, atMessage, at28}
 use Rattle.machine.specs.Machine.{State, processorOf}
 use Rattle.machine.specs.Runs.{settled, latest}
 
@@ -30,7 +30,7 @@ unfoldable pub closing : Bundle → State → Answer Bundle
 closing b σ = unless 29 (at29 b σ) (unless 30 (at30 b σ) (value b))
 
 unfoldable pub checked : Sheet → Bundle → Answer Bundle
-checked s b = unless 26 (at26 s b) (unless 27 (at27 s b) (unless 28 (at28 s b) (closing b (settled s b))))
+checked s b = unless 26 (at26 s b) (unlessAt (atMessage s b) (unless 28 (at28 s b) (closing b (settled s b))))
 
 -- of the bytes of a sheet and a bundle
 unfoldable pub check : List ℕ → List ℕ → Answer Bundle

@@ -1,12 +1,12 @@
--- 21 to 27 strung together.
-use Prim.Native.Nat.{ℕ, _≤_}
+-- 21 to 26 and 31 to 33 strung together.
+use Prim.Native.Nat.{ℕ, _+_, _*_, _≤_}
 use mathlib.Core.Path.{_≡_, refl, sym, ap, _∙_, subst}
 use mathlib.Core.Option.{Option, none, some}
 use mathlib.Core.List.{List}
 use native.Mathlib.Omega.{arith}
 use lib.ListN.{length}
-use Rattle.folds.specs.Answers.{Answer, value, refused, unless, andThen}
-use Rattle.folds.proofs.Tests.{unless-value, andThen-value, not-value}
+use Rattle.folds.specs.Answers.{Answer, value, refused, unless, unlessAt, andThen}
+use Rattle.folds.proofs.Tests.{unless-value, unlessAt-value, andThen-value, not-value}
 use Rattle.numbers.specs.Number.{Bytes}
 use Rattle.sheet.specs.Sheet.{Sheet, taskCount, linkCount}
 use Rattle.bundle.specs.Bundle.{Bundle, programmeCount}
@@ -19,15 +19,17 @@ use Rattle.bundle_reader.specs.declared.bytes.Reading.{Reading}
 use Rattle.bundle_reader.specs.declared.bytes.Reading.the-variants.{Read, Refused as Unread}
 use Rattle.bundle.proofs.Rounds.{read-formed}
 use Rattle.bundle.proofs.Faults.{sheetBy, sized-by}
-use Rattle.messages.specs.Messages.{at26, at27, at28, Published}
+use Rattle.messages.specs.Messages.{at26, atMessage, at28, Published}
 use Rattle.messages.specs.Notes.{slotsEnd, NotesIs}
 use Rattle.words.specs.Found.{foundOf}
-use Rattle.messages.specs.Rules.{Given, OnceIs, MessageIs}
+use Rattle.messages.specs.Rules.{Given, OnceIs, faultOf, MessageIs}
 use Rattle.messages.specs.Fields.{Known, Bounded}
 use Rattle.messages.specs.declared.view.View.{View}
 use Rattle.messages.specs.Admitted.{messaged, published, admitted, publishedBytes, admittedBytes, judgedOf, Told, MessagesIs, RulesIs, JudgeIs}
 use Rattle.words.specs.declared.Found.{Found}
 use Rattle.words.specs.declared.Found.the-variants.{At, Nothing}
+use Rattle.messages.specs.declared.rules.Fault.{Fault}
+use Rattle.messages.specs.declared.rules.Fault.the-variants as fault
 use Rattle.messages.specs.declared.Judged.{Judged}
 use Rattle.messages.specs.declared.Judged.the-variants.{Fit, Refused}
 use Rattle.messages.proofs.Walking.{laid-by}
@@ -49,19 +51,19 @@ module _ (sheet bundle w : List ℕ) (v : View) (m c claim : ℕ) where
       three : {x y z : ℕ} → x ≡ m → y ≡ c → z ≡ claim → Fit x y z ≡ Fit m c claim
       three p q r = cc
 
-  -- 27
-  module _ (f : Found) (h : MessageIs sheet w v f) where
-    message-is : (s : Sheet) (b : Bundle) → Told s b sheet bundle w v m c claim → Given s b sheet w v → at26 s b ≡ none → foundOf f ≡ at27 s b
-    message-is s b t g o = h .is-27 s b g o
+  -- 31 to 33
+  module _ (f : Fault) (h : MessageIs sheet w v f) where
+    message-is : (s : Sheet) (b : Bundle) → Told s b sheet bundle w v m c claim → Given s b sheet w v → at26 s b ≡ none → faultOf f ≡ atMessage s b
+    message-is s b t g o = h .is-lowest s b g o
 
-    pub message-wrong : (i : ℕ) → f ≡ At i → MessagesIs sheet bundle w v m c claim (Refused 27 i)
+    pub message-wrong : (n l : ℕ) → f ≡ fault.At n l → MessagesIs sheet bundle w v m c claim (Refused n l)
     unfolding messaged
-    message-wrong i e = record { is = λ s b t g o. ap (λ (x : Option ℕ). judgedOf (unless 27 x (value b))) (ap foundOf (sym e) ∙ message-is s b t g o) }
+    message-wrong n l e = record { is = λ s b t g o. ap (λ (x : Option (ℕ × ℕ)). judgedOf (unlessAt x (value b))) (ap faultOf (sym e) ∙ message-is s b t g o) }
 
-    pub message-right : f ≡ Nothing → MessagesIs sheet bundle w v m c claim (Fit m c claim)
+    pub message-right : f ≡ fault.Nothing → MessagesIs sheet bundle w v m c claim (Fit m c claim)
     unfolding messaged
     message-right e =
-        record { is = λ s b t g o. fit-is s b t ∙ ap (λ (x : Option ℕ). judgedOf (unless 27 x (value b))) (ap foundOf (sym e) ∙ message-is s b t g o) }
+        record { is = λ s b t g o. fit-is s b t ∙ ap (λ (x : Option (ℕ × ℕ)). judgedOf (unlessAt x (value b))) (ap faultOf (sym e) ∙ message-is s b t g o) }
 
   -- 26
   module _ (u : List ℕ) (a : NotesIs bundle w u (v .tasks) (v .links)) (f : Found) (h : OnceIs u (v .tasks) f) where
@@ -104,12 +106,12 @@ module _ (sheet bundle w : List ℕ) (v : View) (m c claim : ℕ) where
               q .is s b (told s b x) (given s b x) (sym o) ∙ ap (λ (y : Option ℕ). judgedOf (unless 26 y (messaged s b))) o;
         }
 
--- a bundle that passes 26 and 27 has the published messages
+-- a bundle that passes 26 and 31 to 33 has the published messages
 pub is-published : (s : Sheet) (b x : Bundle) → published s b ≡ value x → Published s b × (b ≡ x)
 unfolding published messaged
 is-published s b x e =
     let p = unless-value 26 (at26 s b) _ x e in
-    let q = unless-value 27 (at27 s b) _ x (p .1) in
+    let q = unlessAt-value (atMessage s b) _ x (p .1) in
     (record { once = p .0; messages = q .0 }, cc (q .1))
 
 -- and one that is admitted fits the stores too
@@ -117,11 +119,11 @@ pub admitted-published : (s : Sheet) (b x : Bundle) → admitted s b ≡ value x
 unfolding admitted
 admitted-published s b x e =
     let p = unless-value 26 (at26 s b) _ x e in
-    let q = unless-value 27 (at27 s b) _ x (p .1) in
+    let q = unlessAt-value (atMessage s b) _ x (p .1) in
     let r = unless-value 28 (at28 s b) _ x (q .1) in
     (record { once = p .0; messages = q .0 }, r .0, cc (r .1))
 
--- the bytes of a bundle that passes 21 to 27 were read, and it has the published messages
+-- the bytes of a bundle that passes 21 to 26 and 31 to 33 were read, and it has the published messages
 pub read-published : (s : Sheet) (bundle : List ℕ) (b : Bundle) → publishedBytes s bundle ≡ value b → (readBundle s bundle ≡ value b) × Published s b
 unfolding publishedBytes
 read-published s bundle b e =
@@ -134,13 +136,13 @@ pub refused-too : (s : Sheet) (bundle : List ℕ) (n at : ℕ) → publishedByte
 unfolding publishedBytes admittedBytes published messaged admitted
 refused-too s bundle n at e = by (readBundle s bundle) e
   where
-    of : (x : Bundle) (o p q : Option ℕ) → unless 26 o (unless 27 p (value x)) ≡ refused n at → unless 26 o (unless 27 p (unless 28 q (value x))) ≡ refused n at
+    of : (x : Bundle) (o : Option ℕ) (p : Option (ℕ × ℕ)) (q : Option ℕ) → unless 26 o (unlessAt p (value x)) ≡ refused n at → unless 26 o (unlessAt p (unless 28 q (value x))) ≡ refused n at
     of x (some i) p q e = e
     of x none (some i) q e = e
     of x none none q e = not-value (sym e)
 
     by : (o : Answer Bundle) → andThen o (published s) ≡ refused n at → andThen o (admitted s) ≡ refused n at
-    by (value x) e = of x (at26 s x) (at27 s x) (at28 s x) e
+    by (value x) e = of x (at26 s x) (atMessage s x) (at28 s x) e
     by (refused i j) e = e
 
 pub stored-then : (s : Sheet) (bundle : List ℕ) (b : Bundle) → publishedBytes s bundle ≡ value b → admittedBytes s bundle ≡ unless 28 (at28 s b) (value b)
@@ -152,7 +154,7 @@ stored-then s bundle b e =
 sized : {s : Sheet} {sheet : List ℕ} {v : View} → Known s sheet v → Sized s (v .processors) (v .tasks) (v .links)
 sized k = record { processors = k .processors; tasks = k .tasks; links = k .links }
 
-module _ (sheet bundle w u : List ℕ) (v : View) (long : slotsEnd ≤ length w) (bounded : Bounded v) (f : Reading) (h : ReadIs bundle (v .processors) (v .tasks) (v .links) w u f) where
+module _ (sheet bundle w u : List ℕ) (v : View) (long : slotsEnd ≤ length w) (narrow : Bounded v) (f : Reading) (h : ReadIs bundle (v .processors) (v .tasks) (v .links) w u f) where
   pub judge-refused : (r at : ℕ) → f ≡ Unread r at → JudgeIs sheet bundle w u v (Refused r at)
   unfolding publishedBytes readingOf
   judge-refused r at e =
@@ -196,7 +198,7 @@ module _ (sheet bundle w u : List ℕ) (v : View) (long : slotsEnd ≤ length w)
           record {
             known = k;
             programmes = g;
-            few = omega (arith, read-few h m c claim e, bounded .few-processors);
+            few = omega (arith, read-few h m c claim e, narrow .few-processors);
             commands = cc;
             claimed = cc;
             bytes = bytes;

@@ -2,16 +2,17 @@
 use Prim.Native.Nat.{ℕ, zero, suc, _+_, _*_, _<_, _≤_}
 use mathlib.Core.Path.{_≡_, refl, sym, _∙_}
 use mathlib.Core.Bool.{Bool, true, false}
+use mathlib.Core.Option.{none}
 use mathlib.Core.List.{List, [], _∷_}
 use native.Mathlib.Omega.{arith}
-use borrow.Author.Tests.{eqb-true, not-false}
+use borrow.Author.Tests.{eqb-true, not-false, le-ltb}
 use lib.ListN.{length, getD}
 use lib.Dec.{eqb}
 use Rattle.folds.specs.Folds.{sum, pick}
 use Rattle.folds.specs.Answers.{value}
 use Rattle.folds.proofs.Tests.{both-parts}
-use Rattle.folds.proofs.Laws.{sum-front, sum-cong, sum-add, sum-le, sum-mono, sum-swap, term-le-sum, first-none}
-use Rattle.numbers.specs.Number.{Bytes}
+use Rattle.folds.proofs.Laws.{sum-front, sum-cong, sum-add, sum-le, sum-mono, sum-swap, term-le-sum, first-none, none-first}
+use Rattle.numbers.specs.Number.{Bytes, numberAt}
 use Rattle.sheet.specs.Sheet.{Sheet, taskCount, linkCount, sourceOf, targetOf}
 use Rattle.bundle.specs.Bundle.{Bundle, Command, run, send, receive, programmeCount, programmeOf}
 use Rattle.bundle.specs.Format.{readBundle}
@@ -19,8 +20,10 @@ use Rattle.bundle.specs.Fits.{Known, Each}
 use Rattle.bundle.specs.Counts.{commandsIn, commandCount}
 use Rattle.bundle.specs.Lies.{sizeOf, Lies, over, more}
 use Rattle.bundle.proofs.Rounds.{read-formed}
-use Rattle.messages.specs.Counting.{weigh, wholeOf, whole, each, is}
-use Rattle.messages.specs.Messages.{home, insideOk, acrossOk, linkOk, wrongMessage, at27, Published}
+use Rattle.messages.specs.Counting.{weigh, wholeOf, whole, each, is, need}
+use Rattle.messages.specs.Messages.{home, overStore, at28, Published}
+use Rattle.messages.specs.Unsplit.{insideOk, acrossOk}
+use Rattle.messages.proofs.Splits.{link-right}
 use Rattle.messages.proofs.Weights.{weigh-each, is-refl}
 use Rattle.messages.proofs.Messages.{run-once}
 use Rattle.messages.proofs.Rows.{Rows, claims, opens, rows}
@@ -53,8 +56,8 @@ each-at P d (x ∷ xs) (suc i) h l = each-at P d xs i (h .1) (omega arith)
 
 module _ (s : Sheet) (b : Bundle) (p : Published s b) where
   both-one : (l : ℕ) → l < linkCount s → (whole b (is (send l)) ≤ 1) × (whole b (is (receive l)) ≤ 1)
-  unfolding at27 insideOk acrossOk wrongMessage
-  both-one l h = go (eqb j k) (not-false (linkOk s b l j k) (first-none (linkCount s) (wrongMessage s b) (p .messages) l h))
+  unfolding insideOk acrossOk
+  both-one l h = go (eqb j k) (link-right s b p l h)
     where
       j : ℕ
       j = home b (run (sourceOf s l))

@@ -1,6 +1,7 @@
 -- The laws of `messages`.
 pub mod Weights
 pub mod Before
+pub mod Splits
 pub mod Messages
 pub mod Walking
 pub mod Ranks

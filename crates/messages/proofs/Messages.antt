@@ -1,4 +1,4 @@
--- What 26, 27 and 28 say where they do not apply: each task runs once, its inputs are there, and the store suffices.
+-- What 26, 31 to 33 and 28 say where they do not apply: each task runs once, its inputs are there, and the store suffices.
 use Prim.Native.Nat.{ℕ, _+_, _≤_, _<_}
 use native.Mathlib.Omega.{arith}
 use mathlib.Core.Bool.{Bool, true, false, false≢true}
@@ -14,7 +14,9 @@ use Rattle.folds.proofs.Laws.{two-terms-le-sum, first-none, first-some, none-fi
 use Rattle.sheet.specs.Sheet.{Sheet, taskCount, linkCount, sourceOf, targetOf}
 use Rattle.bundle.specs.Bundle.{Command, run, send, receive, Bundle, programmeCount, programmeOf}
 use Rattle.messages.specs.Counting.{weigh, wholeOf, whole, is, need}
-use Rattle.messages.specs.Messages.{notOnce, holds, home, before, insideOk, acrossOk, linkOk, wrongMessage, overStore, at26, at27, at28, Published}
+use Rattle.messages.specs.Messages.{notOnce, holds, home, before, overStore, at26, at28, Published}
+use Rattle.messages.specs.Unsplit.{insideOk, acrossOk, linkOk}
+use Rattle.messages.proofs.Splits.{link-right}
 use Rattle.messages.proofs.Weights.{programme-or, command-below, standing}
 use Rattle.messages.proofs.Before.{before-takes}
 
@@ -31,7 +33,7 @@ home-is b c k below h e = go (first (programmeCount b) (holds b c)) refl
         (λ d. absurd (omega (arith, two-terms-le-sum (programmeCount b) (wholeOf b (is c)) j k d (m .0) below, ltb-true 0 (wholeOf b (is c) j) (m .1))))
         (equal-or j k)
 
--- what 27 leaves of link l: one send at most, and its source's run or its receive before its target's run
+-- what 31 to 33 leave of link l: one send at most, and its source's run or its receive before its target's run
 pub record Message (s : Sheet) (b : Bundle) (l : ℕ) : Type 0 where
   pub one : whole b (is (send l)) ≤ 1
   pub comes :
@@ -65,8 +67,7 @@ run-once s b once t h = eqb-true _ _ (not-false _ (first-none (taskCount s) (not
 module _ (s : Sheet) (b : Bundle) where
   module _ (published : Published s b) where
     pub messages : (l : ℕ) → l < linkCount s → Message s b l
-    unfolding at27 wrongMessage
-    messages l h = message s b l (not-false _ (first-none (linkCount s) (wrongMessage s b) (published .messages) l h))
+    messages l h = message s b l (link-right s b published l h)
 
     -- where a task runs, for each link into it its source's run or its receive stands before
     pub inputs : (k i t : ℕ) → t < taskCount s → getElem? (programmeOf b k) i ≡ some (run t) → (l : ℕ) → l < linkCount s → targetOf s l ≡ t

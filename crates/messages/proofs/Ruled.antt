@@ -1,28 +1,30 @@
--- 26 and 27 by the notes of a whole bundle.
-use Prim.Native.Nat.{ℕ, zero, suc, _+_, _/_, _<_, _≤_}
+-- 26 and 31 to 33 by the notes of a whole bundle.
+use Prim.Native.Nat.{ℕ, _+_, _*_, _/_, _<_, _≤_}
 use mathlib.Core.Path.{_≡_, refl, sym, ap, ap₂, _∙_, subst}
 use mathlib.Core.Bool.{Bool, true, false, not}
-use mathlib.Core.Option.{none}
+use mathlib.Core.Option.{Option, none, some}
 use mathlib.Core.Logic.{⊎-elim}
-use mathlib.Core.List.{List}
+use mathlib.Core.List.{List, [], _∷_}
 use native.Mathlib.Omega.{arith}
 use native.Mathlib.Numerals.{add-one}
-use borrow.Author.Tests.{eqb-true, eq-eqb, ne-eqb, lt-ltb, le-ltb}
+use native.Mathlib.Decide.{decLt}
+use borrow.Author.Tests.{eqb-true, eq-eqb, ne-eqb, lt-ltb, le-ltb, lt-leb, le-leb}
 use lib.ListN.{getD}
-use lib.Dec.{eqb, ltb}
-use Rattle.folds.specs.Folds.{pick, both}
+use lib.Dec.{eqb, ltb, leb}
+use Rattle.folds.specs.Folds.{pick, both, firstOf}
 use Rattle.folds.proofs.Tests.{below-suc}
-use Rattle.folds.proofs.Laws.{none-first, first-found}
+use Rattle.folds.proofs.Laws.{none-first, first-found, none-with, with-found}
 use Rattle.sheet.specs.Sheet.{Sheet, taskCount, linkCount, sourceOf, targetOf}
 use Rattle.bundle.specs.Bundle.{Command, run, send, receive, Bundle, programmeCount, programmeOf}
 use Rattle.bundle.specs.Fits.{Known}
 use Rattle.messages.specs.Counting.{whole, is}
-use Rattle.messages.specs.Messages.{notOnce, before, insideOk, acrossOk, linkOk, wrongMessage, at26, at27}
-use Rattle.messages.specs.Notes.{slotsAt, slotOf, sofar, Noted, never, again, once, Notes, ahead, insideBy, acrossBy}
+use Rattle.messages.specs.Messages.{notOnce, home, before, inside, sendFault, receiveFault, orderFault, messageFault, at26, atMessage}
+use Rattle.messages.specs.Notes.{slotsAt, slotOf, sofar, Noted, never, again, once, Notes, ahead, sendBy, receiveBy, orderBy, faultBy}
 use Rattle.messages.specs.Fields.{sourceAt, targetAt}
 use Rattle.messages.specs.declared.view.View.{View}
-use Rattle.messages.specs.Rules.{Given, OnceIs, LinkIs, MessageIs}
+use Rattle.messages.specs.Rules.{Given, OnceIs, numbered, LinkIs, MessageIs}
 use Rattle.words.specs.declared.Found.the-variants.{At, Nothing}
+use Rattle.messages.specs.declared.rules.Fault.the-variants as fault
 use Rattle.messages.proofs.Messages.{run-once}
 use Rattle.messages.proofs.Ranks.{sofar-whole}
 use Rattle.messages.proofs.Places.{Placed, placed-home, same-programme, before-first, before-second}
@@ -108,15 +110,7 @@ once-none w t n g l =
           sym (none-first (taskCount s) (notOnce b) (λ j k. once-test s b w count h j k ∙ ap not (lt-ltb 1 (getD w (slotsAt + j) 0) (g .ones j (omega arith)))));
     }
 
--- 27
-both-zero : (a b : ℕ) → eqb (a + b) 0 ≡ both (eqb a 0) (eqb b 0)
-both-zero zero b = let e : 0 + b ≡ b = omega arith in ap (λ (x : ℕ). eqb x 0) e
-both-zero (suc a) b = ne-eqb (suc a + b) 0 (λ q. omega arith) ∙ sym (ap (λ (x : Bool). both x (eqb b 0)) (ne-eqb (suc a) 0 (λ q. omega arith)))
-
-both-three : (p q r : Bool) → both (both p q) r ≡ both p (both q r)
-both-three true q r = refl
-both-three false q r = refl
-
+-- 31 to 33
 module _ (s : Sheet) (b : Bundle) (sheet w : List ℕ) (v : View) (h : Given s b sheet w v) (l : ℕ) (kl : l < linkCount s) (once : at26 s b ≡ none) where
   abbrev noteOf : Command → ℕ
   noteOf c = getD w (slotsAt + slotOf c) 0
@@ -127,126 +121,118 @@ module _ (s : Sheet) (b : Bundle) (sheet w : List ℕ) (v : View) (h : Given s b
   abbrev target : Command
   target = run (targetOf s l)
 
+  abbrev together : Bool
+  together = eqb (noteOf source / 4096) (noteOf target / 4096)
+
   from : (j : ℕ) × (i : ℕ) × Placed b source j i (noteOf source)
   from = placed s b w (h .count) (h .notes) source (h .known .ranged .source l kl) (run-once s b once (sourceOf s l) (h .known .ranged .source l kl))
 
   to : (j : ℕ) × (i : ℕ) × Placed b target j i (noteOf target)
   to = placed s b w (h .count) (h .notes) target (h .known .ranged .target l kl) (run-once s b once (targetOf s l) (h .known .ranged .target l kl))
 
-  inside-by : from .0 ≡ to .0 → insideBy (noteOf source) (noteOf target) (noteOf (send l)) (noteOf (receive l)) ≡ insideOk s b l (to .0)
-  unfolding insideBy insideOk ahead
-  inside-by e =
-      let f = from .2 in
-      let t = to .2 in
-      let p = eqb (whole b (is (send l))) 0 in
-      let q = eqb (whole b (is (receive l))) 0 in
-      let r = ltb (noteOf source) (noteOf target) in
-      let same : eqb (noteOf source / 4096) (noteOf target / 4096) ≡ true = same-programme s (h .known .ranged .few-tasks) (h .known .ranged .few-links) (h .known .ranged .source l kl) f t ∙ eq-eqb (from .0) (to .0) e in
-      let last : before source target (programmeOf b (to .0)) ≡ r = before-second s (h .known .ranged .few-tasks) (h .known .ranged .few-links) (h .known .ranged .source l kl) f t ∙ ap (λ (v : Bool). both v r) same in
-      ap₂ (λ (u v : Bool). both u (both v r)) (none-by s b w (h .count) (h .notes) (send l) kl) (none-by s b w (h .count) (h .notes) (receive l) kl)
-      ∙ sym (both-three p q r)
-      ∙ ap₂ both (sym (both-zero (whole b (is (send l))) (whole b (is (receive l))))) (sym last)
+  -- both tasks run in one programme
+  inside-by : together ≡ inside s b l
+  unfolding inside
+  inside-by =
+      same-programme s (h .known .ranged .few-tasks) (h .known .ranged .few-links) (h .known .ranged .source l kl) (from .2) (to .2)
+      ∙ sym (ap₂ eqb (placed-home (from .2)) (placed-home (to .2)))
 
-  across-by : acrossBy (noteOf source) (noteOf target) (noteOf (send l)) (noteOf (receive l)) ≡ acrossOk s b l (from .0) (to .0)
-  unfolding acrossBy acrossOk
-  across-by =
-      rw (once-by s b w (h .count) (h .notes) (send l) kl, once-by s b w (h .count) (h .notes) (receive l) kl)
-      (by (eqb (whole b (is (send l))) 1) (eqb (whole b (is (receive l))) 1) refl refl)
+  -- a message that stands once, behind its source or before its target
+  sent-by : both (ltb 1 (noteOf (send l))) (ahead (noteOf source) (noteOf (send l))) ≡ both (eqb (whole b (is (send l))) 1) (before source (send l) (programmeOf b (home b source)))
+  sent-by = rw (once-by s b w (h .count) (h .notes) (send l) kl, placed-home (from .2)) (by (eqb (whole b (is (send l))) 1) refl)
     where
-      by : (p q : Bool) → eqb (whole b (is (send l))) 1 ≡ p → eqb (whole b (is (receive l))) 1 ≡ q
-          → both p (both q (both (ahead (noteOf source) (noteOf (send l))) (ahead (noteOf (receive l)) (noteOf target))))
-          ≡ both p (both q (both (before source (send l) (programmeOf b (from .0))) (before (receive l) target (programmeOf b (to .0)))))
-      by false q e f = refl
-      by true false e f = refl
-      by true true e f =
+      by : (p : Bool) → eqb (whole b (is (send l))) 1 ≡ p → both p (ahead (noteOf source) (noteOf (send l))) ≡ both p (before source (send l) (programmeOf b (from .0)))
+      by false e = refl
+      by true e =
           let ps = placed s b w (h .count) (h .notes) (send l) kl (eqb-true (whole b (is (send l))) 1 e) in
-          let pr = placed s b w (h .count) (h .notes) (receive l) kl (eqb-true (whole b (is (receive l))) 1 f) in
-          ap₂ both (sym (before-first s (h .known .ranged .few-tasks) (h .known .ranged .few-links) (h .known .ranged .source l kl) (from .2) (ps .2))) (sym (before-second s (h .known .ranged .few-tasks) (h .known .ranged .few-links) kl (pr .2) (to .2)))
+          sym (before-first s (h .known .ranged .few-tasks) (h .known .ranged .few-links) (h .known .ranged .source l kl) (from .2) (ps .2))
 
-  wrong-by : wrongMessage s b l ≡ not (linkOk s b l (from .0) (to .0))
-  unfolding wrongMessage
-  wrong-by = ap₂ (λ (j k : ℕ). not (linkOk s b l j k)) (placed-home (from .2)) (placed-home (to .2))
+  got-by : both (ltb 1 (noteOf (receive l))) (ahead (noteOf (receive l)) (noteOf target)) ≡ both (eqb (whole b (is (receive l))) 1) (before (receive l) target (programmeOf b (home b target)))
+  got-by = rw (once-by s b w (h .count) (h .notes) (receive l) kl, placed-home (to .2)) (by (eqb (whole b (is (receive l))) 1) refl)
+    where
+      by : (p : Bool) → eqb (whole b (is (receive l))) 1 ≡ p → both p (ahead (noteOf (receive l)) (noteOf target)) ≡ both p (before (receive l) target (programmeOf b (to .0)))
+      by false e = refl
+      by true e =
+          let pr = placed s b w (h .count) (h .notes) (receive l) kl (eqb-true (whole b (is (receive l))) 1 e) in
+          sym (before-second s (h .known .ranged .few-tasks) (h .known .ranged .few-links) kl (pr .2) (to .2))
 
-  programmes-by : eqb (noteOf source / 4096) (noteOf target / 4096) ≡ eqb (from .0) (to .0)
-  programmes-by = same-programme s (h .known .ranged .few-tasks) (h .known .ranged .few-links) (h .known .ranged .source l kl) (from .2) (to .2)
+  send-is : sendBy together (noteOf source) (noteOf (send l)) ≡ sendFault s b l
+  unfolding sendBy sendFault
+  send-is = rw (inside-by, sent-by, none-by s b w (h .count) (h .notes) (send l) kl)
 
-  pub inside-wrong : noteOf source / 4096 ≡ noteOf target / 4096 → not (insideBy (noteOf source) (noteOf target) (noteOf (send l)) (noteOf (receive l))) ≡ wrongMessage s b l
-  inside-wrong e =
-      let f : eqb (from .0) (to .0) ≡ true = sym programmes-by ∙ eq-eqb (noteOf source / 4096) (noteOf target / 4096) e in
-      sym (wrong-by ∙ ap (λ (v : Bool). not (pick v (insideOk s b l (to .0)) (acrossOk s b l (from .0) (to .0)))) f ∙ ap not (sym (inside-by (eqb-true (from .0) (to .0) f))))
+  receive-is : receiveBy together (noteOf (receive l)) (noteOf target) ≡ receiveFault s b l
+  unfolding receiveBy receiveFault
+  receive-is = rw (inside-by, got-by, none-by s b w (h .count) (h .notes) (receive l) kl)
 
-  pub across-wrong : (noteOf source / 4096 ≡ noteOf target / 4096 → ⊥) → not (acrossBy (noteOf source) (noteOf target) (noteOf (send l)) (noteOf (receive l))) ≡ wrongMessage s b l
-  across-wrong e =
-      let f : eqb (from .0) (to .0) ≡ false = sym programmes-by ∙ ne-eqb (noteOf source / 4096) (noteOf target / 4096) e in
-      sym (wrong-by ∙ ap (λ (v : Bool). not (pick v (insideOk s b l (to .0)) (acrossOk s b l (from .0) (to .0)))) f ∙ ap not (sym across-by))
+  order-is : orderBy together (noteOf source) (noteOf target) ≡ orderFault s b l
+  unfolding orderBy orderFault ahead
+  order-is = by together refl
+    where
+      last : before source target (programmeOf b (home b target)) ≡ both together (ltb (noteOf source) (noteOf target))
+      last =
+          ap (λ (k : ℕ). before source target (programmeOf b k)) (placed-home (to .2))
+          ∙ before-second s (h .known .ranged .few-tasks) (h .known .ranged .few-links) (h .known .ranged .source l kl) (from .2) (to .2)
+
+      by : (i : Bool) → together ≡ i → both together (not (ltb (noteOf source) (noteOf target))) ≡ both (inside s b l) (not (before source target (programmeOf b (home b target))))
+      by true e = rw (← inside-by, last, e)
+      by false e = rw (← inside-by, e)
+
+  pub fault-is : faultBy (noteOf source) (noteOf target) (noteOf (send l)) (noteOf (receive l)) ≡ messageFault s b l
+  unfolding faultBy messageFault
+  fault-is = rw (send-is, receive-is, order-is)
+
+pub leb-not : (a b : ℕ) → leb b a ≡ not (ltb a b)
+leb-not a b = elim (decLt a b) [ yes h ↦ rw (lt-ltb a b h, lt-leb b a h) | no h ↦ rw (le-ltb a b (omega arith), le-leb b a (omega arith)) ]
 
 -- a byte at an offset that is told
 pub byte-there : (b : List ℕ) (i j x : ℕ) → x ≡ getD b i 0 → i ≡ j → x ≡ getD b j 0
 byte-there b i j x e f = e ∙ ap (λ (k : ℕ). getD b k 0) f
 
 -- by the numbers that the code reads
-module _
-    (sheet w : List ℕ) (v : View) (l source target a t sent got : ℕ) (r : Bool) (es : source ≡ getD sheet (sourceAt (v .middle) l) 0) (et : target ≡ getD sheet (targetAt (v .middle) l) 0)
-    (ea : a ≡ getD w (slotsAt + source) 0) (eb : t ≡ getD w (slotsAt + target) 0) (ec : sent ≡ getD w (slotsAt + (256 + l)) 0) (ed : got ≡ getD w (slotsAt + (1280 + l)) 0) where
-  module _ (s : Sheet) (b : Bundle) (kl : l < linkCount s) (h : Given s b sheet w v) where
-    a-is : a ≡ getD w (slotsAt + sourceOf s l) 0
-    a-is = ea ∙ ap (λ (i : ℕ). getD w (slotsAt + i) 0) (es ∙ h .known .fields .source l kl)
-
-    t-is : t ≡ getD w (slotsAt + targetOf s l) 0
-    t-is = eb ∙ ap (λ (i : ℕ). getD w (slotsAt + i) 0) (et ∙ h .known .fields .target l kl)
-
-  pub link-inside : a / 4096 ≡ t / 4096 → r ≡ insideBy a t sent got → LinkIs sheet w v l r
-  link-inside q g =
-      record {
-        is-ok =
-            λ s b kl h o.
-            let x = a-is s b kl h in
-            let y = t-is s b kl h in
-            ap not (g ∙ ap₂ (λ (i j : ℕ). insideBy i j sent got) x y ∙ ap₂ (λ (i j : ℕ). insideBy (getD w (slotsAt + sourceOf s l) 0) (getD w (slotsAt + targetOf s l) 0) i j) ec ed)
-            ∙ inside-wrong s b sheet w v h l kl o (sym (ap (λ (i : ℕ). i / 4096) x) ∙ q ∙ ap (λ (i : ℕ). i / 4096) y);
-      }
-
-  pub link-across : (a / 4096 ≡ t / 4096 → ⊥) → r ≡ acrossBy a t sent got → LinkIs sheet w v l r
-  link-across q g =
-      record {
-        is-ok =
-            λ s b kl h o.
-            let x = a-is s b kl h in
-            let y = t-is s b kl h in
-            ap not (g ∙ ap₂ (λ (i j : ℕ). acrossBy i j sent got) x y ∙ ap₂ (λ (i j : ℕ). acrossBy (getD w (slotsAt + sourceOf s l) 0) (getD w (slotsAt + targetOf s l) 0) i j) ec ed)
-            ∙ across-wrong s b sheet w v h l kl o (λ z. q (ap (λ (i : ℕ). i / 4096) x ∙ z ∙ sym (ap (λ (i : ℕ). i / 4096) y)));
-      }
-
--- the pass over the links
-pub record Oks (sheet w : List ℕ) (v : View) (l : ℕ) : Type 0 where
-  pub oks : (i : ℕ) → i < l → LinkIs sheet w v i true
-
-pub oks-start : (sheet w : List ℕ) (v : View) → Oks sheet w v 0
-oks-start sheet w v = record { oks = λ i l. absurd (omega arith) }
-
-pub oks-more : {sheet w : List ℕ} {v : View} {l : ℕ} (r : Bool) → Oks sheet w v l → r ≡ true → LinkIs sheet w v l r → Oks sheet w v (l + 1)
-oks-more {sheet} {w} {v} {l} r g e h =
+pub link-by :
+    (sheet w : List ℕ) (v : View) (l source target a t sent got r : ℕ) → source ≡ getD sheet (sourceAt (v .middle) l) 0 → target ≡ getD sheet (targetAt (v .middle) l) 0
+    → a ≡ getD w (slotsAt + source) 0 → t ≡ getD w (slotsAt + target) 0 → sent ≡ getD w (slotsAt + (256 + l)) 0 → got ≡ getD w (slotsAt + (1280 + l)) 0 → numbered r ≡ faultBy a t sent got
+    → LinkIs sheet w v l r
+link-by sheet w v l source target a t sent got r es et ea eb ec ed e =
     record {
-      oks =
-          λ i m.
-          ⊎-elim (λ (k : i < l). g .oks i k) (λ (q : i ≡ l). subst (λ (x : ℕ). LinkIs sheet w v x true) (sym q) (subst (LinkIs sheet w v l) e h)) (below-suc (rw add-one at m));
+      is-fault =
+          λ s b kl h o.
+          let x : a ≡ getD w (slotsAt + sourceOf s l) 0 = ea ∙ ap (λ (i : ℕ). getD w (slotsAt + i) 0) (es ∙ h .known .fields .source l kl) in
+          let y : t ≡ getD w (slotsAt + targetOf s l) 0 = eb ∙ ap (λ (i : ℕ). getD w (slotsAt + i) 0) (et ∙ h .known .fields .target l kl) in
+          e ∙ ap₂ (λ (i j : ℕ). faultBy i j sent got) x y ∙ ap₂ (λ (i j : ℕ). faultBy (getD w (slotsAt + sourceOf s l) 0) (getD w (slotsAt + targetOf s l) 0) i j) ec ed
+          ∙ fault-is s b sheet w v h l kl o;
     }
 
-pub oks-found : (sheet w : List ℕ) (v : View) (l : ℕ) (r : Bool) → Oks sheet w v l → l < v .links → r ≡ false → LinkIs sheet w v l r → MessageIs sheet w v (At l)
-unfolding at27
-oks-found sheet w v l r g k e h =
+-- the pass over the links: those below l have no fault
+pub record Clear (sheet w : List ℕ) (v : View) (l : ℕ) : Type 0 where
+  pub clear : (i : ℕ) → i < l → LinkIs sheet w v i 0
+
+pub clear-start : (sheet w : List ℕ) (v : View) → Clear sheet w v 0
+clear-start sheet w v = record { clear = λ i l. absurd (omega arith) }
+
+pub clear-more : {sheet w : List ℕ} {v : View} {l : ℕ} (r : ℕ) → Clear sheet w v l → r ≡ 0 → LinkIs sheet w v l r → Clear sheet w v (l + 1)
+clear-more {sheet} {w} {v} {l} r g e h =
     record {
-      is-27 =
+      clear =
+          λ i m.
+          ⊎-elim (λ (k : i < l). g .clear i k) (λ (q : i ≡ l). subst (λ (x : ℕ). LinkIs sheet w v x 0) (sym q) (subst (LinkIs sheet w v l) e h)) (below-suc (rw add-one at m));
+    }
+
+pub clear-found : (sheet w : List ℕ) (v : View) (l r : ℕ) → Clear sheet w v l → l < v .links → (r ≡ 0 → ⊥) → LinkIs sheet w v l r → MessageIs sheet w v (fault.At r l)
+unfolding atMessage
+clear-found sheet w v l r g k e h =
+    record {
+      is-lowest =
           λ s b i o.
           let d = i .known .links in
           sym
-          (first-found (linkCount s) (wrongMessage s b) l (λ j q. sym (g .oks j q .is-ok s b (omega arith) i o))
-          (sym (h .is-ok s b (omega arith) i o) ∙ ap not e) (omega arith));
+          (with-found (linkCount s) (messageFault s b) l r (λ j q. sym (g .clear j q .is-fault s b (omega arith) i o))
+          (sym (h .is-fault s b (omega arith) i o) ∙ rw (ne-eqb r 0 e)) (omega arith));
     }
 
-pub oks-none : (sheet w : List ℕ) (v : View) (l : ℕ) → Oks sheet w v l → v .links ≤ l → MessageIs sheet w v Nothing
-unfolding at27
-oks-none sheet w v l g k =
+pub clear-none : (sheet w : List ℕ) (v : View) (l : ℕ) → Clear sheet w v l → v .links ≤ l → MessageIs sheet w v fault.Nothing
+unfolding atMessage
+clear-none sheet w v l g k =
     record {
-      is-27 = λ s b i o. let d = i .known .links in sym (none-first (linkCount s) (wrongMessage s b) (λ j q. sym (g .oks j (omega arith) .is-ok s b q i o)));
+      is-lowest = λ s b i o. let d = i .known .links in sym (none-with (linkCount s) (messageFault s b) (λ j q. sym (g .clear j (omega arith) .is-fault s b q i o)));
     }

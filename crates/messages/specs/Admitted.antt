@@ -1,17 +1,17 @@
--- 26 to 28 together: what a bundle must pass for the machine to start on it; and what the code promises that reads a bundle and tries 26 and 27.
+-- 26, 31 to 33 and 28 together: what a bundle must pass for the machine to start on it; and what the code promises that reads a bundle and tries 26 and 31 to 33.
 use Prim.Native.Nat.{ℕ, _≤_, _<_}
 use mathlib.Core.Path.{_≡_}
 use mathlib.Core.Option.{none}
 use mathlib.Core.List.{List}
 use lib.ListN.{length}
-use Rattle.folds.specs.Answers.{Answer, value, refused, unless, andThen}
+use Rattle.folds.specs.Answers.{Answer, value, refused, unless, unlessAt, andThen}
 use Rattle.numbers.specs.Number.{Bytes}
 use Rattle.sheet.specs.Sheet.{Sheet, taskCount, linkCount}
 use Rattle.bundle.specs.Bundle.{Bundle, programmeCount}
 use Rattle.bundle.specs.Format.{readBundle}
 use Rattle.bundle.specs.Counts.{commandCount}
 use Rattle.bundle.specs.Lies.{Laid}
-use Rattle.messages.specs.Messages.{at26, at27, at28}
+use Rattle.messages.specs.Messages.{at26, atMessage, at28}
 use Rattle.messages.specs.Fields.{Known}
 use Rattle.messages.specs.Notes.{slotsEnd, Kept}
 use Rattle.messages.specs.Rules.{Given}
@@ -20,17 +20,17 @@ use Rattle.messages.specs.declared.Judged.{Judged}
 use Rattle.messages.specs.declared.Judged.the-variants.{Fit, Refused}
 
 unfoldable pub messaged : Sheet → Bundle → Answer Bundle
-messaged s b = unless 27 (at27 s b) (value b)
+messaged s b = unlessAt (atMessage s b) (value b)
 
--- the bundle, or the first refusal of 26 and 27
+-- the bundle, or the first refusal of 26 and 31 to 33
 unfoldable pub published : Sheet → Bundle → Answer Bundle
 published s b = unless 26 (at26 s b) (messaged s b)
 
--- .. of 26 to 28
+-- .. and of 28 behind them
 unfoldable pub admitted : Sheet → Bundle → Answer Bundle
-admitted s b = unless 26 (at26 s b) (unless 27 (at27 s b) (unless 28 (at28 s b) (value b)))
+admitted s b = unless 26 (at26 s b) (unlessAt (atMessage s b) (unless 28 (at28 s b) (value b)))
 
--- of bytes, for a sheet: the first refusal of 21 to 27, and of 21 to 28
+-- of bytes, for a sheet: the first refusal of 21 to 26 and 31 to 33, and of 28 behind them
 unfoldable pub publishedBytes : Sheet → List ℕ → Answer Bundle
 publishedBytes s bundle = andThen (readBundle s bundle) (published s)
 
@@ -62,7 +62,7 @@ module _ (sheet bundle w : List ℕ) (v : View) (m c claim : ℕ) (r : Judged) w
     pub kept : Kept w last
     pub is : (s : Sheet) (b : Bundle) → Told s b sheet bundle w v m c claim → r ≡ judgedOf (published s b)
 
--- bytes of any kind: 21 to 27, and where the programmes lie of a bundle that passes them
+-- bytes of any kind: 21 to 26 and 31 to 33, and where the programmes lie of a bundle that passes them
 pub record JudgeIs (sheet bundle w last : List ℕ) (v : View) (r : Judged) : Type 0 where
   pub long : length last ≡ length w
   pub is : (s : Sheet) → Known s sheet v → r ≡ judgedOf (publishedBytes s bundle)

@@ -1,6 +1,7 @@
 -- The definitions of `messages`.
 pub mod Counting
 pub mod Messages
+pub mod Unsplit
 pub mod Fields
 pub mod Views
 pub mod Notes

@@ -3,12 +3,12 @@
 -- Of two commands that stand once each in one programme, the one that stands first has the smaller note; and a note fits a word however long the bundle is.
 use Prim.Native.Nat.{ℕ, suc, _+_, _*_, _-_, _/_, _%_, _≤_, _<_}
 use mathlib.Core.Path.{_≡_}
-use mathlib.Core.Bool.{Bool}
-use mathlib.Core.Option.{some}
-use mathlib.Core.List.{List}
+use mathlib.Core.Bool.{Bool, not}
+use mathlib.Core.Option.{Option, some}
+use mathlib.Core.List.{List, [], _∷_}
 use lib.ListN.{length, getD, set, take, getElem?}
 use lib.Dec.{eqb, ltb}
-use Rattle.folds.specs.Folds.{pick, bit, both, sum}
+use Rattle.folds.specs.Folds.{pick, bit, both, sum, firstOf}
 use Rattle.folds.specs.Answers.{value}
 use Rattle.numbers.specs.Number.{numberAt}
 use Rattle.sheet.specs.Sheet.{Sheet, taskCount, linkCount}
@@ -97,9 +97,17 @@ pub record NotesIs (bundle w last : List ℕ) (n l : ℕ) : Type 0 where
 unfoldable pub ahead : ℕ → ℕ → Bool
 ahead x y = both (eqb (x / 4096) (y / 4096)) (ltb x y)
 
--- 27 by the notes of a link's source, target, send and receive: both tasks in one programme, and in two
-unfoldable pub insideBy : ℕ → ℕ → ℕ → ℕ → Bool
-insideBy a t s r = both (eqb s 0) (both (eqb r 0) (ltb a t))
+-- 31, 32 and 33 by the notes of a link's source, target, send and receive, where both tasks run in one programme, or not
+unfoldable pub sendBy : Bool → ℕ → ℕ → Bool
+sendBy inside source sent = pick inside (not (eqb sent 0)) (not (both (ltb 1 sent) (ahead source sent)))
 
-unfoldable pub acrossBy : ℕ → ℕ → ℕ → ℕ → Bool
-acrossBy a t s r = both (ltb 1 s) (both (ltb 1 r) (both (ahead a s) (ahead r t)))
+unfoldable pub receiveBy : Bool → ℕ → ℕ → Bool
+receiveBy inside got target = pick inside (not (eqb got 0)) (not (both (ltb 1 got) (ahead got target)))
+
+unfoldable pub orderBy : Bool → ℕ → ℕ → Bool
+orderBy inside source target = both inside (not (ltb source target))
+
+unfoldable pub faultBy : ℕ → ℕ → ℕ → ℕ → Option ℕ
+faultBy source target sent got =
+    let inside = eqb (source / 4096) (target / 4096) in
+    firstOf ((sendBy inside source sent, 31) ∷ (receiveBy inside got target, 32) ∷ (orderBy inside source target, 33) ∷ [])

@@ -1,18 +1,19 @@
-// 21 to 27: reads any bytes as a bundle and tries its tasks and messages, for a sheet that is given by its view and its bytes.
-ghost use Rattle.messages.specs.Notes.{slotsEnd};
+// 21 to 26 and 31 to 33: reads any bytes as a bundle and tries its tasks and messages, for a sheet that is given by its view and its bytes.
 ghost use Prim.Native.Nat.{_≤_};
 ghost use lib.ListN.{length};
 ghost use Rattle.messages.specs.Fields.{Bounded};
+ghost use Rattle.messages.specs.Notes.{slotsEnd};
 ghost use Rattle.messages.specs.Admitted.{MessagesIs, RulesIs, JudgeIs};
 use crate::Judged;
 use crate::notes::note_all;
+use crate::rules::Fault;
 use crate::rules::not_once;
 use crate::rules::wrong_message;
 use crate::view::View;
 use bundle_reader::bytes::Reading;
 use words::Found;
 
-// 27, or a bundle of m programmes, c commands and this claim.
+// 31 to 33, or a bundle of m programmes, c commands and this claim.
 fn messages(
     sheet: &[u8],
     bundle: &[u8],
@@ -26,8 +27,8 @@ fn messages(
     ensures { λ r. ⌜ MessagesIs (now (sheet .entry)) (now (bundle .entry)) (now (w .entry)) v m c claim r ⌝ }
 {
     match wrong_message(sheet, w, v) {
-        Found::At(i) => Judged::Refused(27, i),
-        Found::Nothing => Judged::Fit(m, c, claim),
+        Fault::At(n, l) => Judged::Refused(n, l),
+        Fault::Nothing => Judged::Fit(m, c, claim),
     }
 }
 
@@ -51,7 +52,7 @@ fn rules(
     }
 }
 
-// 21 to 27 of a bundle. The offsets of the programmes are left in the words.
+// 21 to 26 and 31 to 33 of a bundle. The offsets of the programmes are left in the words.
 pub fn judge(sheet: &[u8], bundle: &[u8], w: &mut [u32], v: View) -> Judged
     requires { ⌜ Bounded v × (slotsEnd ≤ length (now w)) ⌝ }
     ensures { λ r. ⌜ JudgeIs (now (sheet .entry)) (now (bundle .entry)) (now (w .entry)) (now (w .exit)) v r ⌝ }

@@ -73,8 +73,8 @@ impl Function {
             Function::ReadBundle | Function::WriteBundle => {
                 sheet || number == 12 || matches!(number, 21..=25)
             }
-            Function::Check => sheet || matches!(number, 21..=30),
-            Function::Start | Function::Run => sheet || matches!(number, 21..=28),
+            Function::Check => sheet || matches!(number, 21..=26 | 28..=33),
+            Function::Start | Function::Run => sheet || matches!(number, 21..=26 | 28 | 31..=33),
             Function::Step | Function::Left | Function::Processor | Function::Stamp => {
                 matches!(number, 0 | 13)
             }
@@ -82,18 +82,25 @@ impl Function {
     }
 }
 
-/// Every number that an answer can have.
-const NUMBERS: std::ops::RangeInclusive<u8> = 0..=30;
+/// The greatest number of a refusal, and every number that an answer can have.
+const GREATEST: u8 = 33;
+const NUMBERS: std::ops::RangeInclusive<u8> = 0..=GREATEST;
 
 /// The rules that give a task its processor: the four steps, and the guard where it bars the
 /// processor that the task would have joined.
 const RULES: [&str; 5] = ["join", "idle", "open", "last resort", "the guard"];
 
 /// The counts of answers, by function and number, and of turns by the rule that decided.
-#[derive(Clone, Default)]
+#[derive(Clone)]
 pub struct Tally {
-    counts: [[usize; 31]; FUNCTIONS.len()],
+    counts: [[usize; GREATEST as usize + 1]; FUNCTIONS.len()],
     rules: [usize; RULES.len()],
+}
+
+impl Default for Tally {
+    fn default() -> Self {
+        Tally { counts: [[0; GREATEST as usize + 1]; FUNCTIONS.len()], rules: [0; RULES.len()] }
+    }
 }
 
 impl Tally {

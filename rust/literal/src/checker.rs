@@ -8,7 +8,8 @@ use crate::sheet::Sheet;
 /// A rule of the checker: the refusal of a bundle that breaks it.
 type Rule = fn(&Sheet, &Bundle) -> Option<Refusal>;
 
-/// "A bundle has [..] the published messages if 26 and 27 don't" apply; the public machine starts if
+/// "A bundle has [..] the published messages if 26 and 27 don't" apply, where "31 (send), 32 (receive)
+/// and 33 (local order) stand for 27 in every rule and in its position"; the public machine starts if
 /// none of "21 to 28" does.
 const STANDING: [Rule; 3] = [run_count, message, over_store];
 
@@ -53,28 +54,33 @@ fn run_count(sheet: &Sheet, bundle: &Bundle) -> Option<Refusal> {
     (0..sheet.tasks.len()).find(|&task| !once(task)).map(|task| Refusal::new(26, task))
 }
 
-/// 27, message, "lowest link".
+/// "For the lowest link in fault the send is looked at first, then the receive, then the order
+/// inside one processor", "each with the link as place".
 fn message(sheet: &Sheet, bundle: &Bundle) -> Option<Refusal> {
-    let wrong = |&link: &usize| message_wrong(sheet, bundle, link);
-    (0..sheet.links.len()).find(wrong).map(|link| Refusal::new(27, link))
+    let fault = |link| Some(Refusal::new(message_fault(sheet, bundle, link)?, link));
+    (0..sheet.links.len()).find_map(fault)
 }
 
-/// "27 is given when a link between processors has not exactly one send and one receive in the
-/// whole bundle, or its send isn't after its source's run in that run's programme, or its receive
-/// isn't before its target's run in that run's programme; or when a link inside one processor has
-/// any message, or its source runs after its target."
-fn message_wrong(sheet: &Sheet, bundle: &Bundle, link: usize) -> bool {
+/// The fault of one link: 31 (send), 32 (receive) or 33 (local order).
+fn message_fault(sheet: &Sheet, bundle: &Bundle, link: usize) -> Option<u8> {
     let run_of = |task| stands(bundle, Action::Run(task))[0];
     let (source, target) = (run_of(sheet.links[link].from), run_of(sheet.links[link].to));
     let sends = stands(bundle, Action::Send(link));
     let receives = stands(bundle, Action::Receive(link));
-    if source.0 == target.0 {
-        return !sends.is_empty() || !receives.is_empty() || source.1 > target.1;
-    }
-    sends.len() != 1
-        || receives.len() != 1
-        || !before(source, sends[0])
-        || !before(receives[0], target)
+    let (wrong_send, wrong_receive, wrong_order) = if source.0 == target.0 {
+        // "a message on a link inside one processor is a fault of the send if any send names it, else
+        // of the receive"; "or its source runs after its target"
+        (!sends.is_empty(), !receives.is_empty(), source.1 > target.1)
+    } else {
+        // "not exactly one send and one receive in the whole bundle, or its send isn't after its
+        // source's run in that run's programme, or its receive isn't before its target's run in that
+        // run's programme"
+        let wrong_send = sends.len() != 1 || !before(source, sends[0]);
+        (wrong_send, receives.len() != 1 || !before(receives[0], target), false)
+    };
+    [(wrong_send, 31), (wrong_receive, 32), (wrong_order, 33)]
+        .into_iter()
+        .find_map(|(wrong, number)| wrong.then_some(number))
 }
 
 /// Whether one command stands before another in the same programme.

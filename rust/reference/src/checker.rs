@@ -1,4 +1,5 @@
-//! The checker: whether a bundle is right for its sheet (21 to 28), runs to its end (29) and in the claimed time (30).
+//! The checker: whether a bundle is right for its sheet (21 to 26, 31 to 33
+//! and 28), runs to its end (29) and in the claimed time (30).
 
 use crate::machine::{Machine, Processor, Step};
 use crate::refusal::*;

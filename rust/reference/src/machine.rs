@@ -55,7 +55,7 @@ pub struct Machine<'a> {
 }
 
 impl<'a> Machine<'a> {
-    /// The fresh machine for a bundle (21 to 28).
+    /// The fresh machine for a bundle (21 to 26, 31 to 33 and 28).
     pub fn start(sheet: &'a Sheet, bundle: &'a [u8]) -> Result<Machine<'a>, Refusal> {
         let bundle = messages::read(sheet, bundle)?;
         let fresh = |&rest: &&'a [u8]| Processor { clock: 0, position: 0, store: 0, rest };

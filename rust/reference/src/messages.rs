@@ -1,10 +1,11 @@
-//! What stands where in a bundle: each task run once (26), each message right (27), store kept (28).
+//! What stands where in a bundle: each task run once (26), each message right (31 to 33), store kept
+//! (28).
 
 use crate::bundle::{Bundle, Command};
 use crate::refusal::*;
 use crate::sheet::{Link, Sheet, MOST_PROCESSORS};
 
-/// Reads a bundle in which 21 to 28 do not apply.
+/// Reads a bundle in which 21 to 26, 31 to 33 and 28 do not apply.
 pub fn read<'a>(sheet: &Sheet, bytes: &'a [u8]) -> Result<Bundle<'a>, Refusal> {
     let mut seats = Seats {
         runs: vec![Seat::default(); sheet.tasks.len()],
@@ -49,14 +50,15 @@ struct Seats {
 }
 
 impl Seats {
-    /// 26, 27 and 28.
+    /// 26, 31 to 33 and 28.
     fn judge(&self, sheet: &Sheet) -> Result<(), Refusal> {
         if let Some(task) = self.runs.iter().position(|run| run.times != 1) {
             return Err(Refusal::new(RUN_COUNT, task));
         }
-        let wrong = |(number, link): (usize, &Link)| !self.message_right(number, link);
-        if let Some(link) = sheet.links.iter().enumerate().position(wrong) {
-            return Err(Refusal::new(MESSAGE, link));
+        for (number, link) in sheet.links.iter().enumerate() {
+            if let Some(fault) = self.message_fault(number, link) {
+                return Err(Refusal::new(fault, number));
+            }
         }
         let need = self.stores(sheet);
         match need.iter().position(|&store| store > sheet.limit) {
@@ -65,20 +67,27 @@ impl Seats {
         }
     }
 
-    /// Whether a link has the messages that the runs of its two tasks ask for.
-    fn message_right(&self, number: usize, link: &Link) -> bool {
+    /// Which end of a link does not fit the runs of its two tasks: the send first, then the receive,
+    /// then the order inside one processor.
+    fn message_fault(&self, number: usize, link: &Link) -> Option<u8> {
         let source = &self.runs[usize::from(link.source)];
         let target = &self.runs[usize::from(link.target)];
         let (send, receive) = (&self.sends[number], &self.receives[number]);
-        let times = (send.times, receive.times);
         if source.programme == target.programme {
-            times == (0, 0) && source.before(target)
-        } else {
-            times == (1, 1) && source.before(send) && receive.before(target)
+            return match (send.times, receive.times, source.before(target)) {
+                (0, 0, true) => None,
+                (0, 0, false) => Some(LOCAL_ORDER),
+                (0, _, _) => Some(WRONG_RECEIVE),
+                _ => Some(WRONG_SEND),
+            };
         }
+        if send.times != 1 || !source.before(send) {
+            return Some(WRONG_SEND);
+        }
+        (receive.times != 1 || !receive.before(target)).then_some(WRONG_RECEIVE)
     }
 
-    /// The store that each programme needs, where 26 and 27 do not apply.
+    /// The store that each programme needs, where 26 and 31 to 33 do not apply.
     fn stores(&self, sheet: &Sheet) -> [u32; MOST_PROCESSORS] {
         let mut need = [0; MOST_PROCESSORS];
         for (run, task) in self.runs.iter().zip(&sheet.tasks) {

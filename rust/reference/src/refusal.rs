@@ -54,14 +54,18 @@ pub const BUNDLE_TAIL: u8 = 24;
 pub const UNKNOWN_NUMBER: u8 = 25;
 /// A task is not run just once.
 pub const RUN_COUNT: u8 = 26;
-/// A link's messages do not fit the runs of its tasks.
-pub const MESSAGE: u8 = 27;
 /// A programme needs more store than there is.
 pub const OVER_STORE: u8 = 28;
 /// No processor can step, and commands are left.
 pub const STUCK: u8 = 29;
 /// The claim is not the latest clock.
 pub const WRONG_CLAIM: u8 = 30;
+/// A link's send does not fit the runs of its tasks.
+pub const WRONG_SEND: u8 = 31;
+/// A link's receive does not fit the runs of its tasks.
+pub const WRONG_RECEIVE: u8 = 32;
+/// Inside one processor a link's source runs after its target.
+pub const LOCAL_ORDER: u8 = 33;
 
 /// Whether a result of this length fits a lent output (12).
 pub fn room<T>(length: usize, out: &[T]) -> Result<(), Refusal> {

@@ -35,7 +35,7 @@ impl Refusal {
         }
     }
 
-    /// Its number in document 01: 1 to 13, or 21 to 30.
+    /// Its number in documents 01 and 02: 1 to 13, or 21 to 33 without 27.
     pub fn number(self) -> u8 {
         self.number
     }
@@ -45,7 +45,7 @@ impl Refusal {
         self.place
     }
 
-    /// Document 01's word for it.
+    /// The documents' word for it.
     pub fn word(self) -> &'static str {
         kinds::kind(self.number).map_or("unknown refusal", |kind| kind.word)
     }

@@ -162,7 +162,7 @@ impl WorkArea {
     }
 
     /// Starts the machine: every programme at its first command, clocks and stores in use 0, nothing
-    /// sent (26 to 28; 23 or 25 if the bundle was read for another sheet).
+    /// sent (26, 31 to 33 or 28; 23 or 25 if the bundle was read for another sheet).
     pub fn start<'a>(
         &mut self,
         sheet: &'a Sheet,

@@ -27,7 +27,7 @@ pub(crate) fn kind(number: u8) -> Option<&'static Kind> {
 }
 
 /// All of them; docs/FORMAT.md has the same sentences.
-pub(crate) static KINDS: [Kind; 23] = [
+pub(crate) static KINDS: [Kind; 25] = [
     Kind {
         number: 1,
         word: "cut sheet",
@@ -164,15 +164,6 @@ pub(crate) static KINDS: [Kind; 23] = [
         remedy: "Add the run that is missing, or remove those that are too many.",
     },
     Kind {
-        number: 27,
-        word: "message",
-        counts: Counts::Links,
-        cause:
-            "A link between two processors has one send, behind its source, and one receive, \
-                before its target; a link inside one processor has none, and its source runs first.",
-        remedy: "Put the send and the receive where the two tasks run, or the two runs in order.",
-    },
-    Kind {
         number: 28,
         word: "over store",
         counts: Counts::Processors,
@@ -194,6 +185,34 @@ pub(crate) static KINDS: [Kind; 23] = [
         counts: Counts::Time,
         cause: "The claimed time is not the time at which the last processor ends.",
         remedy: "Claim that time (in a text: claim auto).",
+    },
+    Kind {
+        number: 31,
+        word: "send",
+        counts: Counts::Links,
+        cause: "A link between two processors has one send, behind its source in its programme; a \
+                link inside one processor has none.",
+        remedy:
+            "Put one send behind the run of the link's source, or remove those that are too many.",
+    },
+    Kind {
+        number: 32,
+        word: "receive",
+        counts: Counts::Links,
+        cause:
+            "The send is right. A link between two processors has one receive, before its target \
+                in its programme; a link inside one processor has none.",
+        remedy:
+            "Put one receive before the run of the link's target, or remove those that are too \
+                 many.",
+    },
+    Kind {
+        number: 33,
+        word: "local order",
+        counts: Counts::Links,
+        cause:
+            "Both tasks of the link run on one processor, and its source runs behind its target.",
+        remedy: "Move the run of the source up, before the run of the target.",
     },
 ];
 
