@@ -38,9 +38,6 @@ fn closing(links: &[u16], tasks: usize) -> Reading
     if links.len() % 4 != 0 {
         return Reading::Refused(1, end);
     }
-    if tasks == 0 {
-        return Reading::Refused(9, end);
-    }
     Reading::Read
 }
 
