@@ -1,16 +1,16 @@
 -- A walk over the links into t: its starts, on one processor and on all, by the links below l.
 use Prim.Native.Nat.{ℕ, _+_, _≤_, _<_, max}
-use mathlib.Core.Bool.{true}
-use mathlib.Core.Path.{_≡_, refl, ap, ap₂, _∙_}
+use mathlib.Core.Bool.{true, false}
+use mathlib.Core.Path.{_≡_, refl, ap, ap₂, sym, _∙_}
 use mathlib.Core.Logic.{_≢_}
 use mathlib.Core.List.{List}
 use native.Mathlib.Omega.{arith}
-use borrow.Author.Tests.{eq-eqb, ne-eqb}
+use borrow.Author.Tests.{eq-eqb, ne-eqb, le-ltb}
 use lib.ListN.{getD}
 use lib.Dec.{eqb, ltb}
-use Rattle.folds.specs.Folds.{pick}
+use Rattle.folds.specs.Folds.{pick, greatest}
 use Rattle.folds.proofs.Tests.{pick-le}
-use Rattle.folds.proofs.Laws.{greatest-le}
+use Rattle.folds.proofs.Laws.{greatest-le, term-le-greatest}
 use Rattle.sheet.specs.Sheet.{Sheet, taskCount, linkCount, sourceOf, targetOf}
 use Rattle.sheet.specs.Times.{linkTime}
 use Rattle.sheet.specs.Tables.{Ranged}
@@ -44,6 +44,11 @@ module _ (s : Sheet) (σ : Schedule) (t : ℕ) where
   pub start-is : (k : ℕ) → startTo s σ t (linkCount s) k ≡ startOn s σ t k
   unfolding startTo startOn startFrom
   start-is k = refl
+
+  pub start-rises : (k : ℕ) {l : ℕ} → l ≤ linkCount s → startTo s σ t l k ≤ startOn s σ t k
+  unfolding startTo startOn startFrom
+  start-rises k {l} h =
+      omega (arith, greatest-le l (startBy s σ t k) (greatest (linkCount s) (startBy s σ t k)) (λ i m. term-le-greatest (linkCount s) (startBy s σ t k) i (omega arith)))
 
   module _ {w : List ℕ} (chained : Chained Target s w) (t-in : t < taskCount s) where
     pub start-first : {l : ℕ} → l ≡ headOf Target w t → l ≤ linkCount s → (k : ℕ) → endOf s σ k ≡ startTo s σ t l k
@@ -109,5 +114,10 @@ module _ {s : Sheet} {σ : Schedule} {w own : List ℕ} (c : Caches s σ w own) 
           start = ex ∙ ap₂ max (g .start) (ev ∙ ap (λ (u : ℕ). startBy s σ u k l) own) ∙ start-next s σ t (c .inward) t-in h own e more few k;
         }
 
-    pub wait-done : {n : ℕ} → n ≡ getD own t 0 → n ≤ i → x ≡ startOn s σ t k
-    wait-done e h = g .start ∙ ap (λ (n : ℕ). startTo s σ t n k) (walk-ended (c .inward) (c .gathered) t t-in (g .walk) e h) ∙ start-is s σ t k
+    -- it starts no earlier than by the links so far
+    pub wait-late : {limit : ℕ} → limit ≤ x → false ≡ ltb (startOn s σ t k) limit
+    wait-late {limit} h = sym (le-ltb (startOn s σ t k) limit (omega (arith, g .start, start-rises s σ t k (g .walk .here))))
+
+    pub wait-done : {n : ℕ} (limit : ℕ) → n ≡ getD own t 0 → n ≤ i → ltb x limit ≡ ltb (startOn s σ t k) limit
+    wait-done limit e h =
+        ap (λ (y : ℕ). ltb y limit) (g .start ∙ ap (λ (n : ℕ). startTo s σ t n k) (walk-ended (c .inward) (c .gathered) t t-in (g .walk) e h) ∙ start-is s σ t k)

@@ -3,7 +3,7 @@ ghost use mathlib.Core.Path.{_≡_};
 ghost use mathlib.Core.Bool.{true};
 ghost use Prim.Native.Nat.{_+_, _*_, _%_, _^_, _<_, _≤_, max};
 ghost use lib.ListN.{length, getD};
-ghost use lib.Dec.{eqb};
+ghost use lib.Dec.{eqb, ltb};
 ghost use Rattle.folds.specs.Folds.{pick};
 ghost use Rattle.sheet.specs.Sheet.{taskCount, linkCount, sourceOf, targetOf};
 ghost use Rattle.sheet.specs.Times.{linkTime};
@@ -277,22 +277,25 @@ fn start_by(w: &[u32], k: usize, l: usize) -> usize
     chosen(at < 16, schedule::finish(w, u) + c, 0)
 }
 
-// The start of t on k by its placed predecessors.
-pub fn start_on(w: &[u32], kept: &[u32], t: usize, k: usize) -> usize
+// By its placed predecessors t starts on k before a limit: the walk ends where it is told that it does not, which is mostly soon.
+pub fn starts_before(w: &[u32], kept: &[u32], t: usize, k: usize, limit: usize) -> bool
     requires { ⌜ Kept (now w) (now kept) ⌝ }
     requires { ⌜ (t < taskCount (sheetIn (now w))) × (k < 16) ⌝ }
-    ensures { λ r. ⌜ r ≡ startOn (sheetIn (now (w .entry))) (scheduleIn (now (w .entry))) t k ⌝ }
+    ensures { λ r. ⌜ r ≡ ltb (startOn (sheetIn (now (w .entry))) (scheduleIn (now (w .entry))) t k) limit ⌝ }
 {
     let n = workspace::word(kept, t);
     let mut start = workspace::word(kept, ENDS + k);
     let mut l = chains::first(w, End::Target, t);
     let mut i: usize = 0;
     while i < n {
+        if limit <= start {
+            return false;
+        }
         start = words::later(start, start_by(w, k, l));
         l = chains::next(w, End::Target, l);
         i += 1;
     }
-    start
+    start < limit
 }
 
 // Link l is gathered at its target.

@@ -1,6 +1,6 @@
 -- What the guard bars: before its arrival the first partly ready task u can start only where its latest message comes from, so that only
 -- there its best start can rise.
-use Prim.Native.Nat.{ℕ, zero, suc, _+_, _≤_, _<_, max}
+use Prim.Native.Nat.{ℕ, zero, suc, _+_, _≤_, _<_, max, min}
 use mathlib.Core.Path.{_≡_, refl, ap, sym, _∙_}
 use mathlib.Core.Logic.{_≢_, ⊎-elim}
 use mathlib.Core.Bool.{Bool, true, false, true≢false}
@@ -8,7 +8,7 @@ use mathlib.Core.Option.{Option, none, some}
 use mathlib.Core.List.{List}
 use native.Mathlib.Omega.{arith}
 use native.Mathlib.Decide.{decLt, ℕ-discrete}
-use borrow.Author.Tests.{lt-ltb, le-ltb, eq-eqb, ne-eqb, eqb-true}
+use borrow.Author.Tests.{lt-ltb, le-ltb, ltb-true, ltb-false, eq-eqb, ne-eqb, eqb-true}
 use lib.ListN.{getD}
 use lib.Dec.{eqb, ltb}
 use Rattle.folds.specs.Folds.{pick, both, greatest, prefer, leading, least}
@@ -235,28 +235,29 @@ module _ (w own : List ℕ) (kept : Kept w own) (u : ℕ) (h : u < taskCount (sh
       pub bars-busy : {x : ℕ} → x ≡ endOf s σ k → a ≤ x → BarsFor s σ t u 16
       bars-busy ex l = not-here (λ j m q. delays-late late t j (omega (arith, latest-is, end-le-start s σ u main, ap (endOf s σ) ek)))
 
-      module _ {best finish : ℕ} (eb : best ≡ startOn s σ u k) (ef : finish ≡ startOn s σ t k + workOf s t) where
-        best-main : best ≡ startOn s σ u main
-        best-main = eb ∙ ap (startOn s σ u) ek
+      module _ {finish limit : ℕ} {test : Bool} (ef : finish ≡ startOn s σ t k + workOf s t) (el : limit ≡ min a finish) (et : test ≡ ltb (startOn s σ u k) limit) where
+        best-main : startOn s σ u k ≡ startOn s σ u main
+        best-main = ap (startOn s σ u) ek
 
         finish-main : finish ≡ startOn s σ t main + workOf s t
         finish-main = ef ∙ ap (λ (j : ℕ). startOn s σ t j + workOf s t) ek
 
-        pub bars-late : a ≤ best → BarsFor s σ t u 16
-        bars-late l = not-here (λ j m q. delays-late late t j (omega (arith, latest-is, best-main)))
-
-        soon-main : best < a → startOn s σ u main < latest
-        soon-main l = omega (arith, latest-is, best-main)
-
-        pub bars-done : best < a → finish ≤ best → BarsFor s σ t u 16
-        bars-done l m = not-here (λ j n q. delays-done late t j (soon-main l) (omega (arith, best-main, finish-main)) q)
-
-        pub bars-here : best < a → best < finish → BarsFor s σ t u k
-        bars-here l m = record { is = λ j n p. go j (ℕ-discrete main j) }
+        -- u starts there by its arrival, or by t's finish
+        pub bars-past : test ≡ false → BarsFor s σ t u 16
+        bars-past e = not-here (λ j m q. go j q (ltb-false (startOn s σ u k) limit (sym et ∙ e)) (decLt (startOn s σ u main) latest))
           where
-            go : (j : ℕ) → Dec (main ≡ j) → eqb j k ≡ delays s σ t u j
-            go j (yes e) = eq-eqb j k (sym e ∙ sym ek) ∙ sym (delays-here late t j (soon-main l) (omega (arith, best-main, finish-main)) e)
-            go j (no e) = ne-eqb j k (λ x. e (sym ek ∙ sym x)) ∙ sym (delays-else late t j e)
+            go : (j : ℕ) → main ≡ j → limit ≤ startOn s σ u k → Dec (startOn s σ u main < latest) → delays s σ t u j ≡ false
+            go j q l (yes d) = delays-done late t j d (omega (arith, latest-is, best-main, finish-main)) q
+            go j q l (no d) = delays-late late t j (omega arith)
+
+        pub bars-here : test ≡ true → BarsFor s σ t u k
+        bars-here e = record { is = λ j n p. go j (ltb-true (startOn s σ u k) limit (sym et ∙ e)) (ℕ-discrete main j) }
+          where
+            go : (j : ℕ) → startOn s σ u k < limit → Dec (main ≡ j) → eqb j k ≡ delays s σ t u j
+            go j l (yes q) =
+                eq-eqb j k (sym q ∙ sym ek)
+                ∙ sym (delays-here late t j (omega (arith, latest-is, best-main)) (omega (arith, best-main, finish-main)) q)
+            go j l (no q) = ne-eqb j k (λ x. q (sym ek ∙ sym x)) ∙ sym (delays-else late t j q)
 
 -- the guard of a turn, by the first partly ready task
 module _ (s : Sheet) (σ : Schedule) (t : ℕ) {g : Found} (first : foundOf g ≡ firstPartlyReady s σ) where

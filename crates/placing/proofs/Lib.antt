@@ -5,3 +5,4 @@ pub mod Spent
 pub mod Due
 pub mod Guards
 pub mod Steps
+pub mod Joins

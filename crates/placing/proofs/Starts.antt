@@ -1,15 +1,15 @@
 -- What is kept gives starts and fits.
 use Prim.Native.Nat.{ℕ, _+_, _<_}
 use mathlib.Core.Bool.{Bool, true, false}
-use mathlib.Core.Path.{_≡_, refl, ap₂, sym, _∙_}
+use mathlib.Core.Path.{_≡_, refl, sym, _∙_}
 use mathlib.Core.List.{List}
 use native.Mathlib.Omega.{arith}
 use native.Mathlib.Decide.{decLt}
-use borrow.Author.Tests.{le-ltb, lt-leb, le-leb, ltb-false}
+use borrow.Author.Tests.{lt-leb, le-leb, ltb-false}
 use lib.ListN.{getD}
-use lib.Dec.{eqb, ltb, leb}
-use Rattle.folds.specs.Folds.{pick, both}
-use Rattle.folds.proofs.Laws.{sum-zeros, any-ltb}
+use lib.Dec.{eqb, leb}
+use Rattle.folds.proofs.Laws.{none-any, term-le-sum}
+use Rattle.folds.proofs.Tests.{both-parts}
 use Rattle.sheet.specs.Sheet.{Sheet, linkCount, sourceOf, targetOf, storeOf}
 use Rattle.sheet.specs.Tables.{sheetIn}
 use Rattle.planner.specs.Schedule.{Schedule, put, placed, stands, placeOf}
@@ -43,7 +43,7 @@ placeable w own t k c k-in =
 pub start-small : (w own : List ℕ) (t k : ℕ) → Choosing w own t → startOn (sheetIn w) (scheduleIn w) t k < 4294967296
 start-small w own t k c = omega (arith, start-early (sheetIn w) (scheduleIn w) t (c .kept .ranged) 33553920 (λ u. c .early .early u) k)
 
--- k holds a predecessor of t if a link comes from it
+-- k from which no link leads to t holds no predecessor of it
 module _ (w own : List ℕ) (t k : ℕ) (c : Choosing w own t) (k-in : k < 16) where
   abbrev s : Sheet
   s = sheetIn w
@@ -51,20 +51,17 @@ module _ (w own : List ℕ) (t k : ℕ) (c : Choosing w own t) (k-in : k < 16) w
   abbrev σ : Schedule
   σ = scheduleIn w
 
-  pub holds-is : {n : ℕ} → n ≡ getD own (turnLinksFrom + k) 0 → ltb 0 n ≡ holdsPredecessor s σ t k
-  unfolding holdsPredecessor holdsBy countedBy
-  holds-is en =
-      ap₂ ltb (sym (sum-zeros (linkCount s) (λ l. 0) (λ l h. refl))) (en ∙ c .surveyed .number k k-in)
-      ∙ any-ltb (linkCount s) (λ l. 0) (countedBy (intoFrom s σ t k) oneBy (known s σ)) (holdsBy s σ t k) (λ l h. omega arith)
-      (λ l h. is (eqb (targetOf s l) t) (stands σ (sourceOf s l) k) (placed σ (sourceOf s l)) (stands-placed σ k k-in (sourceOf s l)))
-    where
-      is : (a b p : Bool) → (b ≡ true → p ≡ true) → both a b ≡ ltb 0 (pick (both (both a b) p) 1 0)
-      is true true p f = rw (f refl)
-      is true false p f = refl
-      is false b p f = refl
+  held-one : (l : ℕ) → holdsBy s σ t k l ≡ true → countedBy (intoFrom s σ t k) oneBy (known s σ) l ≡ 1
+  unfolding holdsBy countedBy
+  held-one l q = rw (q, stands-placed σ k k-in (sourceOf s l) (both-parts (eqb (targetOf s l) t) (stands σ (sourceOf s l) k) q .1))
 
   pub holds-none : {n : ℕ} → n ≡ getD own (turnLinksFrom + k) 0 → n ≡ 0 → holdsPredecessor s σ t k ≡ false
-  holds-none {n} en e = sym (holds-is en) ∙ le-ltb 0 n (omega arith)
+  unfolding holdsPredecessor
+  holds-none en e = none-any (linkCount s) (holdsBy s σ t k) (λ l h. go l h (holdsBy s σ t k l) refl)
+    where
+      go : (l : ℕ) → l < linkCount s → (b : Bool) → holdsBy s σ t k l ≡ b → holdsBy s σ t k l ≡ false
+      go l h true q = absurd (omega (arith, held-one l q, term-le-sum (linkCount s) (countedBy (intoFrom s σ t k) oneBy (known s σ)) l h, c .surveyed .number k k-in))
+      go l h false q = q
 
 -- t fits k: what is kept of k's store and of t's links, against the limit and what is on k already
 pub fits-kept : (w own : List ℕ) (t k : ℕ) → Choosing w own t → k < 16 → {x y z v m : ℕ} → x ≡ getD own (storesFrom + k) 0 → y ≡ storeOf (sheetIn w) t → z ≡ getD own (bytesFrom + t) 0 → m ≡ sheetIn w .limit

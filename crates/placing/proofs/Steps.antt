@@ -31,14 +31,16 @@ module _ (s : Sheet) (σ : Schedule) (t : ℕ) where
   guard = barred s
 
   module _ (k : ℕ) where
-    pub join-key-is : {x a bars r : ℕ} {held fit both-hold early may : Bool} → k < 16 → Bars s σ t bars → held ≡ holdsPredecessor s σ t k → x ≡ startOn s σ t k → a ≡ arrival s σ t → fit ≡ fits s σ t k → both-hold ≡ both held fit
-        → early ≡ both (not (eqb k bars)) (ltb x a) → may ≡ both both-hold early → r ≡ pick may (lowKey x k) 0 → r ≡ joinKey s σ t k
+    pub join-key-is : {x a bars r : ℕ} {fit early may : Bool} → k < 16 → Bars s σ t bars → holdsPredecessor s σ t k ≡ true → x ≡ startOn s σ t k → a ≡ arrival s σ t → fit ≡ fits s σ t k → early ≡ both (not (eqb k bars)) (ltb x a)
+        → may ≡ both fit early → r ≡ pick may (lowKey x k) 0 → r ≡ joinKey s σ t k
     unfolding mayJoin joinKey
-    join-key-is {x} {a} {bars} {r} {held} {fit} h b eh ex ea ef eb ee em er = er ∙ ap₂ (λ (m : Bool) (y : ℕ). pick m (lowKey y k) 0) (em ∙ ap₂ both eb ee ∙ go held refl) ex
-      where
-        go : (q : Bool) → held ≡ q → both (both held fit) (both (not (eqb k bars)) (ltb x a)) ≡ both (both (holdsPredecessor s σ t k) (fits s σ t k)) (both (not (barred s σ t k)) (ltb (startOn s σ t k) (arrival s σ t)))
-        go true e = ap₂ both (ap₂ both eh ef) (ap₂ both (ap not (b .is k h (sym eh ∙ e))) (ap₂ ltb ex ea))
-        go false e = rw (e, ← eh, e)
+    join-key-is {x} {a} {bars} h b held ex ea ef ee em er =
+        er ∙ rw held (ap₂ (λ (m : Bool) (y : ℕ). pick m (lowKey y k) 0) (em ∙ ap₂ both ef (ee ∙ ap₂ both (ap not (b .is k h held)) (ap₂ ltb ex ea))) ex)
+
+    -- 0 where k holds no predecessor
+    pub join-none : holdsPredecessor s σ t k ≡ false → joinKey s σ t k ≡ 0
+    unfolding mayJoin joinKey
+    join-none e = rw e
 
     pub idle-late : {x a : ℕ} → x ≡ endOf s σ k → a ≡ arrival s σ t → a < x → 0 ≡ idleKey s σ t k
     unfolding mayTake idleKey

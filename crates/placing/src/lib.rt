@@ -210,12 +210,9 @@ fn bars_on(w: &[u32], kept: &[u32], t: usize, starts: Starts, u: usize, a: usize
     requires { ⌜ (k ≡ getD (now kept) (sendersFrom + u) 0) × (k < 16) ⌝ }
     ensures { λ r. ⌜ BarsFor (sheetIn (now (w .entry))) (scheduleIn (now (w .entry))) t u r ⌝ }
 {
-    let best = arrivals::start_on(w, kept, u, k);
     let finish = workspace::wide(starts.at[k]) + tables::work(w, t);
-    if best < a {
-        if best < finish {
-            return k;
-        }
+    if arrivals::starts_before(w, kept, u, k, words::smaller(a, finish)) {
+        return k;
     }
     16
 }
@@ -257,34 +254,34 @@ fn guard_of(w: &[u32], kept: &[u32], q: &[u64], t: usize, starts: Starts) -> usi
     }
 }
 
-// The key of k in step 1; a is t's arrival, x its start on k, and the guard bars one processor. k holds a predecessor of t if a link
-// comes from it.
+// The key of k, which holds a predecessor of t, in step 1; a is t's arrival, x its start on k, and the guard bars one processor.
 fn join_key(w: &[u32], kept: &[u32], t: usize, bars: usize, a: usize, k: usize, x: usize) -> usize
     requires { ⌜ Choosing (now w) (now kept) t ⌝ }
-    requires { ⌜ (a ≡ arrival (sheetIn (now w)) (scheduleIn (now w)) t) × (k < 16) ⌝ }
+    requires { ⌜ (a ≡ arrival (sheetIn (now w)) (scheduleIn (now w)) t) × (k < 16) × (holdsPredecessor (sheetIn (now w)) (scheduleIn (now w)) t k ≡ true) ⌝ }
     requires { ⌜ Bars (sheetIn (now w)) (scheduleIn (now w)) t bars × (x ≡ startOn (sheetIn (now w)) (scheduleIn (now w)) t k) × (x < 4294967296) ⌝ }
     ensures { λ r. ⌜ r ≡ joinKey (sheetIn (now (w .entry))) (scheduleIn (now (w .entry))) t k ⌝ }
 {
-    let held = 0 < workspace::word(kept, arrivals::TURN_LINKS + k);
     let early = are_both(k != bars, x < a);
-    let fit = are_both(held, fits_on(w, kept, t, k));
-    low_key(are_both(fit, early), x, k)
+    low_key(are_both(fits_on(w, kept, t, k), early), x, k)
 }
 
-// Step 1: join.
+// Step 1: join. Only where t's links come from, which are mostly fewer than the processors.
 fn join_on(w: &[u32], kept: &[u32], t: usize, starts: Starts, bars: usize, a: usize) -> Found
     requires { ⌜ Choosing (now w) (now kept) t × Started (now w) t starts ⌝ }
     requires { ⌜ a ≡ arrival (sheetIn (now w)) (scheduleIn (now w)) t ⌝ }
     requires { ⌜ Bars (sheetIn (now w)) (scheduleIn (now w)) t bars ⌝ }
     ensures { λ r. ⌜ (foundOf r ≡ join (sheetIn (now (w .entry))) (barred (sheetIn (now (w .entry)))) (scheduleIn (now (w .entry))) t) × Below 16 r ⌝ }
 {
-    let n = schedule::opened(w);
+    let n = workspace::word(kept, t);
+    let mut l = chains::first(w, End::Target, t);
     let mut best: usize = 0;
-    let mut k: usize = 0;
-    while k < n {
+    let mut i: usize = 0;
+    while i < n {
+        let k = schedule::place(w, tables::source(w, l));
         let x = workspace::wide(starts.at[k]);
         best = words::later(best, join_key(w, kept, t, bars, a, k, x));
-        k += 1;
+        l = chains::next(w, End::Target, l);
+        i += 1;
     }
     processor_of(best)
 }
