@@ -82,18 +82,25 @@ impl Function {
     }
 }
 
-/// Every number that an answer can have.
-const NUMBERS: std::ops::RangeInclusive<u8> = 0..=33;
+/// The greatest number of a refusal, and every number that an answer can have.
+const GREATEST: u8 = 33;
+const NUMBERS: std::ops::RangeInclusive<u8> = 0..=GREATEST;
 
 /// The rules that give a task its processor: the four steps, and the guard where it bars the
 /// processor that the task would have joined.
 const RULES: [&str; 5] = ["join", "idle", "open", "last resort", "the guard"];
 
 /// The counts of answers, by function and number, and of turns by the rule that decided.
-#[derive(Clone, Default)]
+#[derive(Clone)]
 pub struct Tally {
-    counts: [[usize; 34]; FUNCTIONS.len()],
+    counts: [[usize; GREATEST as usize + 1]; FUNCTIONS.len()],
     rules: [usize; RULES.len()],
+}
+
+impl Default for Tally {
+    fn default() -> Self {
+        Tally { counts: [[0; GREATEST as usize + 1]; FUNCTIONS.len()], rules: [0; RULES.len()] }
+    }
 }
 
 impl Tally {
