@@ -55,7 +55,7 @@ fn header_and_documents_have_the_length() {
     for (name, sentence) in [
         ("docs/INTERFACE.md", format!("at least **{words} words** ({bytes} bytes)")),
         ("docs/INTERFACE.md", format!("refused with 13, whose place is {words},")),
-        ("docs/DECISIONS.md", format!("\n**{words} words.** ")),
+        ("docs/DECISIONS.md", format!("\n**{words} words**")),
     ] {
         assert!(file(name).contains(&sentence), "{name}: {sentence}");
     }
