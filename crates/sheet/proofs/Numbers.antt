@@ -1,4 +1,4 @@
--- The form of a sheet is refused with 1 to 9.
+-- The form of a sheet is refused with 1 to 8.
 use Prim.Native.Nat.{ℕ, _+_, _≤_}
 use mathlib.Core.Bool.{Bool, true, false}
 use mathlib.Core.Option.{some}

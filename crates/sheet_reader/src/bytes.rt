@@ -296,7 +296,7 @@ fn walk(bytes: &[u8], w: &mut [u32]) -> Reading
     rest(bytes, at + 7 * links, w, tasks, links)
 }
 
-// Reads any bytes as a sheet: the first of refusals 1 to 9, or the sheet in the tables.
+// Reads any bytes as a sheet: the first of refusals 1 to 8, or the sheet in the tables.
 pub fn read(bytes: &[u8], w: &mut [u32]) -> Reading
     requires { ⌜ fixed ≤ length (now w) ⌝ }
     ensures { λ r. ⌜ ReadIs (readForm (now (bytes .entry))) (now (w .entry)) (now (w .exit)) r ⌝ }

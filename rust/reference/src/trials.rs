@@ -101,11 +101,12 @@ pub fn k9_and_k10() -> Vec<(String, Vec<u8>)> {
     sheets
 }
 
-/// The sheets of the program `trials` by name: K9, K10 and each figure.
+/// The sheets of the program `trials` by name: K9, K10, a bare board and each figure.
 pub fn named() -> Vec<(String, Vec<u8>)> {
     let figures = figures::all().into_iter();
     let figures = figures.map(|figure| (figure.name.to_string(), figure.sheet().to_bytes()));
-    k9_and_k10().into_iter().chain(figures).collect()
+    let bare = [("bare".to_string(), bare_sheet())];
+    k9_and_k10().into_iter().chain(bare).chain(figures).collect()
 }
 
 /// What the program `trials` reads: for each sheet the name's length (u8), the name, the sheet's
