@@ -37,7 +37,6 @@ enum zeldrupa_refusal {
     ZELDRUPA_RANGE = 6,
     ZELDRUPA_LOOSE_LINK = 7,
     ZELDRUPA_DOUBLED_LINK = 8,
-    ZELDRUPA_BARE_SHEET = 9,
     ZELDRUPA_LOOP = 10,            /* the lowest task on a circle */
     ZELDRUPA_NO_STORE = 11,        /* that task */
     ZELDRUPA_SHORT_OUTPUT = 12,    /* the length needed */
@@ -86,7 +85,8 @@ uint8_t zeldrupa_write_bundle(const uint8_t *sheet, size_t sheet_length, const u
 uint8_t zeldrupa_check(const uint8_t *sheet, size_t sheet_length, const uint8_t *bundle, size_t bundle_length,
                        uint32_t *work, size_t work_length, uint64_t *place);
 
-/* Plans a sheet and writes the bundle, which zeldrupa_check accepts. *place is the number of bytes. */
+/* Plans a sheet and writes the bundle, which zeldrupa_check accepts. *place is the number of bytes: 5 for a
+ * bare board, a sheet without tasks. */
 uint8_t zeldrupa_plan(const uint8_t *sheet, size_t sheet_length, uint32_t *work, size_t work_length,
                       uint8_t *out, size_t out_length, uint64_t *place);
 

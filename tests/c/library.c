@@ -1,4 +1,5 @@
-/* The library from C: each of its functions on the trial sheet K1, and refusals with number and place. */
+/* The library from C: each of its functions on the trial sheet K1 and on a bare board, and refusals with number
+ * and place. */
 
 #include <stdio.h>
 #include <string.h>
@@ -128,6 +129,41 @@ static void refusals(void)
             ZELDRUPA_WORK_LENGTH);
 }
 
+/* A board with no jobs yet: seven bytes, a plan of five, and nobody who can step. */
+static void bare_board(void)
+{
+    static const uint8_t bare[] = {0x4D, 3, 100, 0, 0, 0, 0x51}, claim_0[] = {0x5A, 0, 0, 0, 0};
+    static const uint8_t empty[] = {0x50, 0, 0x50, 1, 0x5A, 0, 0, 0, 0}, claim_1[] = {0x5A, 1, 0, 0, 0};
+    static const char lines[] = "PLAN 0 0\n";
+    uint16_t tasks[2], links[4], commands[4];
+    uint32_t board[4], levels[1], claim, processor[3];
+    uint8_t out[16];
+    ANSWERS(zeldrupa_read_sheet(LENT(bare), WORK, tasks, 0, links, 0, board, &place), 0, 0);
+    EXPECT(board[0] == 3 && board[1] == 100 && board[2] == 0 && board[3] == 0);
+    ANSWERS(zeldrupa_write_sheet(3, 100, tasks, 0, links, 0, WORK, LENT(out), &place), 0, sizeof bare);
+    EXPECT(memcmp(out, bare, sizeof bare) == 0);
+    ANSWERS(zeldrupa_levels(LENT(bare), WORK, levels, 0, &place), 0, 0);
+    ANSWERS(zeldrupa_plan(LENT(bare), WORK, LENT(out), &place), 0, sizeof claim_0);
+    EXPECT(memcmp(out, claim_0, sizeof claim_0) == 0);
+    ANSWERS(zeldrupa_plan(LENT(bare), WORK, out, 4, &place), ZELDRUPA_SHORT_OUTPUT, sizeof claim_0);
+    ANSWERS(zeldrupa_listing(LENT(bare), WORK, LENT(out), &place), 0, sizeof lines - 1);
+    EXPECT(memcmp(out, lines, sizeof lines - 1) == 0);
+    ANSWERS(zeldrupa_read_bundle(LENT(bare), LENT(empty), WORK, LENT(commands), &claim, &place), 0, 4);
+    EXPECT(claim == 0 && commands[0] == 0x50 && commands[1] == 0 && commands[2] == 0x50 && commands[3] == 1);
+    ANSWERS(zeldrupa_write_bundle(LENT(bare), commands, 0, 0, WORK, LENT(out), &place), 0, sizeof claim_0);
+    EXPECT(memcmp(out, claim_0, sizeof claim_0) == 0);
+    ANSWERS(zeldrupa_check(LENT(bare), LENT(claim_0), WORK, &place), 0, 0);
+    ANSWERS(zeldrupa_check(LENT(bare), LENT(empty), WORK, &place), 0, 0);
+    ANSWERS(zeldrupa_check(LENT(bare), LENT(claim_1), WORK, &place), ZELDRUPA_WRONG_CLAIM, 0);
+    ANSWERS(zeldrupa_check(LENT(bare), claim_0, 4, WORK, &place), ZELDRUPA_CUT_BUNDLE, 0);
+    ANSWERS(zeldrupa_check(SHEET, LENT(claim_0), WORK, &place), ZELDRUPA_BUNDLE_OUT_OF_TURN, 0);
+    ANSWERS(zeldrupa_start(LENT(bare), LENT(claim_0), WORK, STATE, &place), 0, 0);
+    ANSWERS(zeldrupa_step(LENT(bare), LENT(claim_0), STATE, 0, &place), 0, 0);
+    ANSWERS(zeldrupa_left(LENT(claim_0), STATE, &place), 0, 0);
+    ANSWERS(zeldrupa_processor(LENT(claim_0), STATE, 0, processor, &place), 0, 0);
+    EXPECT(processor[0] == 0 && processor[1] == 0 && processor[2] == 0);
+}
+
 int main(int count, char **arguments)
 {
     const char *folder = count > 1 ? arguments[1] : "examples";
@@ -140,6 +176,7 @@ int main(int count, char **arguments)
         machine();
         never_started();
         refusals();
+        bare_board();
     }
     printf("C: %d failures\n", failures);
     return failures != 0;

@@ -173,7 +173,7 @@ module _ (s : Sheet) (proper : Proper s) {φ : Schedule} {ts : List ℕ} (how : 
       record {
         formed =
             record {
-              busy = omega (arith, programmes, plan .fair .home 0 (complete 0 (proper .form .some)));
+              busy = λ some. omega (arith, programmes, plan .fair .home 0 (complete 0 some));
               few = omega (arith, programmes, plan .fair .opened);
               known = each-listed (Each (Known s)) (φ .opened) (programme s φ) (λ k h. subst (λ o. Each (Known s) (blocks s φ k o)) (sym (plan .order)) (known-blocks k ts (each-below how)));
             };

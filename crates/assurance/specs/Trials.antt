@@ -1,4 +1,4 @@
--- The starred trial sheets of document 01, K1 to K8, as one statement about the definitions, which compute them.
+-- The starred trial sheets of document 01, K1 to K8, and a bare board, as one statement about the definitions, which compute them.
 use Prim.Native.Nat.{ℕ}
 use mathlib.Core.Bool.{Bool, true, false}
 use mathlib.Core.Option.{Option, none, some}
@@ -98,6 +98,16 @@ bundleK6 =
 abbrev pub k8 : List Link → Sheet
 k8 ls = record { processors = 2; limit = 0; tasks = task 1 0 ∷ task 1 0 ∷ task 1 0 ∷ []; links = ls }
 
+-- a board with no jobs yet, its plan, and "PLAN 0 0"
+abbrev pub bare : Sheet
+bare = record { processors = 2; limit = 0; tasks = []; links = [] }
+
+abbrev pub bundleBare : ℕ → List ℕ
+bundleBare c = 0x5A ∷ c ∷ 0x00 ∷ 0x00 ∷ 0x00 ∷ []
+
+abbrev pub listingBare : List ℕ
+listingBare = 0x50 ∷ 0x4C ∷ 0x41 ∷ 0x4E ∷ 0x20 ∷ 0x30 ∷ 0x20 ∷ 0x30 ∷ 0x0A ∷ []
+
 pub record Trials : Type 0 where
   pub k1-read : readSheet (sheetBytes k1) ≡ value k1
   pub k1-levels : levels (sheetBytes k1) ≡ value (5 ∷ 3 ∷ 2 ∷ 7 ∷ [])
@@ -122,6 +132,19 @@ pub record Trials : Type 0 where
   pub k7-claim : check (sheetBytes k1) (bundleK 6) ≡ refused 30 5
   pub k8-self : readSheet (sheetBytes (k8 (link 0 0 0 0 ∷ []))) ≡ refused 10 0
   pub k8-circle : readSheet (sheetBytes (k8 (link 0 1 0 0 ∷ link 1 2 0 0 ∷ link 2 1 0 0 ∷ []))) ≡ refused 10 1
+  pub bare-read : readSheet (sheetBytes bare) ≡ value bare
+  pub bare-levels : levels (sheetBytes bare) ≡ value []
+  pub bare-bundle : plan (sheetBytes bare) ≡ value (bundleBare 0)
+  pub bare-listing : listing (sheetBytes bare) ≡ listingBare
+  pub bare-accepted : check (sheetBytes bare) (bundleBare 0) ≡ value (record { programmes = []; claim = 0 })
+  -- as many empty programmes as processors, and one more
+  pub bare-idle : check (sheetBytes bare) (0x50 ∷ 0 ∷ 0x50 ∷ 1 ∷ bundleBare 0) ≡ value (record { programmes = [] ∷ [] ∷ []; claim = 0 })
+  pub bare-crowded : check (sheetBytes bare) (0x50 ∷ 0 ∷ 0x50 ∷ 1 ∷ 0x50 ∷ 2 ∷ bundleBare 0) ≡ refused 23 4
+  pub bare-claim : check (sheetBytes bare) (bundleBare 1) ≡ refused 30 0
+  pub bare-cut : check (sheetBytes bare) (0x5A ∷ []) ≡ refused 21 0
+  pub bare-run : check (sheetBytes bare) (0x52 ∷ 0 ∷ bundleBare 0) ≡ refused 23 0
+  -- on a sheet with tasks a claim has a programme before it
+  pub claim-first : check (sheetBytes k1) (bundleBare 0) ≡ refused 23 0
 
 pub trials : Trials
 unfolding all any sum greatest first leading least listed gather numberAt judge readFrom readAll taskCount linkCount workOf storeOf sourceOf targetOf costOf bytesOf joinsBy joins readForm sheetBytes reachesBy reaches onCircle circle levelBy levelWithin level readSheet programmeCount programmeOf readBundle bundleBytes weigh wholeOf whole is notOnce holds home before inside sendFault receiveFault orderFault messageFault overStore at26 atMessage at28 firstWith processorOf stampOf next stated stepIn step canStep clockOf latest settle settled unfinished at29 at30 closing checked check placeOf startOf finishOf placed stands comes lacks satisfied ready partlyReady arrivalBy arrival priority ahead firstReady firstPartlyReady endBy endOf startBy startFrom startOn storeBy bytesBy storeOn fits holdsBy holdsPredecessor startWith bestStart endsWith delays barred followsBy follows spentBy spent mayJoin join mayTake idle another lastResort choice turn turns plannedBy planned brings takesAway receiveOf sendOf blockOf blocks programme claimOf bundleOf plan decimalWithin decimal planLine taskLine refusalLine scheduleLines listing sheets.fault sheets.ended bundles.fault bundles.ended
@@ -147,4 +170,15 @@ trials =
       k7-claim = refl;
       k8-self = refl;
       k8-circle = refl;
+      bare-read = refl;
+      bare-levels = refl;
+      bare-bundle = refl;
+      bare-listing = refl;
+      bare-accepted = refl;
+      bare-idle = refl;
+      bare-crowded = refl;
+      bare-claim = refl;
+      bare-cut = refl;
+      bare-run = refl;
+      claim-first = refl;
     }

@@ -10,7 +10,7 @@ use borrow.Author.Tests.{ne-eqb, eqb-true}
 use lib.ListN.{length, getD, drop, length-drop, replicate, length-replicate}
 use lib.Seq.{getD-drop}
 use lib.Dec.{eqb, ltb, leb}
-use Rattle.folds.specs.Folds.{either, firstOf}
+use Rattle.folds.specs.Folds.{both, either, firstOf}
 use Rattle.folds.proofs.Tests.{either-none}
 use Rattle.numbers.specs.Number.{numberAt}
 use Rattle.numbers.proofs.Laws.{numberAt-drop}
@@ -39,7 +39,7 @@ module _ (m n : ℕ) (b : List ℕ) (at : ℕ) where
   unfolding faultBelow
   fault-receive = refl
 
-  pub fault-claim : faultBelow m n claiming (drop (at + 1) b) ≡ firstOf ((eqb n 0, 23) ∷ (ltb (length b - (at + 1)) 4, 21) ∷ [])
+  pub fault-claim : faultBelow m n claiming (drop (at + 1) b) ≡ firstOf ((both (ltb 0 m) (eqb n 0), 23) ∷ (ltb (length b - (at + 1)) 4, 21) ∷ [])
   unfolding faultBelow
   fault-claim = simp length-drop
 
@@ -72,7 +72,7 @@ fault-sized z ps n e opening b = rw (e, z .processors)
 fault-sized z ps n e running b = rw (e, z .tasks)
 fault-sized z ps n e sending b = rw (e, z .links)
 fault-sized z ps n e receiving b = rw (e, z .links)
-fault-sized z ps n e claiming b = rw e
+fault-sized z ps n e claiming b = rw (e, z .tasks)
 
 verdict-sized : (s : Sheet) (p t l : ℕ) (k : Kind) (o : Option ℕ) → verdict (bundleFormat s) k o ≡ verdict (countFormat p t l) k o
 verdict-sized s p t l k none = refl

@@ -12,7 +12,7 @@ use Rattle.folds.specs.Answers.{value, refused}
 use Rattle.folds.proofs.Firsts.{firstOf-between}
 use Rattle.numbers.specs.Number.{numberAt}
 use Rattle.commands.proofs.Reading.{Told, told-value, told-refused, reads-told}
-use Rattle.sheet.specs.Sheet.{Sheet}
+use Rattle.sheet.specs.Sheet.{Sheet, taskCount}
 use Rattle.bundle.specs.Bundle.{Command, Bundle}
 use Rattle.bundle.specs.Format.{Kind, width, inside, wrongNumber, unknown, fault, ended, bundleFormat, readBundle}
 
@@ -21,7 +21,7 @@ module _ (s : Sheet) where
   unfolding fault
   fault-told ps k b r =
       firstOf-between 21 25 r
-      ((both (inside k) (eqb (length ps) 0), 23) ∷
+      ((both (inside (taskCount s) k) (eqb (length ps) 0), 23) ∷
       (ltb (length b) (width k), 21) ∷ (wrongNumber s (length ps) k b, 23) ∷ (unknown s k b, 25) ∷ [])
       ((omega arith, omega arith), ((omega arith, omega arith), ((omega arith, omega arith), ((omega arith, omega arith), tt))))
 

@@ -5,7 +5,7 @@ use mathlib.Core.Bool.{true, false, not, false≢true, true≢false}
 use mathlib.Core.Option.{none, some}
 use mathlib.Core.List.{List, [], _∷_, _++_}
 use native.Mathlib.Omega.{arith}
-use borrow.Author.Tests.{eqb-true, eqb-false, leb-false, not-false}
+use borrow.Author.Tests.{eqb-true, eqb-false, leb-false, not-false, lt-ltb}
 use lib.ListN.{length, getD, take, drop, length-append}
 use lib.Dec.{eqb}
 use Rattle.folds.proofs.Tests.{either-none, not-some}
@@ -49,8 +49,8 @@ module _ (s : Sheet) (ps : List (List Command)) (b : List ℕ) where
   pub receive-facts : Clear s ps receiving b → (0 < length ps) × (2 ≤ length b) × (numberAt 2 b 0 < linkCount s)
   receive-facts c = (omega (arith, eqb-false (length ps) 0 (c .busy)), c .room, leb-false (linkCount s) (numberAt 2 b 0) (c .declared))
 
-  pub claim-facts : Clear s ps claiming b → (0 < length ps) × (4 ≤ length b)
-  claim-facts c = (omega (arith, eqb-false (length ps) 0 (c .busy)), c .room)
+  pub claim-facts : Clear s ps claiming b → (0 < taskCount s → 0 < length ps) × (4 ≤ length b)
+  claim-facts c = (λ h. let e : eqb (length ps) 0 ≡ false = rw (lt-ltb 0 (taskCount s) h) at (c .busy) in omega (arith, eqb-false (length ps) 0 e), c .room)
 
 pub length-within : (ps : List (List Command)) (c : Command) → length (within ps c) ≡ length ps
 length-within [] c = refl

@@ -5,7 +5,8 @@ use mathlib.Core.Bool.{Bool, false}
 use mathlib.Core.Option.{Option, none, some}
 use mathlib.Core.List.{List, [], _∷_, _++_}
 use native.Mathlib.Omega.{arith}
-use borrow.Author.Tests.{ne-eqb, eq-eqb, lt-leb, le-ltb, ltb-false}
+use native.Mathlib.Decide.{decLt}
+use borrow.Author.Tests.{ne-eqb, eq-eqb, lt-leb, le-ltb, lt-ltb, ltb-false}
 use lib.ListN.{length, getD}
 use lib.Dec.{eqb, ltb}
 use Rattle.folds.specs.Folds.{both}
@@ -25,14 +26,14 @@ use Rattle.folds.proofs.Firsts.{firstOf-none, none-firstOf}
 module _ (s : Sheet) (ps : List (List Command)) where
   -- what a command that nothing refuses satisfies
   pub record Clear (k : Kind) (b : List ℕ) : Type 0 where
-    pub busy : both (inside k) (eqb (length ps) 0) ≡ false
+    pub busy : both (inside (taskCount s) k) (eqb (length ps) 0) ≡ false
     pub room : width k ≤ length b
     pub numbered : wrongNumber s (length ps) k b ≡ false
     pub declared : unknown s k b ≡ false
 
   abbrev tests : Kind → List ℕ → List (Bool × ℕ)
   tests k b =
-      (both (inside k) (eqb (length ps) 0), 23) ∷
+      (both (inside (taskCount s) k) (eqb (length ps) 0), 23) ∷
       (ltb (length b) (width k), 21) ∷ (wrongNumber s (length ps) k b, 23) ∷ (unknown s k b, 25) ∷ []
 
   pub clear-none : (k : Kind) (b : List ℕ) → Clear k b → fault s ps k b ≡ none
@@ -73,8 +74,12 @@ module _ (s : Sheet) (ps : List (List Command)) where
   clear-receive b n l h =
       record { busy = ne-eqb (length ps) 0 (omega arith); room = l; numbered = refl; declared = lt-leb (linkCount s) (numberAt 2 b 0) h }
 
-  pub clear-claim : (b : List ℕ) → 0 < length ps → 4 ≤ length b → Clear claiming b
-  clear-claim b n l = record { busy = ne-eqb (length ps) 0 (omega arith); room = l; numbered = refl; declared = refl }
+  pub clear-claim : (b : List ℕ) → (0 < taskCount s → 0 < length ps) → 4 ≤ length b → Clear claiming b
+  clear-claim b n l = record { busy = by (decLt 0 (taskCount s)); room = l; numbered = refl; declared = refl }
+    where
+      by : Dec (0 < taskCount s) → both (ltb 0 (taskCount s)) (eqb (length ps) 0) ≡ false
+      by (yes h) = rw (lt-ltb 0 (taskCount s) h, ne-eqb (length ps) 0 (let g = n h in omega arith))
+      by (no h) = rw (le-ltb 0 (taskCount s) (omega arith))
 
 module _ (s : Sheet) {w : Answer Bundle} {ps : List (List Command)} {e : ℕ} where
   -- reading on behind a command of the bytes of a bundle
@@ -112,7 +117,7 @@ module _ (s : Sheet) {w : Answer Bundle} {ps : List (List Command)} {e : ℕ} wh
   on-command (receive x) b g n m h = (e + 3, on-receive x b g n (omega arith) h)
 
   -- the claim ends it
-  pub on-claim : (x : ℕ) → Going (bundleFormat s) w ps e (claimBytes x) → 0 < length ps → x < 4294967296 → w ≡ value (record { programmes = ps; claim = x })
+  pub on-claim : (x : ℕ) → Going (bundleFormat s) w ps e (claimBytes x) → (0 < taskCount s → 0 < length ps) → x < 4294967296 → w ≡ value (record { programmes = ps; claim = x })
   unfolding ended
   on-claim x g n m =
       let q : numberAt 4 (numberBytes 4 x) 0 ≡ x = number-of-bytes 4 x [] m in

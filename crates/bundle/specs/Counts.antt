@@ -20,7 +20,7 @@ pub record Sized (s : Sheet) (p t l : ℕ) : Type 0 where
   pub tasks : taskCount s ≡ t
   pub links : linkCount s ≡ l
 
--- what refuses a command whose operand has to be below m
+-- what refuses a command whose operand has to be below m, and a claim of a sheet with m tasks
 abbrev wrongBelow : ℕ → ℕ → Kind → List ℕ → Bool
 wrongBelow m n opening b = either (not (eqb (getD b 0 0) n)) (leb m (getD b 0 0))
 wrongBelow m n running b = false
@@ -37,7 +37,7 @@ unknownBelow m claiming b = false
 
 unfoldable pub faultBelow : ℕ → ℕ → Kind → List ℕ → Option ℕ
 faultBelow m n k b =
-    firstOf ((both (inside k) (eqb n 0), 23) ∷ (ltb (length b) (width k), 21) ∷ (wrongBelow m n k b, 23) ∷ (unknownBelow m k b, 25) ∷ [])
+    firstOf ((both (inside m k) (eqb n 0), 23) ∷ (ltb (length b) (width k), 21) ∷ (wrongBelow m n k b, 23) ∷ (unknownBelow m k b, 25) ∷ [])
 
 module _ (p t l : ℕ) where
   abbrev pub limitOf : Kind → ℕ
@@ -45,7 +45,7 @@ module _ (p t l : ℕ) where
   limitOf running = t
   limitOf sending = l
   limitOf receiving = l
-  limitOf claiming = 0
+  limitOf claiming = t
 
   -- what refuses a command: `fault` of any sheet with these counts
   abbrev pub faultBy : ℕ → Kind → List ℕ → Option ℕ

@@ -15,9 +15,9 @@ abbrev pub Each : {A : Type 0} → (A → Type 0) → List A → Type 0
 Each P [] = Unit {0}
 Each P (x ∷ xs) = P x × Each P xs
 
--- at least one programme, no more than processors, every number declared
+-- at least one programme, unless there is no task; no more than processors; every number declared
 pub record Formed (s : Sheet) (b : Bundle) : Type 0 where
-  pub busy : 0 < length (b .programmes)
+  pub busy : 0 < taskCount s → 0 < length (b .programmes)
   pub few : length (b .programmes) ≤ s .processors
   pub known : Each (Each (Known s)) (b .programmes)
 

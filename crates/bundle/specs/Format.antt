@@ -28,13 +28,13 @@ width sending = 2
 width receiving = 2
 width claiming = 4
 
--- 23: a command before the first 50
-abbrev pub inside : Kind → Bool
-inside opening = false
-inside running = true
-inside sending = true
-inside receiving = true
-inside claiming = true
+-- 23: a command before the first 50; of a sheet with no task (t is their number) the claim may stand there
+abbrev pub inside : ℕ → Kind → Bool
+inside t opening = false
+inside t running = true
+inside t sending = true
+inside t receiving = true
+inside t claiming = ltb 0 t
 
 module _ (s : Sheet) where
   -- 23: "numbered 0, 1, 2 and so on with no gap, below the sheet's processors"; n programmes are open
@@ -57,7 +57,7 @@ module _ (s : Sheet) where
   unfoldable pub fault : List (List Command) → Kind → List ℕ → Option ℕ
   fault ps k b =
       firstOf
-      ((both (inside k) (eqb (length ps) 0), 23) ∷
+      ((both (inside (taskCount s) k) (eqb (length ps) 0), 23) ∷
       (ltb (length b) (width k), 21) ∷ (wrongNumber (length ps) k b, 23) ∷ (unknown k b, 25) ∷ [])
 
 -- the programmes with c at the end of the last one

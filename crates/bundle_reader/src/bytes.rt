@@ -2,6 +2,8 @@
 ghost use mathlib.Core.Path.{_≡_};
 ghost use Prim.Native.Nat.{_+_, _≤_, _<_};
 ghost use lib.ListN.{length, drop};
+ghost use lib.Dec.{eqb, ltb};
+ghost use Rattle.folds.specs.Folds.{both};
 ghost use Rattle.bundle.specs.Format.{opening, running, sending, claiming};
 ghost use Rattle.commands.specs.Commands.{numbered, judge};
 ghost use Rattle.bundle.specs.Counts.{faultBelow, countFormat};
@@ -75,12 +77,19 @@ fn message_at(bytes: &[u8], at: usize, opened: usize, links: usize) -> u8
     0
 }
 
-// The claim at `at`.
-fn claim_at(bytes: &[u8], at: usize, opened: usize) -> u8
-    requires { ⌜ at < length (now bytes) ⌝ }
-    ensures { λ r. ⌜ numbered r ≡ faultBelow 0 opened claiming (drop (at + 1) (now (bytes .entry))) ⌝ }
+// Whether a claim stands before the first programme, for a sheet that has tasks.
+pub fn is_early(opened: usize, tasks: usize) -> bool
+    ensures { λ r. ⌜ r ≡ both (ltb 0 tasks) (eqb opened 0) ⌝ }
 {
-    if opened == 0 {
+    if 0 < tasks { opened == 0 } else { false }
+}
+
+// The claim at `at`.
+fn claim_at(bytes: &[u8], at: usize, opened: usize, tasks: usize) -> u8
+    requires { ⌜ at < length (now bytes) ⌝ }
+    ensures { λ r. ⌜ numbered r ≡ faultBelow tasks opened claiming (drop (at + 1) (now (bytes .entry))) ⌝ }
+{
+    if is_early(opened, tasks) {
         return 23;
     }
     if bytes.len() - (at + 1) < 4 {
@@ -137,7 +146,7 @@ fn next_at(
         return judged(open_at(bytes, at, opened, processors), Next::Open);
     }
     if c == 0x5A {
-        return judged(claim_at(bytes, at, opened), Next::Claim);
+        return judged(claim_at(bytes, at, opened, tasks), Next::Claim);
     }
     Next::No(22)
 }

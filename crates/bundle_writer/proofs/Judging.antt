@@ -1,16 +1,16 @@
 -- Values judged as the reader would judge their bytes: the state of that, and the ways on and out.
 use Prim.Native.Nat.{ℕ, zero, suc, _+_, _<_, _≤_}
 use mathlib.Core.Path.{_≡_, refl, sym, ap, subst, _∙_}
-use mathlib.Core.Bool.{Bool, true, false, true≢false}
+use mathlib.Core.Bool.{Bool, true, false, true≢false, false≢true}
 use mathlib.Core.Option.{Option, none, some}
 use mathlib.Core.Logic.{⊎-elim}
 use mathlib.Core.List.{List, [], _∷_, _++_}
 use native.Mathlib.Omega.{arith}
 use native.Mathlib.Numerals.{add-one, add-two}
-use borrow.Author.Tests.{lt-ltb, le-ltb, eq-eqb, ne-eqb}
+use borrow.Author.Tests.{lt-ltb, le-ltb, eqb-false}
 use lib.ListN.{length, getD, drop, length-append, drop-of-length-le}
 use lib.Seq.{drop-cons}
-use lib.Dec.{eqb}
+use lib.Dec.{eqb, ltb}
 use Rattle.folds.specs.Folds.{pick, both}
 use Rattle.folds.specs.Answers.{refused}
 use Rattle.numbers.specs.Number.{numberBytes}
@@ -53,7 +53,7 @@ module _ (m n x : ℕ) (b : List ℕ) where
   unfolding faultBelow
   fault-receiving h = rw (le-ltb (suc (suc (length b))) 2 (omega arith), number-of-bytes 2 x b h)
 
-  fault-claiming : faultBelow m n claiming (numberBytes 4 x ++ b) ≡ pick (eqb n 0) (some 23) none
+  fault-claiming : faultBelow m n claiming (numberBytes 4 x ++ b) ≡ pick (both (ltb 0 m) (eqb n 0)) (some 23) none
   unfolding faultBelow
   fault-claiming = rw (le-ltb (suc (suc (suc (suc (length b))))) 4 (omega arith))
 
@@ -63,13 +63,17 @@ module _ (p t l n : ℕ) where
   judge-head c o b e = ap (λ (o : Option Kind). judgeKind (countFormat p t l) n o b) e
 
   -- a command byte that nothing follows
-  judge-cut : (c : ℕ) (o : Option Kind) → kindOf c ≡ o → judge (countFormat p t l) n (c ∷ []) ≡ refuse (cutKind n o)
+  judge-cut : (c : ℕ) (o : Option Kind) → kindOf c ≡ o → judge (countFormat p t l) n (c ∷ []) ≡ refuse (cutKind t n o)
   unfolding faultBelow
   judge-cut c none e = judge-head c none [] e
-  judge-cut c (some k) e = judge-head c (some k) [] e ∙ by k (both (inside k) (eqb n 0)) refl
+  judge-cut c (some k) e = judge-head c (some k) [] e ∙ by k (both (inside t k) (eqb n 0)) refl
     where
-      by : (k : Kind) (q : Bool) → both (inside k) (eqb n 0) ≡ q → judgeKind (countFormat p t l) n (some k) [] ≡ refuse (pick q 23 21)
-      by k true e = rw e
+      by : (k : Kind) (q : Bool) → both (inside t k) (eqb n 0) ≡ q → judgeKind (countFormat p t l) n (some k) [] ≡ refuse (pick q 23 21)
+      by opening true e = absurd (false≢true e)
+      by running true e = rw e
+      by sending true e = rw e
+      by receiving true e = rw e
+      by claiming true e = rw e
       by opening false e = refl
       by running false e = rw e
       by sending false e = rw e
@@ -77,17 +81,17 @@ module _ (p t l n : ℕ) where
       by claiming false e = rw e
 
 -- the number that refuses a cut command, by its byte
-pub cut-known : (n c v : ℕ) (k : Kind) → c ≡ v → kindOf v ≡ some k → cutNumber n c ≡ pick (both (inside k) (eqb n 0)) 23 21
+pub cut-known : (t n c v : ℕ) (k : Kind) → c ≡ v → kindOf v ≡ some k → cutNumber t n c ≡ pick (both (inside t k) (eqb n 0)) 23 21
 unfolding cutNumber
-cut-known n c v k e f = ap (cutKind n) (ap kindOf e ∙ f)
+cut-known t n c v k e f = ap (cutKind t n) (ap kindOf e ∙ f)
 
-pub cut-message : (n c : ℕ) → isMessage c ≡ true → cutNumber n c ≡ pick (eqb n 0) 23 21
+pub cut-message : (t n c : ℕ) → isMessage c ≡ true → cutNumber t n c ≡ pick (eqb n 0) 23 21
 unfolding cutNumber
-cut-message n c e = ⊎-elim (λ q. ap (cutKind n) q) (λ q. ap (cutKind n) q) (message-kind c e)
+cut-message t n c e = ⊎-elim (λ q. ap (cutKind t n) q) (λ q. ap (cutKind t n) q) (message-kind c e)
 
-pub cut-strange : (n c : ℕ) → isMessage c ≡ false → (c ≡ 0x52 → ⊥) → (c ≡ 0x50 → ⊥) → (c ≡ 0x5A → ⊥) → 22 ≡ cutNumber n c
+pub cut-strange : (t n c : ℕ) → isMessage c ≡ false → (c ≡ 0x52 → ⊥) → (c ≡ 0x50 → ⊥) → (c ≡ 0x5A → ⊥) → 22 ≡ cutNumber t n c
 unfolding cutNumber
-cut-strange n c e f g h = ap (cutKind n) (sym (strange-kind c e f g h))
+cut-strange t n c e f g h = ap (cutKind t n) (sym (strange-kind c e f g h))
 
 -- the values from index i on
 pub values-at : (vs : List ℕ) (claim i : ℕ) → i + 1 < length vs
@@ -174,11 +178,11 @@ module _ {s : Sheet} {vs : List ℕ} {claim n at i : ℕ} {p t l : ℕ} (z : Siz
       in
       sym (ap (judgedOf (valueBytes vs claim)) a)
 
-  judging-end : length vs ≤ i → 0 < n → claim < 4294967296 → Long (at + 5) ≡ judgedOf (valueBytes vs claim) (readBundle s (valueBytes vs claim))
+  judging-end : length vs ≤ i → (0 < t → 0 < n) → claim < 4294967296 → Long (at + 5) ≡ judgedOf (valueBytes vs claim) (readBundle s (valueBytes vs claim))
   unfolding judgedOf
   judging-end h m c =
       let e = values-end vs claim i h in
-      let a = on-claim s claim (subst (λ (b : List ℕ). Going (bundleFormat s) (readBundle s (valueBytes vs claim)) (g .ps) at b) e (g .going)) (omega (arith, g .count)) c in
+      let a = on-claim s claim (subst (λ (b : List ℕ). Going (bundleFormat s) (readBundle s (valueBytes vs claim)) (g .ps) at b) e (g .going)) (λ h. let e = m (omega (arith, h, z .tasks)) in omega (arith, e, g .count)) c in
       let len : at + 5 ≡ length (valueBytes vs claim) = omega (arith, g .size, ap length e) in
       ap Long len ∙ sym (ap (judgedOf (valueBytes vs claim)) a)
 
@@ -285,15 +289,15 @@ module _ {vs : List ℕ} {p t l n at i : ℕ} (g : Judges vs p t l n at i) (more
   next-open e r h = went-on r (at + 2) (n + 1) (judges-open e r h) (judges-open-no e r h)
 
   -- a claim among the commands
-  pub judges-claim-no : getD vs i 0 ≡ 0x5A → n ≡ 0 → RefusalIs vs p t l (Refused 23 at)
-  judges-claim-no e z = refused-kind claiming (ap kindOf e) 23 (λ q. omega arith) (λ b. sym (fault-claiming 0 n (getD vs (i + 1) 0) b ∙ rw (eq-eqb n 0 z)))
+  pub judges-claim-no : getD vs i 0 ≡ 0x5A → both (ltb 0 t) (eqb n 0) ≡ true → RefusalIs vs p t l (Refused 23 at)
+  judges-claim-no e z = refused-kind claiming (ap kindOf e) 23 (λ q. omega arith) (λ b. sym (fault-claiming t n (getD vs (i + 1) 0) b ∙ rw z))
 
-  pub judges-tail : getD vs i 0 ≡ 0x5A → (n ≡ 0 → ⊥) → RefusalIs vs p t l (Refused 24 (at + 5))
+  pub judges-tail : getD vs i 0 ≡ 0x5A → both (ltb 0 t) (eqb n 0) ≡ false → RefusalIs vs p t l (Refused 24 (at + 5))
   judges-tail e z =
       record {
         answer = λ s q claim m.
             judging-tail q (g .each s q claim m) more
-            (judged-kind claiming (ap kindOf e) none (λ b. sym (fault-claiming 0 n (getD vs (i + 1) 0) b ∙ rw (ne-eqb n 0 z))) claim);
+            (judged-kind claiming (ap kindOf e) none (λ b. sym (fault-claiming t n (getD vs (i + 1) 0) b ∙ rw z)) claim);
       }
 
   pub judges-strange : isMessage (getD vs i 0) ≡ false → (getD vs i 0 ≡ 0x52 → ⊥) → (getD vs i 0 ≡ 0x50 → ⊥) → (getD vs i 0 ≡ 0x5A → ⊥) → RefusalIs vs p t l (Refused 22 at)
@@ -305,7 +309,7 @@ module _ {vs : List ℕ} {p t l n at i : ℕ} (g : Judges vs p t l n at i) (more
       }
 
 module _ {vs : List ℕ} {p t l n at i : ℕ} (g : Judges vs p t l n at i) where
-  pub judges-cut : (r : ℕ) → i + 1 ≡ length vs → r ≡ cutNumber n (getD vs i 0) → RefusalIs vs p t l (Refused r at)
+  pub judges-cut : (r : ℕ) → i + 1 ≡ length vs → r ≡ cutNumber t n (getD vs i 0) → RefusalIs vs p t l (Refused r at)
   unfolding cutNumber
   judges-cut r h e =
       record {
@@ -314,16 +318,18 @@ module _ {vs : List ℕ} {p t l n at i : ℕ} (g : Judges vs p t l n at i) where
             (ap (judge (countFormat p t l) n) (values-cut vs claim i h) ∙ judge-cut p t l n (getD vs i 0) (kindOf (getD vs i 0)) refl ∙ ap {B = Outcome Kind} refuse (sym e));
       }
 
-  pub judges-bare : length vs ≤ i → n ≡ 0 → RefusalIs vs p t l (Refused 23 at)
+  pub judges-bare : length vs ≤ i → both (ltb 0 t) (eqb n 0) ≡ true → RefusalIs vs p t l (Refused 23 at)
   unfolding judge faultBelow
   judges-bare h e =
       record {
         answer = λ s z claim m.
-            judging-refused z (g .each s z claim m) 23 (ap (judge (countFormat p t l) n) (values-end vs claim i h) ∙ rw (eq-eqb n 0 e));
+            judging-refused z (g .each s z claim m) 23 (ap (judge (countFormat p t l) n) (values-end vs claim i h) ∙ rw e);
       }
 
-  pub judges-long : length vs ≤ i → (n ≡ 0 → ⊥) → RefusalIs vs p t l (Long (at + 5))
-  judges-long h e = record { answer = λ s z claim m. judging-end z (g .each s z claim m) h (omega arith) m }
+  pub judges-long : length vs ≤ i → both (ltb 0 t) (eqb n 0) ≡ false → RefusalIs vs p t l (Long (at + 5))
+  judges-long h e =
+      let begun : 0 < t → 0 < n = λ q. let f : eqb n 0 ≡ false = rw (lt-ltb 0 t q) at e in omega (arith, eqb-false n 0 f) in
+      record { answer = λ s z claim m. judging-end z (g .each s z claim m) h begun m }
 
 -- a fault, by the code's test
 pub went-out : (r at behind n : ℕ) → (r ≡ 0 → ⊥) → Out (Refused r at) ≡ wentOn r at behind n

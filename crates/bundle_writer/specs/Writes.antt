@@ -46,13 +46,13 @@ knownFault m n x = pick (eqb n 0) (some 23) (pick (leb m x) (some 25) none)
 abbrev pub openFault : ℕ → ℕ → ℕ → Option ℕ
 openFault m n x = pick (either (not (eqb x n)) (leb m x)) (some 23) none
 
--- the number that refuses a command byte at the end of the bytes
-abbrev pub cutKind : ℕ → Option Kind → ℕ
-cutKind n none = 22
-cutKind n (some k) = pick (both (inside k) (eqb n 0)) 23 21
+-- the number that refuses a command byte at the end of the bytes, for a sheet with t tasks
+abbrev pub cutKind : ℕ → ℕ → Option Kind → ℕ
+cutKind t n none = 22
+cutKind t n (some k) = pick (both (inside t k) (eqb n 0)) 23 21
 
-unfoldable pub cutNumber : ℕ → ℕ → ℕ
-cutNumber n c = cutKind n (kindOf c)
+unfoldable pub cutNumber : ℕ → ℕ → ℕ → ℕ
+cutNumber t n c = cutKind t n (kindOf c)
 
 -- a sheet whose numbers have the operands' bytes
 pub record Small (s : Sheet) : Type 0 where

@@ -3,13 +3,14 @@ ghost use mathlib.Core.Path.{_≡_};
 ghost use mathlib.Core.List.{_++_};
 ghost use Prim.Native.Nat.{_+_, _<_, _≤_};
 ghost use lib.ListN.{length, drop};
-ghost use lib.Dec.{eqb};
-ghost use Rattle.folds.specs.Folds.{pick};
+ghost use lib.Dec.{eqb, ltb};
+ghost use Rattle.folds.specs.Folds.{pick, both};
 ghost use Rattle.bundle.specs.Writing.{valueBytes};
 ghost use Rattle.commands.specs.Commands.{numbered};
 ghost use Rattle.bundle_writer.specs.Writes.{Counted, WriteIs, RefusalIs, knownFault, openFault, cutNumber, Writable, PutIs};
 ghost use Rattle.bundle_writer.specs.Judges.{Judges, NextIs, wentOn};
 use bundle::kinds::is_message;
+use bundle_reader::bytes::is_early;
 
 // How many bytes a bundle has that is given by its values, or a refusal's number and place.
 pub enum Judged {
@@ -53,9 +54,19 @@ fn cut_inside(opened: usize) -> u8
     21
 }
 
+// The number that refuses a claim whose operand is missing.
+fn cut_claim(opened: usize, tasks: usize) -> u8
+    ensures { λ r. ⌜ r ≡ pick (both (ltb 0 tasks) (eqb opened 0)) 23 21 ⌝ }
+{
+    if is_early(opened, tasks) {
+        return 23;
+    }
+    21
+}
+
 // The number that refuses any command whose operand is missing.
-fn cut_number(command: u16, opened: usize) -> u8
-    ensures { λ r. ⌜ r ≡ cutNumber opened command ⌝ }
+fn cut_number(command: u16, opened: usize, tasks: usize) -> u8
+    ensures { λ r. ⌜ r ≡ cutNumber tasks opened command ⌝ }
 {
     if is_message(command) {
         return cut_inside(opened);
@@ -67,7 +78,7 @@ fn cut_number(command: u16, opened: usize) -> u8
         return 21;
     }
     if command == 0x5A {
-        return cut_inside(opened);
+        return cut_claim(opened, tasks);
     }
     22
 }
@@ -115,7 +126,7 @@ fn next_at(
     if c != 0x5A {
         return Next::Out(Judged::Refused(22, at));
     }
-    if opened == 0 {
+    if is_early(opened, tasks) {
         return Next::Out(Judged::Refused(23, at));
     }
     Next::Out(Judged::Refused(24, at + 5))
@@ -141,9 +152,9 @@ pub fn refusal(commands: &[u16], processors: usize, tasks: usize, links: usize) 
         }
     }
     if i < commands.len() {
-        return Judged::Refused(cut_number(commands[i], opened), at);
+        return Judged::Refused(cut_number(commands[i], opened, tasks), at);
     }
-    if opened == 0 {
+    if is_early(opened, tasks) {
         return Judged::Refused(23, at);
     }
     Judged::Long(at + 5)

@@ -1,4 +1,4 @@
--- A sheet whose form was read: what the refusals 5 to 9 leave of it.
+-- A sheet whose form was read: what the refusals 5 to 8 leave of it.
 use Prim.Native.Nat.{ℕ, _≤_, _<_}
 use native.Mathlib.Omega.{arith}
 use mathlib.Core.Path.{_≡_}
@@ -10,7 +10,6 @@ use Rattle.sheet.specs.Format.{readForm}
 use Rattle.sheet.proofs.Rounds.{read-shaped, shaped-single, read-ranged}
 
 pub record Formed (s : Sheet) : Type 0 where
-  pub some : 0 < taskCount s
   pub tasks : taskCount s ≤ 256
   pub links : linkCount s ≤ 1024
   pub board-some : 1 ≤ s .processors
@@ -23,10 +22,8 @@ pub record Formed (s : Sheet) : Type 0 where
 pub form-read : (b : List ℕ) (s : Sheet) → readForm b ≡ value s → Formed s
 unfolding taskCount linkCount workOf sourceOf targetOf
 form-read b s e =
-    let r = read-shaped b s e in
-    let h = r .0 in
+    let h = read-shaped b s e in
     record {
-      some = r .1;
       tasks = h .few-tasks;
       links = h .few-links;
       board-some = h .some-processor;

@@ -128,4 +128,4 @@ module _ (s : Sheet) (bundle : List ℕ) (b : Bundle) (few : taskCount s ≤ 256
   -- so its offsets fit words
   pub short-of-read : length bundle < 4294967296
   unfolding programmeCount commandCount
-  short-of-read = omega (arith, rows-long (rows s (omega arith) bundle b bytes read .1), commands-whole b, few-of-read)
+  short-of-read = omega (arith, rows-long (rows s (omega arith) bundle b bytes read), commands-whole b, few-of-read)

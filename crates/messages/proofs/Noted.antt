@@ -3,7 +3,7 @@ use Prim.Native.Nat.{ℕ, zero, suc, _+_, _*_, _-_, _%_, _<_, _≤_}
 use mathlib.Core.Path.{_≡_, refl, sym, ap, _∙_, subst}
 use mathlib.Core.Bool.{Bool}
 use mathlib.Core.Option.{some}
-use mathlib.Core.Logic.{inl, ⊎-elim}
+use mathlib.Core.Logic.{_⊎_, inl, inr, ⊎-elim}
 use mathlib.Core.List.{List, [], _∷_}
 use native.Mathlib.Omega.{arith}
 use native.Mathlib.Numerals.{add-one}
@@ -148,13 +148,19 @@ pub record Going (s : Sheet) (b : Bundle) (bundle w : List ℕ) (at k r : ℕ) :
   pub rest : Rows (taskCount s) (linkCount s) bundle end (drop (suc k) (b .programmes))
   pub notes : Notes s b k place r w
 
+-- .. or no programme stands in it
+pub record Bare (s : Sheet) (b : Bundle) (bundle w : List ℕ) (r : ℕ) : Type 0 where
+  pub none : programmeCount b ≡ 0
+  pub over : length bundle ≡ 5
+  pub notes : Notes s b 0 0 r w
+
 -- the state of the pass
 pub record Noting (n l : ℕ) (bundle v w : List ℕ) (at k r : ℕ) : Type 0 where
   pub kept : Kept v w
   pub few : 2 * k ≤ at
   pub less : 2 * r ≤ at
   pub each : (s : Sheet) (b : Bundle) → taskCount s ≡ n → linkCount s ≡ l → taskCount s ≤ 256 → linkCount s ≤ 1024 → programmeCount b ≤ 16 → slotsEnd ≤ length v
-      → ((i : ℕ) → getD bundle i 0 < 256) → readBundle s bundle ≡ value b → Going s b bundle w at k r
+      → ((i : ℕ) → getD bundle i 0 < 256) → readBundle s bundle ≡ value b → Bare s b bundle w r ⊎ Going s b bundle w at k r
 
 -- the programme k of ps opens at offset o, and the others lie behind it
 pub record Opened (t l : ℕ) (b : List ℕ) (o : ℕ) (ps : List (List Command)) (k : ℕ) : Type 0 where
@@ -179,21 +185,31 @@ module _ (t l : ℕ) (b : List ℕ) (o : ℕ) where
   rows-closed (p ∷ ps) zero r h = absurd (omega arith)
   rows-closed (p ∷ ps) (suc k) r h = rows-closed ps k r (omega arith)
 
-pub noting-starts : (n l : ℕ) (bundle v w : List ℕ) → BlankIs v w n l → Noting n l bundle w w 2 0 0
+-- the pass stands behind the first 50, if there is one
+noting-first : (s : Sheet) (b : Bundle) (bundle w : List ℕ) → Rows (taskCount s) (linkCount s) bundle 0 (b .programmes) → Notes s b 0 0 0 w → Bare s b bundle w 0 ⊎ Going s b bundle w 2 0 0
 unfolding programmeCount programmeOf
+noting-first s b bundle w r n =
+    elim (decLt 0 (length (b .programmes))) [
+      | yes h ↦ let o = rows-open (taskCount s) (linkCount s) bundle 0 (b .programmes) 0 r h in inr (record { place = 0; end = o .end; below = h; lies = o .lies; rest = o .rest; notes = n })
+      | no h ↦ inl (record { none = omega arith; over = sym (rows-closed (taskCount s) (linkCount s) bundle 0 (b .programmes) 0 r (omega arith)); notes = n })
+    ]
+
+pub noting-starts : (n l : ℕ) (bundle v w : List ℕ) → BlankIs v w n l → Noting n l bundle w w 2 0 0
 noting-starts n l bundle v w z =
     record {
       kept = record { long = refl; low = λ i l. refl };
       few = omega arith;
       less = omega arith;
       each =
-          λ s b en el few less small long bytes e.
-          let r = rows s (omega arith) bundle b bytes e in
-          let o = rows-open (taskCount s) (linkCount s) bundle 0 (b .programmes) 0 (r .1) (r .0) in
-          record { place = 0; end = o .end; below = r .0; lies = o .lies; rest = o .rest; notes = notes-start s b v w (rw (en, el) z) };
+          λ s b en el few less small long bytes e. noting-first s b bundle w (rows s (omega arith) bundle b bytes e) (notes-start s b v w (rw (en, el) z));
     }
 
 module _ {n l : ℕ} {bundle v w : List ℕ} {at k r : ℕ} (end : ℕ) (far : end ≡ length bundle - 5) (g : Noting n l bundle v w at k r) where
+  -- with no programme nothing stands before the claim
+  behind : at < end → {s : Sheet} {b : Bundle} {u : List ℕ} {i j q : ℕ} → (Going s b bundle w at k r → Going s b bundle u i j q) → Bare s b bundle w r ⊎ Going s b bundle w at k r
+      → Bare s b bundle u q ⊎ Going s b bundle u i j q
+  behind m f = ⊎-elim (λ n. absurd (omega (arith, n .over))) (λ h. inr (f h))
+
   module _ (s : Sheet) (b : Bundle) (h : Going s b bundle w at k r) where
     -- at the end of a programme
     pub over-open : h .end ≤ at → at < end → Opened (taskCount s) (linkCount s) bundle at (b .programmes) (suc k)
@@ -216,7 +232,7 @@ module _ {n l : ℕ} {bundle v w : List ℕ} {at k r : ℕ} (end : ℕ) (far : e
         kept = g .kept;
         few = omega (arith, g .few);
         less = omega (arith, g .less);
-        each = λ s b en el few less small long bytes e. rw add-one (by s b few less (g .each s b en el few less small long bytes e));
+        each = λ s b en el few less small long bytes e. rw add-one (behind m (by s b few less) (g .each s b en el few less small long bytes e));
       }
     where
       by : (s : Sheet) (b : Bundle) → taskCount s ≤ 256 → linkCount s ≤ 1024 → Going s b bundle w at k r → Going s b bundle w (at + 2) (suc k) r
@@ -245,7 +261,7 @@ module _ {n l : ℕ} {bundle v w : List ℕ} {at k r : ℕ} (end : ℕ) (far : e
         kept = subst (Kept v) (sym eu) (noted-kept x k r (g .kept));
         few = omega (arith, g .few);
         less = omega (arith, g .less, bit-le (eqb (getD w (slotsAt + x) 0) 0));
-        each = λ s b en el few less small long bytes e. by s b few less small (omega (arith, g .kept .long)) (g .each s b en el few less small long bytes e);
+        each = λ s b en el few less small long bytes e. behind m (by s b few less small (omega (arith, g .kept .long))) (g .each s b en el few less small long bytes e);
       }
     where
       by : (s : Sheet) (b : Bundle) → taskCount s ≤ 256 → linkCount s ≤ 1024 → programmeCount b ≤ 16 → slotsEnd ≤ length w → Going s b bundle w at k r → Going s b bundle u (at + z) k r′
@@ -275,9 +291,12 @@ module _ {n l : ℕ} {bundle v w : List ℕ} {at k r : ℕ} (end : ℕ) (far : e
   noting-ends m =
       record {
         kept = g .kept;
-        notes = λ s b en el few less small long bytes e. (r, by s b few less (g .each s b en el few less small long bytes e));
+        notes = λ s b en el few less small long bytes e. (r, ⊎-elim (bare s b) (by s b few less) (g .each s b en el few less small long bytes e));
       }
     where
+      bare : (s : Sheet) (b : Bundle) → Bare s b bundle w r → Notes s b (programmeCount b) 0 r w
+      bare s b h = subst (λ (j : ℕ). Notes s b j 0 r w) (sym (h .none)) (h .notes)
+
       by : (s : Sheet) (b : Bundle) → taskCount s ≤ 256 → linkCount s ≤ 1024 → Going s b bundle w at k r → Notes s b (programmeCount b) 0 r w
       by s b few less h =
           let far-end = rows-le (h .rest) in

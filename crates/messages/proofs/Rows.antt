@@ -72,8 +72,6 @@ module _ (s : Sheet) (few : linkCount s ≤ 65536) (b : List ℕ) where
       let a = lies-there (o + 2) p (programmesBytes (suc k) ps ++ claimBytes claim) (h .0) (sym (drop-drop 2 o b) ∙ ap (drop 2) f) in
       opens (byte-at o (0x50 ∷ k ∷ (programmeBytes p ++ (programmesBytes (suc k) ps ++ claimBytes claim))) f) (a .1) (rows-there (a .0) (suc k) ps claim (h .1) (a .2))
 
-  pub rows : (x : Bundle) → Bytes b → readBundle s b ≡ value x → (0 < length (x .programmes)) × Rows (taskCount s) (linkCount s) b 0 (x .programmes)
+  pub rows : (x : Bundle) → Bytes b → readBundle s b ≡ value x → Rows (taskCount s) (linkCount s) b 0 (x .programmes)
   unfolding bundleBytes
-  rows x y e =
-      let f = read-formed s b x e in
-      (f .busy, rows-there 0 0 (x .programmes) (x .claim) (f .known) (sym (bytes-again s b x y e)))
+  rows x y e = rows-there 0 0 (x .programmes) (x .claim) (read-formed s b x e .known) (sym (bytes-again s b x y e))

@@ -13,7 +13,7 @@ use lib.Seq.{drop-drop, drop-cons, getD-at}
 use lib.Dec.{eqb, leb}
 use Rattle.folds.specs.Folds.{pick, both}
 use Rattle.folds.specs.Answers.{Answer, value, refused}
-use Rattle.folds.proofs.Tests.{not-value, not-some, both-parts, parts-both, either-none, below-suc}
+use Rattle.folds.proofs.Tests.{not-value, value-same, not-some, both-parts, parts-both, either-none, below-suc}
 use Rattle.folds.proofs.Laws.{any-each}
 use Rattle.numbers.specs.Number.{Bytes, numberAt, numberBytes}
 use Rattle.numbers.proofs.Laws.{drop-bytes, bytes-of-number, number-lt}
@@ -34,16 +34,12 @@ task-bytes-length [] = refl
 task-bytes-length (t ∷ ts) = omega (arith, task-bytes-length ts)
 
 -- what an accepted end says
-pub ended-value : (s t : Sheet) (e : ℕ) (d : List ℕ) → ended (begun s) e d ≡ value t → (d ≡ []) × (0 < taskCount s) × (s ≡ t)
+pub ended-value : (s t : Sheet) (e : ℕ) (d : List ℕ) → ended (begun s) e d ≡ value t → (d ≡ []) × (s ≡ t)
 unfolding ended
 ended-value s t e (x ∷ d) h =
     let tail : ended (begun s) e (x ∷ d) ≡ refused 4 (e + 1) = rw (lt-ltb 0 (length (x ∷ d)) (omega arith)) in
     not-value (sym tail ∙ h)
-ended-value s t e [] h = split (eqb (taskCount s) 0) refl h
-  where
-    split : (z : Bool) → eqb (taskCount s) 0 ≡ z → pick z (refused 9 e) (value s) ≡ value t → (_≡_ {A = List ℕ} [] []) × (0 < taskCount s) × (s ≡ t)
-    split true q h = not-value h
-    split false q h = let busy : taskCount s ≡ 0 → ⊥ = eqb-false (taskCount s) 0 q in (refl, omega arith, cc)
+ended-value s t e [] h = (refl, value-same h)
 
 abbrev pub byteOf : Kind → ℕ
 byteOf board = 0x4D
@@ -66,8 +62,8 @@ module _ (Held : Sheet → List ℕ → Type 0)
     (more-link : (s : Sheet) (d : List ℕ) → judge sheetFormat (begun s) d ≡ go link → Held s d → Held (withCommand s link (drop 1 d)) (drop 7 d))
     (t : Sheet) where
   by-outcome : (s : Sheet) (e : ℕ) (d : List ℕ) → Held s d → Going sheetFormat (value t) (begun s) e d
-      → ((s′ : Sheet) (e′ : ℕ) (d′ : List ℕ) → length d′ < length d → Held s′ d′ → Going sheetFormat (value t) (begun s′) e′ d′ → Held t (0x51 ∷ []) × (0 < taskCount t))
-      → (o : Outcome Kind) → judge sheetFormat (begun s) d ≡ o → Held t (0x51 ∷ []) × (0 < taskCount t)
+      → ((s′ : Sheet) (e′ : ℕ) (d′ : List ℕ) → length d′ < length d → Held s′ d′ → Going sheetFormat (value t) (begun s′) e′ d′ → Held t (0x51 ∷ []))
+      → (o : Outcome Kind) → judge sheetFormat (begun s) d ≡ o → Held t (0x51 ∷ [])
   by-outcome s e d h g rec (refuse r) j = not-value (sym (refuses sheetFormat g r j))
   by-outcome s e d h g rec (go board) j = absurd (false≢true (sound-of (begun s) d board j .turn))
   by-outcome s e d h g rec (go task) j =
@@ -77,20 +73,20 @@ module _ (Held : Sheet → List ℕ → Type 0)
   by-outcome s e d h g rec (go end) j =
       let v = ended-value s t e (drop 1 d) (sym (ends sheetFormat g end refl j)) in
       let whole : d ≡ 0x51 ∷ [] = first-byte (begun s) d end j ∙ ap (λ (x : List ℕ). 0x51 ∷ x) (v .0) in
-      (subst (λ (x : Sheet). Held x (0x51 ∷ [])) (v .2) (subst (Held s) whole h), subst (λ (x : Sheet). 0 < taskCount x) (v .2) (v .1))
+      subst (λ (x : Sheet). Held x (0x51 ∷ [])) (v .1) (subst (Held s) whole h)
 
-  carried : (n : ℕ) (s : Sheet) (e : ℕ) (d : List ℕ) → length d < n → Held s d → Going sheetFormat (value t) (begun s) e d → Held t (0x51 ∷ []) × (0 < taskCount t)
+  carried : (n : ℕ) (s : Sheet) (e : ℕ) (d : List ℕ) → length d < n → Held s d → Going sheetFormat (value t) (begun s) e d → Held t (0x51 ∷ [])
   carried zero s e d l h g = absurd (omega arith)
   carried (suc n) s e d l h g =
       by-outcome s e d h g (λ s′ e′ d′ l′ h′ g′. carried n s′ e′ d′ (omega arith) h′ g′) (judge sheetFormat (begun s) d) refl
 
   from-first : (b : List ℕ) → readForm b ≡ value t
       → (judge sheetFormat fresh b ≡ go board → Held (record { processors = getD (drop 1 b) 0 0; limit = numberAt 4 (drop 1 b) 1; tasks = []; links = [] }) (drop 6 b))
-      → (o : Outcome Kind) → judge sheetFormat fresh b ≡ o → Held t (0x51 ∷ []) × (0 < taskCount t)
+      → (o : Outcome Kind) → judge sheetFormat fresh b ≡ o → Held t (0x51 ∷ [])
   unfolding readForm
   from-first b h begins o j = by-first o j (subst (λ (a : Answer Sheet). Going sheetFormat a fresh 0 b) h (starts sheetFormat fresh b))
     where
-      by-first : (o : Outcome Kind) → judge sheetFormat fresh b ≡ o → Going sheetFormat (value t) fresh 0 b → Held t (0x51 ∷ []) × (0 < taskCount t)
+      by-first : (o : Outcome Kind) → judge sheetFormat fresh b ≡ o → Going sheetFormat (value t) fresh 0 b → Held t (0x51 ∷ [])
       by-first (refuse r) j g = not-value (sym (refuses sheetFormat g r j))
       by-first (go board) j g = carried (suc (length (drop 6 b))) _ _ _ (omega arith) (begins j) (goes sheetFormat g board refl j)
       by-first (go task) j g = absurd (false≢true (sound-of fresh b task j .turn))
@@ -99,7 +95,7 @@ module _ (Held : Sheet → List ℕ → Type 0)
 
   read-holds : (b : List ℕ) → readForm b ≡ value t
       → (judge sheetFormat fresh b ≡ go board → Held (record { processors = getD (drop 1 b) 0 0; limit = numberAt 4 (drop 1 b) 1; tasks = []; links = [] }) (drop 6 b))
-      → Held t (0x51 ∷ []) × (0 < taskCount t)
+      → Held t (0x51 ∷ [])
   read-holds b h begins = from-first b h begins (judge sheetFormat fresh b) refl
 
 -- what follows the first m bytes, and the n after them
@@ -196,13 +192,12 @@ module _ (b₀ : List ℕ) where
 pub bytes-again : (b : List ℕ) (s : Sheet) → ((k : ℕ) → getD b k 0 < 256) → readForm b ≡ value s → sheetBytes s ≡ b
 unfolding sheetBytes
 bytes-again b s small h =
-    let r = read-holds (Passed b) (pass-task b) (pass-link b) s b h (pass-board b small) .0 in
+    let r = read-holds (Passed b) (pass-task b) (pass-link b) s b h (pass-board b small) in
     sym (r .same ∙ simp append-assoc)
 
 -- what the reader asks of a sheet, and all that it asks
 pub record Proper (s : Sheet) : Type 0 where
   pub ranged : Ranged s
-  pub some-task : 0 < taskCount s
   pub some-processor : 1 ≤ s .processors
   pub limit : s .limit < 4294967296
   pub some-work : (t : ℕ) → t < taskCount s → 1 ≤ workOf s t
@@ -314,7 +309,7 @@ shape-board b j =
     }
 
 -- whatever the bytes are, a sheet that is read has the shape that its faults ask
-pub read-shaped : (b : List ℕ) (s : Sheet) → readForm b ≡ value s → Shaped s × (0 < taskCount s)
+pub read-shaped : (b : List ℕ) (s : Sheet) → readForm b ≡ value s → Shaped s
 read-shaped b s h = read-holds (λ s d. Shaped s) shape-task shape-link s b h (shape-board b)
 
 size-task : (s : Sheet) (d : List ℕ) → judge sheetFormat (begun s) d ≡ go task → Sized s d → Sized (withCommand s task (drop 1 d)) (drop 5 d)
@@ -357,10 +352,10 @@ shaped-single s h i j p q a b = one (decLt i j) (decLt j i)
     one (no l) (no m) = omega arith
 
 -- the shape and the sizes together
-pub proper : (s : Sheet) → Shaped s × (0 < taskCount s) → s .limit < 4294967296 → ((i : ℕ) → i < taskCount s → TaskFits (getD (s .tasks) i noTask))
+pub proper : (s : Sheet) → Shaped s → s .limit < 4294967296 → ((i : ℕ) → i < taskCount s → TaskFits (getD (s .tasks) i noTask))
     → ((i : ℕ) → i < linkCount s → LinkFits (getD (s .links) i noLink)) → Proper s
 unfolding taskCount linkCount workOf storeOf sourceOf targetOf costOf bytesOf
-proper s (h, n) limit tasks links =
+proper s h limit tasks links =
     record {
       ranged =
           record {
@@ -374,7 +369,6 @@ proper s (h, n) limit tasks links =
             costs = λ l k. links l k .cost;
             sizes = λ l k. links l k .bytes;
           };
-      some-task = n;
       some-processor = h .some-processor;
       limit = limit;
       some-work = h .works;
@@ -385,5 +379,5 @@ proper s (h, n) limit tasks links =
 pub read-ranged : (b : List ℕ) (s : Sheet) → ((k : ℕ) → getD b k 0 < 256) → readForm b ≡ value s → Proper s
 unfolding taskCount linkCount
 read-ranged b s small h =
-    let r = read-holds Sized size-task size-link s b h (λ j. size-board b small) .0 in
+    let r = read-holds Sized size-task size-link s b h (λ j. size-board b small) in
     proper s (read-shaped b s h) (r .limit) (r .tasks) (r .links)

@@ -1,4 +1,4 @@
--- The bytes of a sheet: its commands, what refuses each of them (1 to 8), and what the end command closes (4, 9).
+-- The bytes of a sheet: its commands, what refuses each of them (1 to 8), and what the end command closes (4).
 use Prim.Native.Nat.{ℕ, _+_}
 use mathlib.Core.Bool.{Bool, true, false, not}
 use mathlib.Core.Option.{Option, none, some}
@@ -106,14 +106,14 @@ closes task = false
 closes link = false
 closes end = true
 
--- behind the end command at offset e: 4 if a byte follows, 9 if there is no task, or the sheet
+-- behind the end command at offset e: 4 if a byte follows, or the sheet, which may have no task
 unfoldable pub ended : Progress → ℕ → List ℕ → Answer Sheet
-ended p e b = pick (ltb 0 (length b)) (refused 4 (e + 1)) (pick (eqb (taskCount (p .sheet)) 0) (refused 9 e) (value (p .sheet)))
+ended p e b = pick (ltb 0 (length b)) (refused 4 (e + 1)) (value (p .sheet))
 
 abbrev pub sheetFormat : Format Progress Kind Sheet
 sheetFormat =
     record { cut = 1; strange = 2; kindOf = kindOf; width = width; fault = fault; after = after; closes = closes; ended = ended }
 
--- the form of a sheet: 1 to 9, or the sheet
+-- the form of a sheet: 1 to 8, or the sheet
 unfoldable pub readForm : List ℕ → Answer Sheet
 readForm b = readAll sheetFormat fresh b

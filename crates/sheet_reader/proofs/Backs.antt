@@ -204,7 +204,7 @@ module _ (p l : ℕ) (tv lv : List ℕ) (s : Sheet) (small-tasks : (k : ℕ) →
   unfolding sheetOfValues
   same-sheet =
       let g = subst (λ (t : Bool). Going sheetFormat (value s) (begun (made p l tasks links)) (behind-links .0) (pick t (0x51 ∷ []) (0x45 ∷ []))) (eq-eqb (length lv % 4) 0 by-four) (behind-links .1) in
-      sym (ended-value (made p l tasks links) s (behind-links .0) [] (sym (ends sheetFormat g end refl (at-end (made p l tasks links)))) .2)
+      sym (ended-value (made p l tasks links) s (behind-links .0) [] (sym (ends sheetFormat g end refl (at-end (made p l tasks links)))) .1)
 
   -- what is read from the bytes of given values is their sheet
   pub values-again : (s ≡ sheetOfValues p l tv lv) × (sheetBytes s ≡ valueBytes p l tv lv) × (length tv % 2 ≡ 0) × (length lv % 4 ≡ 0)
@@ -281,4 +281,4 @@ module _ (s : Sheet) (h : Proper s) where
   back-again =
       let t = tasks-on whole (s .processors) (s .limit) linksOn (s .tasks) (λ i k. record { work = h .ranged .works i k; store = h .ranged .stores i k }) task-clear (s .tasks) [] 6 refl from-board in
       let l = links-on whole (s .processors) (s .limit) (0x51 ∷ []) (s .tasks) (s .links) (λ i k. record { cost = h .ranged .costs i k; bytes = h .ranged .sizes i k }) link-clear (s .links) [] (t .0) refl (t .1) in
-      ends sheetFormat (l .1) end refl (at-end s) ∙ rw (ne-eqb (length (s .tasks)) 0 (λ z. omega (arith, h .some-task)))
+      ends sheetFormat (l .1) end refl (at-end s)

@@ -30,7 +30,7 @@ use Rattle.sheet_reader.specs.declared.Reading.{Reading}
 use Rattle.sheet_reader.specs.declared.Reading.the-variants.{Read, Refused}
 use Rattle.sheet.proofs.Rows.{tasks-in, links-in}
 use Rattle.sheet.proofs.Judging.{fault-task, fault-link, fault-end}
-use Rattle.sheet_reader.proofs.Scans.{read-refused, task-few, link-few, source-small, target-small, link-single, link-filling, scan-task, scan-link, scan-refuse, scan-bare, scan-whole}
+use Rattle.sheet_reader.proofs.Scans.{read-refused, task-few, link-few, source-small, target-small, link-single, link-filling, scan-task, scan-link, scan-refuse, scan-whole}
 
 pub scan-at : {a : Answer Sheet} {d w₀ w : List ℕ} {n m e : ℕ} (e′ : ℕ) → Scanning a d w₀ w n m e → e ≡ e′ → Scanning a d w₀ w n m e′
 scan-at {a} {d} {w₀} {w} {n} {m} e′ s h = subst (λ (k : ℕ). Scanning a d w₀ w n m k) h s
@@ -183,15 +183,10 @@ module _ (v : List ℕ) {a : Answer Sheet} {w₀ w : List ℕ} {n j e : ℕ} (s 
       place : e ≡ 6 + 5 * n + 7 * (length v / 4)
       place = omega arith
 
-      whole : Scanning a (0x51 ∷ []) w₀ w n j e → Dec (n ≡ 0) → ReadIs a w₀ w (pick (eqb n 0) (Refused 9 (6 + 5 * n + 7 * (length v / 4))) Read)
-      whole t (yes z) = rw (eq-eqb n 0 z, ← place) (scan-bare t (at-end (sheetIn w)) refl z)
-      whole t (no z) = rw (ne-eqb n 0 z) (scan-whole t (at-end (sheetIn w)) refl z)
-
-      tail : Dec (length v % 4 ≡ 0)
-          → ReadIs a w₀ w (pick (eqb (length v % 4) 0) (pick (eqb n 0) (Refused 9 (6 + 5 * n + 7 * (length v / 4))) Read) (Refused 1 (6 + 5 * n + 7 * (length v / 4))))
+      tail : Dec (length v % 4 ≡ 0) → ReadIs a w₀ w (pick (eqb (length v % 4) 0) Read (Refused 1 (6 + 5 * n + 7 * (length v / 4))))
       tail (yes z) =
           let b : eqb (length v % 4) 0 ≡ true = eq-eqb (length v % 4) 0 z in
-          rw b (whole (subst (λ (t : Bool). Scanning a (pick t (0x51 ∷ []) (0x45 ∷ [])) w₀ w n j e) b links-over) (ℕ-discrete n 0))
+          rw b (scan-whole (subst (λ (t : Bool). Scanning a (pick t (0x51 ∷ []) (0x45 ∷ [])) w₀ w n j e) b links-over) (at-end (sheetIn w)) refl)
       tail (no z) =
           let b : eqb (length v % 4) 0 ≡ false = ne-eqb (length v % 4) 0 z in
           rw (b, ← place) (scan-refuse (subst (λ (t : Bool). Scanning a (pick t (0x51 ∷ []) (0x45 ∷ [])) w₀ w n j e) b links-over) 1 (cut-link (sheetIn w)))

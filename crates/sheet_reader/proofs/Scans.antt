@@ -87,18 +87,14 @@ no-links : (p l : ℕ) → linkCount (record { processors = p; limit = l; tasks 
 unfolding linkCount
 no-links p l = refl
 
--- behind the end command: bytes, no task, or the sheet
+-- behind the end command: bytes, or the sheet
 ended-tail : (s : Sheet) (d : List ℕ) (e : ℕ) → 0 < length d → ended (begun s) e d ≡ refused 4 (e + 1)
 unfolding ended
 ended-tail s d e h = rw (lt-ltb 0 (length d) h)
 
-ended-bare : (s : Sheet) (d : List ℕ) (e : ℕ) → length d ≡ 0 → taskCount s ≡ 0 → ended (begun s) e d ≡ refused 9 e
+ended-whole : (s : Sheet) (d : List ℕ) (e : ℕ) → length d ≡ 0 → ended (begun s) e d ≡ value s
 unfolding ended
-ended-bare s d e h z = rw (le-ltb 0 (length d) (omega arith), eq-eqb (taskCount s) 0 z)
-
-ended-whole : (s : Sheet) (d : List ℕ) (e : ℕ) → length d ≡ 0 → taskCount s ≢ 0 → ended (begun s) e d ≡ value s
-unfolding ended
-ended-whole s d e h z = rw (le-ltb 0 (length d) (omega arith), ne-eqb (taskCount s) 0 z)
+ended-whole s d e h = rw (le-ltb 0 (length d) (omega arith))
 
 module _ {a : Answer Sheet} {d w₀ w : List ℕ} {n m e : ℕ} (s : Scanning a d w₀ w n m e) where
   -- the scan goes on behind a command of kind k
@@ -189,19 +185,15 @@ module _ {a : Answer Sheet} {d w₀ w : List ℕ} {n m e : ℕ} (s : Scanning a 
   pub scan-refuse : (r : ℕ) → judge sheetFormat (begun (sheetIn w)) d ≡ refuse r → ReadIs a w₀ w (Refused r e)
   scan-refuse r j = read-refused a w₀ w r e (s .long) (refuses sheetFormat (s .going) r j)
 
-  -- the end: bytes behind it, no task, or the sheet
+  -- the end: bytes behind it, or the sheet
   scan-end : judge sheetFormat (begun (sheetIn w)) d ≡ go end → a ≡ ended (begun (sheetIn w)) e (drop 1 d)
   scan-end j = ends sheetFormat (s .going) end refl j
 
   pub scan-tail : judge sheetFormat (begun (sheetIn w)) d ≡ go end → 0 < length (drop 1 d) → ReadIs a w₀ w (Refused 4 (e + 1))
   scan-tail j h = read-refused a w₀ w 4 (e + 1) (s .long) (scan-end j ∙ ended-tail (sheetIn w) (drop 1 d) e h)
 
-  pub scan-bare : judge sheetFormat (begun (sheetIn w)) d ≡ go end → length (drop 1 d) ≡ 0 → n ≡ 0 → ReadIs a w₀ w (Refused 9 e)
-  scan-bare j h z = read-refused a w₀ w 9 e (s .long) (scan-end j ∙ ended-bare (sheetIn w) (drop 1 d) e h (tasks-in w ∙ s .tasks ∙ z))
-
-  pub scan-whole : judge sheetFormat (begun (sheetIn w)) d ≡ go end → length (drop 1 d) ≡ 0 → n ≢ 0 → ReadIs a w₀ w Read
-  scan-whole j h z =
-      read-value a w₀ w (s .long) (s .loaded) (scan-end j ∙ ended-whole (sheetIn w) (drop 1 d) e h (λ q. z (sym (s .tasks) ∙ sym (tasks-in w) ∙ q)))
+  pub scan-whole : judge sheetFormat (begun (sheetIn w)) d ≡ go end → length (drop 1 d) ≡ 0 → ReadIs a w₀ w Read
+  scan-whole j h = read-value a w₀ w (s .long) (s .loaded) (scan-end j ∙ ended-whole (sheetIn w) (drop 1 d) e h)
 
 -- behind a link no task comes
 behind-link : (w d : List ℕ) (m : ℕ) → getD w 1 0 ≡ m + 1 → judge sheetFormat (begun (sheetIn w)) d ≢ go task
@@ -258,17 +250,13 @@ module _ {a : Answer Sheet} {b w₀ w : List ℕ} {n m at : ℕ} (s : Walking a 
   behind : length (drop 1 (drop at b)) ≡ length b - (at + 1)
   behind = ap length (drop-drop 1 at b) ∙ length-drop (at + 1) b
 
-  pub walk-closes : (r : Reading) → judge sheetFormat (begun (sheetIn w)) (drop at b) ≡ go end → r ≡ closedOf (length b) at n → ReadIs a w₀ w r
+  pub walk-closes : (r : Reading) → judge sheetFormat (begun (sheetIn w)) (drop at b) ≡ go end → r ≡ closedOf (length b) at → ReadIs a w₀ w r
   unfolding closedOf
   walk-closes r j e = subst (ReadIs a w₀ w) (sym e) (tail (decLt (at + 1) (length b)))
     where
-      none-behind : length b ≤ at + 1 → Dec (n ≡ 0) → ReadIs a w₀ w (pick (eqb n 0) (Refused 9 at) Read)
-      none-behind h (yes z) = rw (eq-eqb n 0 z) (scan-bare (s .scanning) j (omega (arith, behind)) z)
-      none-behind h (no z) = rw (ne-eqb n 0 z) (scan-whole (s .scanning) j (omega (arith, behind)) z)
-
-      tail : Dec (at + 1 < length b) → ReadIs a w₀ w (pick (ltb (at + 1) (length b)) (Refused 4 (at + 1)) (pick (eqb n 0) (Refused 9 at) Read))
+      tail : Dec (at + 1 < length b) → ReadIs a w₀ w (pick (ltb (at + 1) (length b)) (Refused 4 (at + 1)) Read)
       tail (yes h) = rw (lt-ltb (at + 1) (length b) h) (scan-tail (s .scanning) j (omega (arith, behind)))
-      tail (no h) = rw (le-ltb (at + 1) (length b) (omega arith)) (none-behind (omega arith) (ℕ-discrete n 0))
+      tail (no h) = rw (le-ltb (at + 1) (length b) (omega arith)) (scan-whole (s .scanning) j (omega (arith, behind)))
 
 -- behind the tasks, whose rows are blank
 pub scan-blank : {a : Answer Sheet} {d w₀ w w′ : List ℕ} {n e : ℕ} → Scanning a d w₀ w n 0 e → (k : ℕ) → n ≡ k → Blanked (pairsAt + 8 * k) w w′

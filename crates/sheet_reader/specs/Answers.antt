@@ -52,11 +52,11 @@ pub record ReadIs (a : Answer Sheet) (w last : List ℕ) (r : Reading) : Type 0 
   pub loaded : (s : Sheet) → a ≡ value s → Loaded last
   pub held : (s : Sheet) → a ≡ value s → sheetIn last ≡ s
 
--- what the end command at offset e of so many bytes closes, behind n tasks
-unfoldable pub closedOf : ℕ → ℕ → ℕ → Reading
-closedOf long e n = pick (ltb (e + 1) long) (Refused 4 (e + 1)) (pick (eqb n 0) (Refused 9 e) Read)
+-- what the end command at offset e of so many bytes closes
+unfoldable pub closedOf : ℕ → ℕ → Reading
+closedOf long e = pick (ltb (e + 1) long) (Refused 4 (e + 1)) Read
 
--- what stands behind m values of links and n tasks: a link that is cut, no task, or a sheet
+-- what stands behind m values of links and n tasks: a link that is cut, or a sheet
 unfoldable pub valuesClosed : ℕ → ℕ → Reading
 valuesClosed m n =
-    pick (eqb (m % 4) 0) (pick (eqb n 0) (Refused 9 (6 + 5 * n + 7 * (m / 4))) Read) (Refused 1 (6 + 5 * n + 7 * (m / 4)))
+    pick (eqb (m % 4) 0) Read (Refused 1 (6 + 5 * n + 7 * (m / 4)))

@@ -186,16 +186,13 @@ fn add_link(bytes: &[u8], at: usize, w: &mut [u32], links: usize)
 }
 
 // What the end command at `at` closes.
-fn closing(bytes: &[u8], at: usize, tasks: usize) -> Reading
+fn closing(bytes: &[u8], at: usize) -> Reading
     requires { ⌜ at < length (now bytes) ⌝ }
-    ensures { λ r. ⌜ r ≡ closedOf (length (now (bytes .entry))) at tasks ⌝ }
+    ensures { λ r. ⌜ r ≡ closedOf (length (now (bytes .entry))) at ⌝ }
 {
     let past = at + 1;
     if past < bytes.len() {
         return Reading::Refused(4, past);
-    }
-    if tasks == 0 {
-        return Reading::Refused(9, at);
     }
     Reading::Read
 }
@@ -281,7 +278,7 @@ fn rest(bytes: &[u8], at: usize, w: &[u32], tasks: usize, links: usize) -> Readi
     match next_at(bytes, at, w, tasks, links) {
         Next::Task => Reading::Refused(3, at),
         Next::Link => Reading::Refused(8, at),
-        Next::End => closing(bytes, at, tasks),
+        Next::End => closing(bytes, at),
         Next::No(r) => Reading::Refused(r, at),
     }
 }
@@ -299,7 +296,7 @@ fn walk(bytes: &[u8], w: &mut [u32]) -> Reading
     rest(bytes, at + 7 * links, w, tasks, links)
 }
 
-// Reads any bytes as a sheet: the first of refusals 1 to 9, or the sheet in the tables.
+// Reads any bytes as a sheet: the first of refusals 1 to 8, or the sheet in the tables.
 pub fn read(bytes: &[u8], w: &mut [u32]) -> Reading
     requires { ⌜ fixed ≤ length (now w) ⌝ }
     ensures { λ r. ⌜ ReadIs (readForm (now (bytes .entry))) (now (w .entry)) (now (w .exit)) r ⌝ }

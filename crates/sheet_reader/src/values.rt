@@ -38,9 +38,6 @@ fn closing(links: &[u16], tasks: usize) -> Reading
     if links.len() % 4 != 0 {
         return Reading::Refused(1, end);
     }
-    if tasks == 0 {
-        return Reading::Refused(9, end);
-    }
     Reading::Read
 }
 
@@ -88,7 +85,7 @@ fn load_tasks(tasks: &[u16], links: &[u16], w: &mut [u32]) -> Reading
     load_links(links, n, w)
 }
 
-// A sheet's values in the tables, or the first of refusals 1 to 9 that the reader would give their bytes.
+// A sheet's values in the tables, or the first of refusals 1 to 8 that the reader would give their bytes.
 pub fn load(processors: u8, limit: u32, tasks: &[u16], links: &[u16], w: &mut [u32]) -> Reading
     requires { ⌜ fixed ≤ length (now w) ⌝ }
     ensures { λ r. ⌜ ReadIs (readForm (valueBytes processors limit (now (tasks .entry)) (now (links .entry)))) (now (w .entry)) (now (w .exit)) r ⌝ }

@@ -13,13 +13,18 @@ use zeldrupa::raw as product;
 /// Times one call on all inputs of a case.
 pub type Measure = fn(&Case) -> Pair;
 
+/// The calls that need a command.
+pub const REFUSAL: &str = "check, 32";
+pub const ONE_STEP: &str = "one step";
+
 /// The name of each call, and how it is measured.
-pub const CALLS: [(&str, Measure); 8] = [
+pub const CALLS: [(&str, Measure); 9] = [
     ("reading", reading),
     ("levels", levels),
     ("plan", plan),
     ("check", check),
-    ("one step", one_step),
+    (REFUSAL, refusal),
+    (ONE_STEP, one_step),
     ("listing", listing),
     ("start", start),
     ("run", run),
@@ -75,6 +80,16 @@ pub fn check(case: &Case) -> Pair {
         case,
         |i| succeeds(product::check(&i.sheet, &i.bundle, &mut work)),
         |i| passes(interface::check(&i.sheet, &i.bundle)),
+    )
+}
+
+/// The check of a bundle whose last link has a wrong receive.
+fn refusal(case: &Case) -> Pair {
+    let mut work = area();
+    both(
+        case,
+        |i| assert_eq!(black_box(product::check(&i.sheet, &i.wrong, &mut work)).0, 32),
+        |i| assert!(black_box(interface::check(&i.sheet, &i.wrong)).is_err()),
     )
 }
 

@@ -16,6 +16,8 @@ pub const MOST_BYTES: usize = 8192;
 pub struct Input {
     pub sheet: Vec<u8>,
     pub bundle: Vec<u8>,
+    /// The bundle with one receive too many, of the last link, behind all other commands.
+    pub wrong: Vec<u8>,
     /// Choices that all step, and run the bundle to its end.
     pub choices: Vec<u8>,
 }
@@ -26,8 +28,9 @@ impl Input {
         let mut bundle = vec![0; MOST_BYTES];
         let length = interface::plan(&sheet, &mut bundle).ok()?;
         bundle.truncate(length);
+        let wrong = one_receive_more(&sheet, &bundle);
         let choices = run_out(&sheet, &bundle);
-        Some(Input { sheet, bundle, choices })
+        Some(Input { sheet, bundle, wrong, choices })
     }
 }
 
@@ -43,19 +46,37 @@ impl Case {
         let sheets = (1..).map(|seed| make(&mut Random::new(seed)).encode());
         Case { name: name.into(), inputs: sheets.filter_map(Input::new).take(SHEETS).collect() }
     }
+
+    /// One sheet that has a plan.
+    fn of(name: &str, sheet: Vec<u8>) -> Case {
+        Case { name: name.into(), inputs: vec![Input::new(sheet).expect("it has a plan")] }
+    }
+
+    /// Whether there is a command to be stepped, or to be wrong.
+    pub fn has_commands(&self) -> bool {
+        self.inputs.iter().all(|input| !input.choices.is_empty())
+    }
 }
 
-/// Each shape of the largest sheet, the typical sheet and K1.
+/// Each shape of the largest sheet, the typical sheet, K1 and a bare board.
 pub fn all() -> Vec<Case> {
     let largest = LARGEST.map(|shape| Case::made(shape.name(), |random| shape.sheet(random)));
     let typical = Case::made("typical", shapes::typical);
-    let k1 = Input::new(trials::k1_sheet()).expect("K1 has a plan");
-    largest.into_iter().chain([typical, Case { name: "K1".into(), inputs: vec![k1] }]).collect()
+    let small = [Case::of("K1", trials::k1_sheet()), Case::of("bare", trials::bare_sheet())];
+    largest.into_iter().chain([typical]).chain(small).collect()
 }
 
 /// So many tasks with four links a task, of the random shape on 16 processors.
 pub fn of_size(tasks: usize) -> Case {
     Case::made(tasks.to_string(), |random| shapes::any_links(random, tasks, 4 * tasks, 16))
+}
+
+/// The bundle with a receive of the sheet's last link before its claim.
+fn one_receive_more(sheet: &[u8], bundle: &[u8]) -> Vec<u8> {
+    let links = Sheet::read(sheet).expect("a valid sheet").links.len();
+    let [low, high] = (links.saturating_sub(1) as u16).to_le_bytes();
+    let (commands, claim) = bundle.split_at(bundle.len() - 5);
+    [commands, &[0x56, low, high], claim].concat()
 }
 
 /// The choices that step when each processor is chosen in turn until all is done.

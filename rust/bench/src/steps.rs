@@ -113,7 +113,7 @@ impl Runs for ProductMachine<'_> {
     }
 
     fn run(&mut self) {
-        let Input { sheet, bundle, choices } = self.input;
+        let Input { sheet, bundle, choices, .. } = self.input;
         let (sheet, bundle, state) = (&sheet[..], &bundle[..], &mut self.state[..]);
         for &choice in choices {
             black_box(product::step(sheet, bundle, state, choice.into()));

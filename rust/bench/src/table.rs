@@ -1,6 +1,6 @@
 //! The tables that are measured: calls on cases, a line for each.
 
-use crate::calls::{self, Measure, CALLS};
+use crate::calls::{self, Measure, CALLS, ONE_STEP, REFUSAL};
 use crate::cases::{self, Case};
 
 /// The numbers of tasks by which growth is shown.
@@ -41,9 +41,10 @@ impl Table {
         }
     }
 
-    /// Its lines, case by case.
+    /// Its lines, case by case, but for calls that need a command where there is none.
     pub fn lines(&self) -> impl Iterator<Item = Line<'_>> {
         let of = |case| self.calls.iter().map(move |&(call, measure)| Line { case, call, measure });
-        self.cases.iter().flat_map(of)
+        let lines = self.cases.iter().flat_map(of);
+        lines.filter(|line| line.case.has_commands() || ![REFUSAL, ONE_STEP].contains(&line.call))
     }
 }

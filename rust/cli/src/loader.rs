@@ -125,18 +125,19 @@ impl Loader {
         Ok(BundleFile { file: file.into(), bundle, lines: Vec::new() })
     }
 
-    /// A sheet with every number that a bundle can name, for one whose own sheet is not at hand.
-    pub fn any_sheet(&mut self) -> SheetFile {
-        let tasks = vec![Task { work: 1, store: 0 }; 256];
+    /// A sheet with every number that a bundle can name, for one whose own sheet is not at hand; a
+    /// bare one for a bundle without programmes, since no other has such.
+    pub fn any_sheet(&mut self, bare: bool) -> SheetFile {
+        let tasks = vec![Task { work: 1, store: 0 }; if bare { 0 } else { 256 }];
         let pairs = (0..=255).flat_map(|source| (source + 1..=255).map(move |to| [source, to]));
         let links: Vec<Link> = pairs
-            .take(1024)
+            .take(if bare { 0 } else { 1024 })
             .map(|[source, target]| Link { source, target, cost: 0, bytes: 0 })
             .collect();
         let sheet = self.work.write_sheet(16, u32::MAX, &tasks, &links);
         SheetFile {
             file: "no sheet".into(),
-            sheet: sheet.expect("a largest sheet"),
+            sheet: sheet.expect("a largest sheet or a bare one"),
             names: Names::none(tasks.len()),
             lines: Vec::new(),
             programmes: None,
@@ -147,7 +148,7 @@ impl Loader {
     pub fn no_sheet(&mut self, path: &Path, text: &BundleText) -> Result<SheetFile, Fault> {
         let problems = text.needs_sheet();
         match problems.is_empty() {
-            true => Ok(self.any_sheet()),
+            true => Ok(self.any_sheet(text.is_bare())),
             false => Err(in_fault(path, &problems)),
         }
     }

@@ -114,6 +114,9 @@ fn examples_are_well_formed() {
     assert_eq!(status, 0);
     assert!(count(&odd, "rect") >= 8);
     assert_eq!(drawn(&scratch, &["k1.sheet", "k7.bundle"]).1, 1);
+    assert_eq!(drawn(&scratch, &["bare.sheet"]).1, 0);
+    assert_eq!(drawn(&scratch, &["bare.sheet", "bare-empty.txt"]).1, 0);
+    assert_eq!(drawn(&scratch, &["bare.sheet", "bare-claim.txt"]).1, 1);
     for path in files(&folder("../../examples/figures")) {
         if path.extension().is_some_and(|kind| kind == "sheet") {
             assert_eq!(drawn(&scratch, &[path.to_str().unwrap()]).1, 0);

@@ -107,6 +107,18 @@ fn examples_come_back_through_the_program() {
     }
 }
 
+/// A claim before any programme may have letters for bytes, and is no text all the same.
+#[test]
+fn a_claim_of_letters_is_a_bundle() {
+    let scratch = Scratch::new();
+    fs::write(scratch.path("letters"), b"Zabcd").unwrap();
+    let shown = scratch.run(&["show", "letters"], None);
+    assert_eq!(shown.stdout, b"claim 1684234849\n");
+    fs::write(scratch.path("shown.txt"), &shown.stdout).unwrap();
+    let packed = scratch.run(&["pack", "shown.txt", "-o", "-"], None);
+    assert_eq!(packed.stdout, b"Zabcd");
+}
+
 /// The example's bytes are those of its text and of its plan.
 #[test]
 fn the_buoy_is_packed_and_planned() {

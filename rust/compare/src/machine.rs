@@ -267,7 +267,7 @@ impl<R: Rules> Comparison<R> {
 }
 
 /// Choices for so many programmes: mostly their numbers, often one several times, and some that
-/// name none.
+/// name none; without programmes all of them do.
 fn choices(random: &mut Random, programmes: usize, count: usize) -> Vec<u64> {
     let mut last = 0;
     (0..count)
@@ -276,7 +276,7 @@ fn choices(random: &mut Random, programmes: usize, count: usize) -> Vec<u64> {
             1 => (programmes + random.below(300)) as u64,
             2..=7 => last,
             _ => {
-                last = random.below(programmes) as u64;
+                last = random.below(programmes.max(1)) as u64;
                 last
             }
         })

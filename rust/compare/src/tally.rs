@@ -64,11 +64,11 @@ impl Function {
 
     /// Whether it can answer with this number.
     fn can_answer(self, number: u8) -> bool {
-        let sheet = matches!(number, 0..=10 | 13);
+        let sheet = matches!(number, 0..=8 | 10 | 13);
         match self {
             Function::ReadSheet | Function::Levels => sheet || number == 12,
-            Function::WriteSheet => matches!(number, 0 | 1 | 5..=10 | 12 | 13),
-            Function::Plan => matches!(number, 0..=13),
+            Function::WriteSheet => matches!(number, 0 | 1 | 5..=8 | 10 | 12 | 13),
+            Function::Plan => sheet || matches!(number, 11 | 12),
             Function::Listing => matches!(number, 0 | 12 | 13),
             Function::ReadBundle | Function::WriteBundle => {
                 sheet || number == 12 || matches!(number, 21..=25)

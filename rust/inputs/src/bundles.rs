@@ -1,4 +1,5 @@
-//! Made-up programme bundles for a sheet: of the right form only, or with every run and message right.
+//! Made-up programme bundles for a sheet: of the right form only, or with every run and message right;
+//! and those of bare boards, right or not.
 
 use crate::random::Random;
 use crate::sheets::Sheet;
@@ -34,9 +35,19 @@ impl Bundle {
     }
 }
 
-/// A bundle of the published form with about this many commands, which run and send anything.
+/// How many programmes a bundle of the published form may open; on a bare board also none.
+fn programmes(random: &mut Random, sheet: &Sheet) -> usize {
+    match sheet.is_bare() && random.once_in(3) {
+        true => 0,
+        false => random.within(1..=sheet.processors.into()),
+    }
+}
+
+/// A bundle of the published form with about this many commands, which run and send anything; on a
+/// bare board all its programmes are empty.
 pub fn loose(random: &mut Random, sheet: &Sheet, commands: usize) -> Bundle {
-    let programmes = random.within(1..=sheet.processors.into());
+    let programmes = programmes(random, sheet);
+    let commands = if sheet.is_bare() { 0 } else { commands };
     let mut values = Vec::with_capacity(2 * (commands + programmes));
     for number in 0..programmes {
         values.extend([OPEN, number as u16]);
@@ -93,7 +104,7 @@ impl<'a> Run<'a> {
     fn new(random: &mut Random, sheet: &'a Sheet) -> Self {
         let tasks = sheet.task_count();
         let links: Vec<&[u16]> = sheet.links.chunks_exact(4).collect();
-        let programmes = random.within(1..=sheet.processors.into());
+        let programmes = programmes(random, sheet);
         let place = (0..tasks).map(|_| random.below(programmes)).collect();
         let mut missing = vec![0; tasks];
         links.iter().for_each(|link| missing[usize::from(link[1])] += 1);
@@ -205,6 +216,46 @@ pub fn exchange(random: &mut Random, bundle: &mut Bundle) {
     }
     let (_, other) = random.pick(&messages);
     (0..2).for_each(|i| bundle.commands.swap(2 * one + i, 2 * other + i));
+}
+
+/// For a bare board: no programme or empty ones, perhaps one more than there may be, and often a
+/// wrong claim, a claim among them, or a run, a send or a receive before or in them.
+pub fn bare(random: &mut Random, sheet: &Sheet) -> Bundle {
+    let processors = usize::from(sheet.processors);
+    let programmes = match random.below(8) {
+        0..=2 => 0,
+        3 => processors,
+        4 => processors + 1,
+        _ => random.within(1..=processors),
+    };
+    let mut commands: Vec<u16> = (0..programmes).flat_map(|number| [OPEN, number as u16]).collect();
+    let other = [random.pick(&[RUN, SEND, RECEIVE, CLAIM]), random.pick(&[0, 0, 1, 256])];
+    match random.below(8) {
+        0 => drop(commands.splice(0..0, other)),
+        1 => {
+            let at = 2 * random.below(programmes + 1);
+            commands.splice(at..at, other);
+        }
+        // The writer's values then stop inside a command; the bytes leave it out.
+        2 => commands.push(other[0]),
+        _ => (),
+    }
+    let claim = match random.below(4) {
+        0 => random.pick(&[1, 255, 256, 1 << 24, u32::MAX]),
+        _ => 0,
+    };
+    Bundle { commands, claim }
+}
+
+/// The bytes of a bundle, now and then cut or with a tail.
+pub fn frayed(random: &mut Random, bundle: &Bundle) -> Vec<u8> {
+    let mut bytes = bundle.encode();
+    match random.below(6) {
+        0 => bytes.truncate(random.below(bytes.len())),
+        1 => bytes.push(random.pick(&[0, OPEN as u8, RUN as u8, CLAIM as u8])),
+        _ => (),
+    }
+    bytes
 }
 
 /// The store that each programme needs: the stores of its tasks and the bytes of its receives.

@@ -1,4 +1,4 @@
-//! Made-up task sheets: graphs of many shapes, weights of many sizes, and circles.
+//! Made-up task sheets: graphs of many shapes, weights of many sizes, bare boards, and circles.
 
 use crate::random::Random;
 use std::collections::HashSet;
@@ -21,6 +21,11 @@ impl Sheet {
     /// How many tasks there are.
     pub fn task_count(&self) -> usize {
         self.tasks.len() / 2
+    }
+
+    /// Whether the board is bare: no task, and so no link.
+    pub fn is_bare(&self) -> bool {
+        self.task_count() == 0
     }
 
     /// How many links there are.
@@ -75,9 +80,10 @@ pub const SHAPES: [Shape; 7] = [
     Shape::Layers,
 ];
 
-/// A valid sheet of random size, shape and weights.
+/// A valid sheet of random size, shape and weights, now and then a bare board.
 pub fn valid(random: &mut Random) -> Sheet {
-    let tasks = match random.below(16) {
+    let tasks = match random.below(17) {
+        16 => 0,
         0 => 1,
         1..=7 => random.within(2..=8),
         8..=12 => random.within(9..=40),
@@ -88,11 +94,24 @@ pub fn valid(random: &mut Random) -> Sheet {
     with_shape(random, tasks, shape)
 }
 
-/// A valid sheet of at most eight tasks.
+/// A valid sheet without tasks, and so without links.
+pub fn bare(random: &mut Random) -> Sheet {
+    with_shape(random, 0, Shape::Loose)
+}
+
+/// A valid sheet of at most eight tasks, once in sixteen a bare board.
 pub fn small(random: &mut Random) -> Sheet {
-    let tasks = random.within(1..=8);
+    let tasks = seldom_none(random, 8);
     let shape = random.pick(&SHAPES);
     with_shape(random, tasks, shape)
+}
+
+/// A number of tasks up to `most`, once in sixteen none.
+fn seldom_none(random: &mut Random, most: usize) -> usize {
+    match random.once_in(16) {
+        true => 0,
+        false => random.within(1..=most),
+    }
 }
 
 /// A valid sheet of 256 tasks and 1,024 links.
@@ -102,7 +121,7 @@ pub fn largest(random: &mut Random) -> Sheet {
 
 /// A valid sheet of at most this many tasks, mostly with weights that make ties and the guard matter.
 pub fn telling(random: &mut Random, most: usize) -> Sheet {
-    let tasks = random.within(1..=most);
+    let tasks = seldom_none(random, most);
     let shape = match random.below(3) {
         0 => random.pick(&SHAPES),
         1 => Shape::Sparse,
@@ -218,6 +237,9 @@ pub fn circle(random: &mut Random, size: usize) -> Sheet {
 
 /// Pairs of a lower and a higher number below `tasks`, each once.
 fn pairs(random: &mut Random, tasks: usize, shape: Shape) -> Vec<[usize; 2]> {
+    if tasks == 0 {
+        return Vec::new();
+    }
     let most = MOST_LINKS.min(tasks * (tasks - 1) / 2);
     match shape {
         Shape::Loose => Vec::new(),

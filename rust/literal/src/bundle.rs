@@ -33,9 +33,11 @@ fn strange(_: &Sheet, _: &[Command], command: &Command) -> bool {
     BUNDLE.widths(command.byte).is_none()
 }
 
-/// 23, out of turn: "before the first `50`".
-fn no_programme_open(_: &Sheet, before: &[Command], command: &Command) -> bool {
-    !command.is(OPEN) && count(before, OPEN) == 0
+/// 23, out of turn: "before the first `50`"; but on a sheet without tasks "`5A` before any `50` no
+/// longer gives 23".
+fn no_programme_open(sheet: &Sheet, before: &[Command], command: &Command) -> bool {
+    let bare_end = sheet.tasks.is_empty() && command.is(CLAIM);
+    !command.is(OPEN) && count(before, OPEN) == 0 && !bare_end
 }
 
 /// 21, cut bundle: "as 1".

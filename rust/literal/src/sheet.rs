@@ -146,14 +146,11 @@ fn text_of(processors: u8, limit: u32, tasks: &[u16], links: &[u16]) -> Text {
     text
 }
 
-/// The sheet of a text: per command, "then 4, 9, 10".
+/// The sheet of a text: per command, "then 4, 9, 10", where C-13 says of 9 that it "is retired and its
+/// position in the order falls away": "A sheet without tasks, and so without links" is one too.
 fn judged(text: &Text) -> Result<Sheet, Refusal> {
-    let (commands, end) = SHEET.judge(&(), text)?;
+    let (commands, _) = SHEET.judge(&(), text)?;
     let sheet = declared(commands);
-    if sheet.tasks.is_empty() {
-        // 9, bare sheet: "no task", "offset of `51`".
-        return Err(Refusal::new(9, end.offset));
-    }
     // 10, loop: "tasks in a circle", "lowest task on one".
     match (0..sheet.tasks.len()).find(|&task| on_a_circle(&sheet, task)) {
         Some(task) => Err(Refusal::new(10, task)),

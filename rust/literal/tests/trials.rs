@@ -70,6 +70,50 @@ fn k5_to_k8() {
     assert_eq!(read_sheet(&example("k8-circle.sheet")), refused(10, 1));
 }
 
+/// C-13: a board with no jobs yet.
+#[test]
+fn bare_board() {
+    let (sheet, bundle) = (example("bare.sheet"), example("bare.bundle"));
+    assert_eq!((&sheet[..], &bundle[..]), (&b"\x4D\x03\x64\0\0\0\x51"[..], &b"\x5A\0\0\0\0"[..]));
+    let tables = read_sheet(&sheet).unwrap();
+    assert_eq!((tables.board, tables.tasks.len(), tables.links.len()), ([3, 100, 0, 0], 0, 0));
+    assert_eq!(write_sheet(3, 100, &[], &[]), Ok(sheet.clone()));
+    assert_eq!(levels(&sheet), Ok(Vec::new()));
+    assert_eq!(plan(&sheet), Ok(bundle.clone()));
+    assert_eq!(listing(&sheet), b"PLAN 0 0\n");
+    assert_eq!(read_bundle(&sheet, &bundle), Ok((Vec::new(), 0)));
+    assert_eq!(write_bundle(&sheet, &[], 0), Ok(bundle.clone()));
+    // A link has no task to lead to, and what follows the end is a tail.
+    assert_eq!(write_sheet(3, 100, &[], &[0, 0, 0, 0]), refused(7, 6));
+    assert_eq!(read_sheet(&[&sheet[..], &[0x51]].concat()), refused(4, 7));
+    for programmes in 0..=4 {
+        let mut opened: Vec<u8> = (0..programmes).flat_map(|number| [0x50, number]).collect();
+        opened.extend(&bundle);
+        if programmes > 3 {
+            assert_eq!(check(&sheet, &opened), refused(23, 6));
+            continue;
+        }
+        assert_eq!(check(&sheet, &opened), Ok(()));
+        let claim = opened.len() - 5;
+        opened[claim + 1] = 7;
+        assert_eq!(check(&sheet, &opened), refused(30, 0));
+        start(&sheet, &opened, |machine| {
+            let machine = machine.unwrap();
+            assert!([0, 1, 2, 3, u64::MAX].into_iter().all(|choice| !machine.step(choice)));
+            assert_eq!((machine.left(), machine.latest_clock()), (0, 0));
+        });
+        assert_eq!(check(&sheet, &opened[..claim + 4]), refused(21, claim));
+        opened.push(0x5A);
+        assert_eq!(check(&sheet, &opened), refused(24, claim + 5));
+    }
+    for command in [0x52, 0x53, 0x56] {
+        assert_eq!(check(&sheet, &[&[command], &bundle[..]].concat()), refused(23, 0));
+    }
+    // On a sheet with tasks it is 23 as before.
+    assert_eq!(check(&example("k1.sheet"), &bundle), refused(23, 0));
+    assert_eq!(check(&example("k1.sheet"), &bundle[..3]), refused(23, 0));
+}
+
 #[test]
 fn k9_and_k10() {
     let mut sheet = example("k1.sheet");

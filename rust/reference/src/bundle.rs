@@ -105,14 +105,16 @@ impl<'a> Bundle<'a> {
         let [CLAIM, c0, c1, c2, c3, ref tail @ ..] = *rest else {
             return Err(Refusal::new(form.fault(rest.first().copied().map(u16::from)), at));
         };
-        let opened = form.opened;
-        if opened == 0 {
+        if !form.may_end() {
             return Err(Refusal::new(BUNDLE_OUT_OF_TURN, at));
         }
         if !tail.is_empty() {
             return Err(Refusal::new(BUNDLE_TAIL, at + CLAIM_LENGTH));
         }
-        programmes[opened - 1] = &programme[..programme.len() - rest.len()];
+        let opened = form.opened;
+        if opened > 0 {
+            programmes[opened - 1] = &programme[..programme.len() - rest.len()];
+        }
         Ok(Bundle { programmes, opened, claim: u32::from_le_bytes([c0, c1, c2, c3]) })
     }
 
@@ -149,7 +151,7 @@ pub fn from_values(sheet: &Sheet, commands: &[u16], claim: u32) -> Result<Vec<u8
             Ok(RUN) => Command::Run(operand),
             Ok(SEND) => Command::Send(operand),
             Ok(RECEIVE) => Command::Receive(operand),
-            Ok(CLAIM) if form.opened > 0 => {
+            Ok(CLAIM) if form.may_end() => {
                 return Err(Refusal::new(BUNDLE_TAIL, bundle.len() + CLAIM_LENGTH));
             }
             _ => return Err(refuse(form.fault(Some(command)))),
@@ -160,7 +162,7 @@ pub fn from_values(sheet: &Sheet, commands: &[u16], claim: u32) -> Result<Vec<u8
     if let [command] = *cut {
         return Err(Refusal::new(form.fault(Some(command)), bundle.len()));
     }
-    if form.opened == 0 {
+    if !form.may_end() {
         return Err(Refusal::new(BUNDLE_OUT_OF_TURN, bundle.len()));
     }
     write_claim(claim, &mut bundle);
@@ -174,6 +176,11 @@ struct Form<'a> {
 }
 
 impl Form<'_> {
+    /// Whether the claim may stand here: in a programme, or before any on a bare board.
+    fn may_end(&self) -> bool {
+        self.opened > 0 || self.sheet.is_bare()
+    }
+
     /// Takes a whole command (23, 25).
     fn take(&mut self, command: Command) -> Result<(), u8> {
         let (number, declared) = match command {
@@ -202,6 +209,7 @@ impl Form<'_> {
     fn fault(&self, command: Option<u16>) -> u8 {
         match command.map(u8::try_from) {
             None | Some(Ok(OPEN)) => CUT_BUNDLE,
+            Some(Ok(CLAIM)) if self.may_end() => CUT_BUNDLE,
             Some(Ok(RUN | SEND | RECEIVE | CLAIM)) if self.opened == 0 => BUNDLE_OUT_OF_TURN,
             Some(Ok(RUN | SEND | RECEIVE | CLAIM)) => CUT_BUNDLE,
             Some(_) => STRANGE_IN_BUNDLE,

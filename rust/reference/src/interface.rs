@@ -5,14 +5,14 @@ use crate::refusal::{lend, Refusal};
 use crate::sheet::Sheet;
 use crate::{checker, graph, listing, planner};
 
-/// Reads a sheet into tables of values; gives processors, limit, task count, link count (1 to 10, 12).
+/// Reads a sheet into tables of values; gives processors, limit, task count, link count (1 to 8, 10, 12).
 pub fn read_sheet(sheet: &[u8], tasks: &mut [u16], links: &mut [u16]) -> Result<[u32; 4], Refusal> {
     let sheet = Sheet::read(sheet)?;
     sheet.put_values(tasks, links)?;
     Ok([sheet.processors.into(), sheet.limit, sheet.tasks.len() as u32, sheet.links.len() as u32])
 }
 
-/// Writes the sheet of these values and gives its length (1 to 10, 12).
+/// Writes the sheet of these values and gives its length (1 to 8, 10, 12).
 pub fn write_sheet(
     processors: u8,
     limit: u32,
@@ -23,12 +23,12 @@ pub fn write_sheet(
     lend(&Sheet::from_values(processors, limit, tasks, links)?.to_bytes(), out)
 }
 
-/// Writes the level of each task and gives their count (1 to 10, 12).
+/// Writes the level of each task and gives their count (1 to 8, 10, 12).
 pub fn levels(sheet: &[u8], out: &mut [u32]) -> Result<usize, Refusal> {
     lend(&graph::levels(&Sheet::read(sheet)?), out)
 }
 
-/// Writes the bundle of a sheet's plan and gives its length (1 to 12).
+/// Writes the bundle of a sheet's plan and gives its length (1 to 8, 10 to 12).
 pub fn plan(sheet: &[u8], out: &mut [u8]) -> Result<usize, Refusal> {
     let sheet = Sheet::read(sheet)?;
     lend(&planner::plan(&sheet)?.to_bundle(&sheet), out)
@@ -39,7 +39,7 @@ pub fn listing(sheet: &[u8], out: &mut [u8]) -> Result<usize, Refusal> {
     lend(&listing::lines(&Sheet::read(sheet).and_then(|sheet| planner::plan(&sheet))), out)
 }
 
-/// Reads a bundle into a table of values; gives their count and the claim (1 to 10, 21 to 25, 12).
+/// Reads a bundle into a table of values; gives their count and the claim (1 to 8, 10, 21 to 25, 12).
 pub fn read_bundle(
     sheet: &[u8],
     bundle: &[u8],
@@ -50,7 +50,7 @@ pub fn read_bundle(
     Ok((lend(&bundle.values(), commands)?, bundle.claim))
 }
 
-/// Writes the bundle of these values and gives its length (1 to 10, 21 to 25, 12).
+/// Writes the bundle of these values and gives its length (1 to 8, 10, 21 to 25, 12).
 pub fn write_bundle(
     sheet: &[u8],
     commands: &[u16],
@@ -60,7 +60,7 @@ pub fn write_bundle(
     lend(&bundle::from_values(&Sheet::read(sheet)?, commands, claim)?, out)
 }
 
-/// Checks a bundle against its sheet (1 to 10, 21 to 30).
+/// Checks a bundle against its sheet (1 to 8, 10, 21 to 33).
 pub fn check(sheet: &[u8], bundle: &[u8]) -> Result<(), Refusal> {
     checker::check(&Sheet::read(sheet)?, bundle)
 }

@@ -32,8 +32,6 @@ pub const RANGE: u8 = 6;
 pub const LOOSE_LINK: u8 = 7;
 /// A link joins the same two tasks again.
 pub const DOUBLED_LINK: u8 = 8;
-/// A sheet has no task.
-pub const BARE_SHEET: u8 = 9;
 /// Tasks stand in a circle.
 pub const LOOP: u8 = 10;
 /// No step gives a processor.

@@ -1,4 +1,5 @@
-//! A task sheet: its values, reading it from bytes (1 to 10), making it from values, and writing it.
+//! A task sheet: its values, reading it from bytes (1 to 8, 10), making it from values, and writing
+//! it. A bare board has no task and so no link.
 
 use crate::command_bytes::*;
 use crate::graph::Graph;
@@ -28,7 +29,7 @@ pub struct Link {
     pub bytes: u16,
 }
 
-/// A valid sheet, in which 1 to 10 do not apply.
+/// A valid sheet, in which 1 to 8 and 10 do not apply.
 #[derive(Clone, Debug)]
 pub struct Sheet {
     pub processors: u8,
@@ -42,7 +43,12 @@ pub struct Sheet {
 }
 
 impl Sheet {
-    /// Reads a sheet from its bytes (1 to 10).
+    /// Whether the board is bare: no task, and so no link.
+    pub fn is_bare(&self) -> bool {
+        self.tasks.is_empty()
+    }
+
+    /// Reads a sheet from its bytes (1 to 8, 10).
     pub fn read(bytes: &[u8]) -> Result<Sheet, Refusal> {
         let mut rest = bytes;
         let draft = Draft::read(&mut rest);
@@ -51,7 +57,7 @@ impl Sheet {
         if rest.len() > END_LENGTH {
             return Err(Refusal::new(SHEET_TAIL, at + END_LENGTH));
         }
-        draft.finish(at)
+        draft.finish()
     }
 
     /// Makes a sheet of values: two for a task (work, store), four for a link (source, target,
@@ -65,7 +71,7 @@ impl Sheet {
     ) -> Result<Sheet, Refusal> {
         let mut at = 0;
         let draft = Draft::take(processors, limit, tasks, links, &mut at);
-        draft.map_err(|number| Refusal::new(number, at))?.finish(at)
+        draft.map_err(|number| Refusal::new(number, at))?.finish()
     }
 
     /// The sheet's bytes.
@@ -215,11 +221,8 @@ impl Draft {
         Ok(())
     }
 
-    /// The whole sheet (9, 10); its end command stands at `end`.
-    fn finish(self, end: usize) -> Result<Sheet, Refusal> {
-        if self.tasks.is_empty() {
-            return Err(Refusal::new(BARE_SHEET, end));
-        }
+    /// The whole sheet (10).
+    fn finish(self) -> Result<Sheet, Refusal> {
         let graph = Graph::new(self.tasks.len(), &self.links)?;
         Ok(Sheet {
             processors: self.processors,

@@ -77,6 +77,14 @@ pub fn k8_circle_sheet() -> Vec<u8> {
     circle_sheet(3, &[[0, 1], [1, 2], [2, 1]])
 }
 
+/// K1's board with no jobs yet.
+pub fn bare_sheet() -> Vec<u8> {
+    valid_sheet(3, 100, &[], &[])
+}
+
+/// The bundle of a bare board's plan: no programme, and the claim 0.
+pub const BARE_BUNDLE: [u8; 5] = [0x5A, 0, 0, 0, 0];
+
 /// K9 and K10 by name: K1's sheet a byte shorter and longer, with other processors, and no bytes.
 pub fn k9_and_k10() -> Vec<(String, Vec<u8>)> {
     let whole = k1_sheet();
@@ -93,11 +101,12 @@ pub fn k9_and_k10() -> Vec<(String, Vec<u8>)> {
     sheets
 }
 
-/// The sheets of the program `trials` by name: K9, K10 and each figure.
+/// The sheets of the program `trials` by name: K9, K10, a bare board and each figure.
 pub fn named() -> Vec<(String, Vec<u8>)> {
     let figures = figures::all().into_iter();
     let figures = figures.map(|figure| (figure.name.to_string(), figure.sheet().to_bytes()));
-    k9_and_k10().into_iter().chain(figures).collect()
+    let bare = [("bare".to_string(), bare_sheet())];
+    k9_and_k10().into_iter().chain(bare).chain(figures).collect()
 }
 
 /// What the program `trials` reads: for each sheet the name's length (u8), the name, the sheet's
@@ -146,6 +155,8 @@ pub fn files() -> Vec<(String, Vec<u8>)> {
         ("k7.bundle", k7_bundle()),
         ("k8-self.sheet", k8_self_sheet()),
         ("k8-circle.sheet", k8_circle_sheet()),
+        ("bare.sheet", bare_sheet()),
+        ("bare.bundle", BARE_BUNDLE.to_vec()),
         ("figures/001-F6.1.bundle", figures::gauss_jordan_bundle()),
     ]
     .into_iter()

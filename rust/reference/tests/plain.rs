@@ -77,12 +77,12 @@ fn large_plans_are_accepted() {
     }
 }
 
-/// A small sheet with up to three more links, which may close circles.
+/// A small sheet with up to three more links, which may close circles; on a bare board they are loose.
 fn perhaps_circular(random: &mut Random) -> sheets::Sheet {
     let mut values = sheets::small(random);
     let tasks = values.task_count();
     for _ in 0..random.below(4) {
-        let ends = [0; 2].map(|_| random.below(tasks) as u16);
+        let ends = [0; 2].map(|_| random.below(tasks.max(1)) as u16);
         if !values.links.chunks(4).any(|link| link[..2] == ends) {
             values.links.extend([ends[0], ends[1], 0, 0]);
         }
@@ -171,6 +171,46 @@ fn verdicts_and_machines() {
     }
     for number in [0, 21, 22, 23, 24, 25, 26, 28, 29, 30, 31, 32, 33] {
         assert!(counts[number] > 10, "{number} came {} times", counts[number]);
+    }
+}
+
+/// Bare boards, with bundles right and wrong: all functions, and any choices.
+#[test]
+fn bare_boards() {
+    let mut random = Random::new(7);
+    let mut counts = [0; 34];
+    for _ in 0..8000 {
+        let values = sheets::bare(&mut random);
+        let sheet = values.encode();
+        assert_eq!(whole(|out| interface::levels(&sheet, out)), Ok(Vec::new()));
+        assert_eq!(whole(|out| interface::plan(&sheet, out)), literal::interface::plan(&sheet));
+        let lines = whole(|out| interface::listing(&sheet, out));
+        assert_eq!(lines, Ok(literal::interface::listing(&sheet)));
+        let bundle = bundles::bare(&mut random, &values);
+        let written =
+            whole(|out| interface::write_bundle(&sheet, &bundle.commands, bundle.claim, out));
+        let literal = literal::interface::write_bundle(&sheet, &bundle.commands, bundle.claim);
+        assert_eq!(written, literal, "{values:?} {bundle:?}");
+        let bytes = bundles::frayed(&mut random, &bundle);
+        let verdict = interface::check(&sheet, &bytes);
+        assert_eq!(
+            verdict.map_err(same),
+            literal::interface::check(&sheet, &bytes),
+            "{bytes:02X?}"
+        );
+        counts[verdict.err().map_or(0, |refusal| usize::from(refusal.number))] += 1;
+        let valid = Sheet::read(&sheet).unwrap();
+        literal::interface::start(&sheet, &bytes, |literal| {
+            match (Machine::start(&valid, &bytes), literal) {
+                (Ok(machine), Ok(literal)) => {
+                    any_choices(&mut random, values.limit, machine, literal, verdict)
+                }
+                (machine, literal) => assert_eq!(machine.err().map(same), literal.err()),
+            }
+        });
+    }
+    for number in [0, 21, 23, 24, 25, 30] {
+        assert!(counts[number] > 100, "{number} came {} times", counts[number]);
     }
 }
 

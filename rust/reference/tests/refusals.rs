@@ -28,8 +28,12 @@ fn bundle(bytes: &[u8]) -> Verdict {
 
 /// Number and place of the refusal of a bundle's values for K1's sheet.
 fn bundle_values(commands: &[u16]) -> Verdict {
-    let sheet = Sheet::read(&k1_sheet()).unwrap();
-    let answer = from_values(&sheet, commands, 7);
+    values_for(&k1_sheet(), commands)
+}
+
+/// The same for any sheet.
+fn values_for(sheet: &[u8], commands: &[u16]) -> Verdict {
+    let answer = from_values(&Sheet::read(sheet).unwrap(), commands, 7);
     answer.err().map(|refusal| (refusal.number, refusal.place))
 }
 
@@ -51,6 +55,7 @@ fn join(parts: &[&[u8]]) -> Vec<u8> {
 #[test]
 fn sheet_in_order() {
     let cases: &[Case<&[u8]>] = &[
+        (&[&BOARD, &END], None),
         (&[&BOARD, &TASK, &END], None),
         (&[&BOARD, &TASK, &TASK, &link(1, 0), &END], None),
         // 1: nothing, cut operands, no end
@@ -68,7 +73,7 @@ fn sheet_in_order() {
         (&[&END], Some((3, 0))),
         (&[&BOARD, &BOARD[..1]], Some((3, 6))),
         (&[&BOARD, &TASK, &TASK, &link(0, 1), &[0x54]], Some((3, 23))),
-        // 4 before 9 and 10
+        // 4 before 10, also on a bare board
         (&[&BOARD, &END, &[0]], Some((4, 7))),
         (&[&BOARD, &TASK, &link(0, 0), &END, &END], Some((4, 19))),
         // 6: processors and work
@@ -80,8 +85,7 @@ fn sheet_in_order() {
         (&[&BOARD, &TASK, &link(0, 1)], Some((7, 11))),
         (&[&BOARD, &TASK, &link(1, 0)], Some((7, 11))),
         (&[&BOARD, &TASK, &TASK, &link(0, 1), &link(1, 0), &link(0, 1)], Some((8, 30))),
-        // 9 and 10
-        (&[&BOARD, &END], Some((9, 6))),
+        // 10
         (&[&BOARD, &TASK, &link(0, 0), &END], Some((10, 0))),
         (&[&BOARD, &TASK, &TASK, &link(0, 1), &link(1, 0), &END], Some((10, 0))),
     ];
@@ -130,7 +134,7 @@ fn sheet_of_values() {
     assert_eq!(sheet_values(&tasks, &[0, 1, 2]), Some((1, 16)));
     assert_eq!(sheet_values(&[], &[0]), Some((1, 6)));
     assert_eq!(sheet_values(&[], &[0, 0, 0, 0]), Some((7, 6)));
-    assert_eq!(sheet_values(&[], &[]), Some((9, 6)));
+    assert_eq!(sheet_values(&[], &[]), None);
     assert_eq!(sheet_values(&tasks, &[0, 256, 0, 0]), Some((7, 16)));
     assert_eq!(sheet_values(&tasks, &[257, 1, 0, 0]), Some((7, 16)));
     assert_eq!(sheet_values(&tasks, &[0, 1, 0, 0, 0, 1, 0, 0]), Some((8, 23)));
@@ -204,6 +208,62 @@ fn bundle_of_values() {
     }
 }
 
+/// On a bare board the claim may come first; all else before a `50` stays 23.
+#[test]
+fn bundle_of_a_bare_board() {
+    const CLAIM: [u8; 5] = BARE_BUNDLE;
+    let cases: &[Case<&[u8]>] = &[
+        (&[&CLAIM], None),
+        (&[&[0x50, 0], &CLAIM], None),
+        (&[&[0x50, 0, 0x50, 1, 0x50, 2], &CLAIM], None),
+        (&[&[0x50, 0, 0x50, 1, 0x50, 2, 0x50, 3], &CLAIM], Some((23, 6))),
+        (&[&[0x50, 1], &CLAIM], Some((23, 0))),
+        // 21: nothing, a cut claim, no claim
+        (&[], Some((21, 0))),
+        (&[&CLAIM[..1]], Some((21, 0))),
+        (&[&CLAIM[..4]], Some((21, 0))),
+        (&[&[0x50, 0], &CLAIM[..4]], Some((21, 2))),
+        (&[&[0x50, 0]], Some((21, 2))),
+        // 24
+        (&[&CLAIM, &[0x00]], Some((24, 5))),
+        (&[&CLAIM, &[0x50, 0]], Some((24, 5))),
+        (&[&CLAIM, &CLAIM], Some((24, 5))),
+        // 23, also where it is cut
+        (&[&[0x52]], Some((23, 0))),
+        (&[&[0x52, 0], &CLAIM], Some((23, 0))),
+        (&[&[0x53, 0, 0], &CLAIM], Some((23, 0))),
+        (&[&[0x56, 0], &CLAIM[..0]], Some((23, 0))),
+        // 22, and 25 in a programme
+        (&[&[0x51]], Some((22, 0))),
+        (&[&[0x50, 0, 0x52, 0], &CLAIM], Some((25, 2))),
+        (&[&[0x50, 0, 0x53, 0, 0], &CLAIM], Some((25, 2))),
+        (&[&[0x50, 0, 0x56, 0, 0], &CLAIM], Some((25, 2))),
+    ];
+    for (parts, expected) in cases {
+        let answer = interface::check(&bare_sheet(), &join(parts)).err();
+        let answer = answer.map(|refusal| (refusal.number, refusal.place));
+        assert_eq!(answer, *expected, "{:02X?}", join(parts));
+    }
+    let cases: &[Case<u16>] = &[
+        (&[], None),
+        (&[0x50, 0, 0x50, 1, 0x50, 2], None),
+        (&[0x50, 0, 0x50, 1, 0x50, 2, 0x50, 3], Some((23, 6))),
+        (&[0x50], Some((21, 0))),
+        (&[0x5A], Some((21, 0))),
+        (&[0x5A, 0], Some((24, 5))),
+        (&[0x5A, 0, 0x52, 0], Some((24, 5))),
+        (&[0x50, 0, 0x5A], Some((21, 2))),
+        (&[0x52], Some((23, 0))),
+        (&[0x53, 0], Some((23, 0))),
+        (&[0x56, 0], Some((23, 0))),
+        (&[0x50, 0, 0x52, 0], Some((25, 2))),
+        (&[0x15A, 0], Some((22, 0))),
+    ];
+    for (commands, expected) in cases {
+        assert_eq!(values_for(&bare_sheet(), commands), *expected, "{commands:X?}");
+    }
+}
+
 #[test]
 fn short_outputs() {
     let place = |answer: Result<(), reference::Refusal>| {
@@ -228,4 +288,15 @@ fn short_outputs() {
     assert_eq!((&out[..48], &out[48..]), (&sheet[..], &[0xAA; 2][..]));
     let write = interface::write_sheet(3, 100, &tasks, &links, &mut out[..47]);
     assert_eq!(place(write.map(|_| ())), Some((12, 48)));
+
+    // A bare board needs no tables and no levels.
+    let bare = bare_sheet();
+    assert_eq!(interface::read_sheet(&bare, &mut [], &mut []), Ok([3, 100, 0, 0]));
+    assert_eq!(interface::levels(&bare, &mut []), Ok(0));
+    assert_eq!(interface::read_bundle(&bare, &BARE_BUNDLE, &mut []), Ok((0, 0)));
+    let place = |answer: Result<usize, reference::Refusal>| place(answer.map(|_| ()));
+    assert_eq!(place(interface::plan(&bare, &mut [0; 4])), Some((12, 5)));
+    assert_eq!(place(interface::listing(&bare, &mut [0; 8])), Some((12, 9)));
+    assert_eq!(place(interface::write_sheet(3, 100, &[], &[], &mut [0; 6])), Some((12, 7)));
+    assert_eq!(place(interface::write_bundle(&bare, &[], 0, &mut [0; 4])), Some((12, 5)));
 }

@@ -3,6 +3,7 @@
 use reference::checker::check;
 use reference::graph::levels;
 use reference::listing;
+use reference::machine::{Machine, Step};
 use reference::planner::{plan, Plan};
 use reference::sheet::Sheet;
 use reference::trials::*;
@@ -115,6 +116,35 @@ fn k10() {
     assert_eq!([with(1), with(16)], [Ok(1), Ok(16)]);
     assert_eq!([with(0), with(17)], [refused(6, 0), refused(6, 0)]);
     assert_eq!(Sheet::read(&[]).err(), refused::<()>(1, 0).err());
+}
+
+/// C-13: a board with no jobs yet.
+#[test]
+fn bare_board() {
+    let bytes = bare_sheet();
+    assert_eq!(bytes, [0x4D, 3, 100, 0, 0, 0, 0x51]);
+    let sheet = read(&bytes);
+    assert!(sheet.is_bare() && sheet.links.is_empty() && levels(&sheet).is_empty());
+    assert_eq!(sheet.to_bytes(), bytes);
+    assert_eq!(planned(&bytes).to_bundle(&sheet), BARE_BUNDLE);
+    assert_eq!(listing::print(&bytes), b"PLAN 0 0\n");
+    for programmes in 0..=3 {
+        let mut bundle: Vec<u8> = (0..programmes).flat_map(|number| [0x50, number]).collect();
+        bundle.extend(BARE_BUNDLE);
+        assert_eq!(check(&sheet, &bundle), Ok(()));
+        let mut machine = Machine::start(&sheet, &bundle).unwrap();
+        assert_eq!(machine.processors().len(), programmes.into());
+        for choice in [0, 1, 2, 3, u64::MAX] {
+            assert_eq!(machine.step(choice), Step::Ended);
+        }
+        assert_eq!((machine.left(), machine.latest_clock()), (0, 0));
+        bundle[2 * usize::from(programmes) + 1] = 1;
+        assert_eq!(check(&sheet, &bundle), refused(30, 0));
+        assert_eq!(Machine::start(&sheet, &bundle).unwrap().latest_clock(), 0);
+    }
+    // On a sheet with tasks it is 23 as before, and not 26.
+    assert_eq!(check(&read(&k1_sheet()), &BARE_BUNDLE), refused(23, 0));
+    assert_eq!(check(&read(&k1_sheet()), &[&[0x50, 0], &BARE_BUNDLE[..]].concat()), refused(26, 0));
 }
 
 #[test]

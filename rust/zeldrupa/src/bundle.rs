@@ -43,7 +43,7 @@ impl Bundle {
         &self.bytes
     }
 
-    /// The programme of each processor that it opens.
+    /// The programme of each processor that it opens; on a bare board there may be none.
     pub fn programmes(&self) -> &[Vec<Command>] {
         &self.programmes
     }

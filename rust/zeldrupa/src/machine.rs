@@ -57,7 +57,7 @@ pub struct Machine<'a> {
 }
 
 impl<'a> Machine<'a> {
-    /// The fresh machine (13, 1 to 10, 21 to 26, 31 to 33, 28).
+    /// The fresh machine (13, 1 to 8, 10, 21 to 26, 31 to 33, 28).
     pub(crate) fn start(
         work: &mut [u32],
         sheet: &'a Sheet,
@@ -145,7 +145,7 @@ impl<'a> Machine<'a> {
         (0..).map_while(|k| self.processor(k))
     }
 
-    /// The greatest of all clocks.
+    /// The greatest of all clocks, 0 without programmes.
     pub fn latest_clock(&self) -> u32 {
         self.processors().map(|processor| processor.clock).max().unwrap_or(0)
     }

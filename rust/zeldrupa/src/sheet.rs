@@ -36,7 +36,7 @@ impl Link {
     }
 }
 
-/// A sheet to which none of the refusals 1 to 10 applies, made by
+/// A sheet to which none of the refusals 1 to 8 and 10 applies, made by
 /// [`WorkArea::read_sheet`](crate::WorkArea::read_sheet) or
 /// [`WorkArea::write_sheet`](crate::WorkArea::write_sheet).
 #[derive(Clone, Debug, PartialEq, Eq, Hash)]
@@ -64,7 +64,7 @@ impl Sheet {
         self.limit
     }
 
-    /// Its tasks, in number order.
+    /// Its tasks, in number order; none on a bare board.
     pub fn tasks(&self) -> &[Task] {
         &self.tasks
     }

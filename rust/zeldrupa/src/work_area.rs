@@ -35,7 +35,7 @@ impl WorkArea {
         }
     }
 
-    /// Reads a task sheet (1 to 10).
+    /// Reads a task sheet (1 to 8, 10).
     pub fn read_sheet(&mut self, bytes: &[u8]) -> Result<Sheet, Refusal> {
         let (tasks, links, mut board) = (&mut self.tasks, &mut self.links, [0; 4]);
         Refusal::of(raw::read_sheet(bytes, &mut self.words, tasks, links, &mut board))?;
@@ -58,7 +58,7 @@ impl WorkArea {
         })
     }
 
-    /// Writes the sheet of these values, refused as its bytes would be (1 to 10).
+    /// Writes the sheet of these values, refused as its bytes would be (1, 5 to 8, 10).
     pub fn write_sheet(
         &mut self,
         processors: u8,
@@ -76,7 +76,7 @@ impl WorkArea {
         Ok(Sheet { bytes: bytes.to_vec(), processors, limit, tasks, links })
     }
 
-    /// The b-level of each task, in number order (1 to 10).
+    /// The b-level of each task, in number order (1 to 8, 10).
     pub fn levels(&mut self, sheet: impl AsRef<[u8]>) -> Result<Vec<u32>, Refusal> {
         let words = &mut self.words;
         let levels = filled(&mut self.levels, |out| raw::levels(sheet.as_ref(), words, out))?;
@@ -91,6 +91,12 @@ impl WorkArea {
     /// let sheet = work.read_sheet(include_bytes!("../../../examples/k5.sheet")).unwrap();
     /// let refusal = work.plan(&sheet).unwrap_err();
     /// assert_eq!((refusal.number(), refusal.place(), refusal.word()), (11, 4, "no store"));
+    ///
+    /// // A bare board has a plan without programmes.
+    /// let bare = work.write_sheet(3, 100, &[], &[]).unwrap();
+    /// let bundle = work.plan(&bare).unwrap();
+    /// assert_eq!(bundle.bytes(), [0x5A, 0, 0, 0, 0]);
+    /// assert_eq!((bundle.programmes().len(), bundle.claim()), (0, 0));
     /// ```
     pub fn plan(&mut self, sheet: &Sheet) -> Result<Bundle, Refusal> {
         let words = &mut self.words;
@@ -152,7 +158,8 @@ impl WorkArea {
         Ok(Bundle { bytes: bytes.to_vec(), programmes: programmes.to_vec(), claim })
     }
 
-    /// Checks a bundle for a sheet, each a value or any bytes (1 to 10, 21 to 30).
+    /// Checks a bundle for a sheet, each a value or any bytes (1 to 8, 10, 21 to 26, 28
+    /// to 33).
     pub fn check(
         &mut self,
         sheet: impl AsRef<[u8]>,

@@ -49,7 +49,7 @@ fn plans_are_accepted_and_run_to_their_claims() {
             continue;
         };
         // The bundles of K5, K6 and the figure are by hand.
-        if ["k1", "k2", "k3", "k4"].iter().any(|trial| name.starts_with(trial)) {
+        if ["k1", "k2", "k3", "k4", "bare"].iter().any(|trial| name.starts_with(trial)) {
             assert_eq!(bundle.bytes(), files[&name.replace(".sheet", ".bundle")], "{name}");
         }
         assert_eq!(work.check(&sheet, &bundle), Ok(()), "{name}");
@@ -73,6 +73,48 @@ fn refusals_have_number_place_and_word() {
     assert_eq!(number_and_place(work.read_bundle(&sheet, &[0x50, 1])), Some((23, 0)));
     let seventeen = vec![Vec::new(); 17];
     assert_eq!(number_and_place(work.write_bundle(&sheet, &seventeen, 0)), Some((23, 6)));
+}
+
+/// C-13: a board with no jobs yet is read, written, levelled, planned, listed, checked and started.
+#[test]
+fn a_bare_board_is_whole() {
+    let (mut work, files) = (WorkArea::new(), files());
+    let sheet = work.read_sheet(&files["bare.sheet"]).unwrap();
+    assert_eq!((sheet.processors(), sheet.limit()), (3, 100));
+    assert!(sheet.tasks().is_empty() && sheet.links().is_empty());
+    assert_eq!(work.write_sheet(3, 100, &[], &[]).as_ref(), Ok(&sheet));
+    assert_eq!(work.levels(&sheet), Ok(Vec::new()));
+    assert_eq!(work.listing(&sheet), "PLAN 0 0\n");
+    for programmes in 0..=3 {
+        let programmes = vec![Vec::new(); programmes];
+        let bundle = work.write_bundle(&sheet, &programmes, 0).unwrap();
+        assert_eq!(work.read_bundle(&sheet, bundle.bytes()).as_ref(), Ok(&bundle));
+        assert_eq!(work.check(&sheet, &bundle), Ok(()));
+        let late = work.write_bundle(&sheet, &programmes, 1).unwrap();
+        assert_eq!(number_and_place(work.check(&sheet, &late)), Some((30, 0)));
+        for bundle in [&bundle, &late] {
+            let mut machine = work.start(&sheet, bundle).unwrap();
+            assert!((0..4).all(|k| !machine.step(k)) && !machine.step(u64::MAX));
+            assert_eq!(machine.processors().count(), programmes.len());
+            assert_eq!((machine.left(), machine.latest_clock(), machine.stamp(0)), (0, 0, None));
+            assert_eq!(machine.run(&mut work, &[0, 1, 255]), 0);
+        }
+    }
+    let four = vec![Vec::new(); 4];
+    assert_eq!(number_and_place(work.write_bundle(&sheet, &four, 0)), Some((23, 6)));
+    for (bundle, refusal) in [
+        (&[][..], (21, 0)),
+        (&[0x5A, 0, 0, 0], (21, 0)),
+        (&[0x5A, 0, 0, 0, 0, 0], (24, 5)),
+        (&[0x52, 0], (23, 0)),
+        (&[0x53], (23, 0)),
+        (&[0x56, 0, 0], (23, 0)),
+        (&[0x50, 0, 0x52, 0], (25, 2)),
+    ] {
+        assert_eq!(number_and_place(work.check(&sheet, bundle)), Some(refusal), "{bundle:02X?}");
+    }
+    let k1 = &files["k1.sheet"];
+    assert_eq!(number_and_place(work.check(k1, &files["bare.bundle"])), Some((23, 0)));
 }
 
 #[test]

@@ -61,7 +61,11 @@ fn answer(loader: &mut Loader, arguments: &Arguments) -> Result<Answer, Fault> {
             log.stuck(&mut machine);
         }
     }
-    log.text += &format!("\n{}", state(&machine, &sheet));
+    // On a bare board there may be no choice to tell of.
+    if log.choices > 0 {
+        log.text.push('\n');
+    }
+    log.text += &state(&machine, &sheet);
     Ok(Answer::text(log.text))
 }
 

@@ -30,7 +30,7 @@ fn answer(loader: &mut Loader, arguments: &Arguments) -> Result<Answer, Fault> {
     let shown = files::shown(path);
     let text = match loader.content(path)? {
         Content::Bytes(bytes) if is_bundle(&bytes) => {
-            let of = loader.any_sheet();
+            let of = loader.any_sheet(bytes.starts_with(&[CLAIM]));
             let bundle = loader.bundle_of_bytes(&of, &shown, &bytes)?;
             bundle_text(&bundle.bundle, None)
         }
@@ -56,7 +56,11 @@ fn answer(loader: &mut Loader, arguments: &Arguments) -> Result<Answer, Fault> {
     Ok(Answer::text(text))
 }
 
+/// The first byte of a bundle, and of one without programmes.
+const OPEN: u8 = 0x50;
+const CLAIM: u8 = 0x5A;
+
 /// Whether bytes begin as a bundle: no sheet begins with a programme or a claim.
 fn is_bundle(bytes: &[u8]) -> bool {
-    matches!(bytes.first(), Some(0x50 | 0x5A))
+    matches!(bytes.first(), Some(&(OPEN | CLAIM)))
 }

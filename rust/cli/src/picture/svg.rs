@@ -21,7 +21,7 @@ const INK: &str = "#22303a";
 /// The whole picture.
 pub fn draw(picture: &Picture) -> String {
     let drawing = Drawing::new(picture);
-    let chart = TOP + ROW * picture.trace.processors as f64 + LEGEND;
+    let chart = TOP + ROW * drawing.rows() as f64 + LEGEND;
     let (circle, circle_size) = circle::svg(picture, chart);
     let waits = (0..picture.trace.processors).filter_map(|k| drawing.vain_wait(k));
     let right = waits.map(|(_, _, end)| end).fold(LEFT + drawing.plot, f64::max);
@@ -92,13 +92,18 @@ impl<'a> Drawing<'a> {
         LEFT + f64::from(time) * self.scale
     }
 
+    /// How many rows there is room for: without programmes one, which stays empty.
+    fn rows(&self) -> usize {
+        self.picture.trace.processors.max(1)
+    }
+
     /// The upper edge of a processor's bars.
     fn y(&self, processor: usize) -> f64 {
         TOP + ROW * processor as f64 + 8.0
     }
 
     fn bottom(&self) -> f64 {
-        self.y(self.picture.trace.processors) - ROW + BAR + 24.0
+        self.y(self.rows()) - ROW + BAR + 24.0
     }
 
     /// The time axis with lines through all rows.

@@ -137,6 +137,11 @@ impl BundleLines {
 }
 
 impl BundleText {
+    /// Whether it opens no programme, as only a bare board's may.
+    pub fn is_bare(&self) -> bool {
+        self.programmes.is_empty()
+    }
+
     /// What cannot be told without the sheet: names, links by their ends, and the latest clock.
     pub fn needs_sheet(&self) -> Vec<Problem> {
         let mut problems = Vec::new();

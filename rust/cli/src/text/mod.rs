@@ -30,11 +30,13 @@ pub struct Text {
 const WORDS: [&str; 8] = ["board", "task", "link", "processor", "run", "send", "receive", "claim"];
 
 /// Whether a file is meant as text: it begins as one, and has no control bytes but tabs and the ends
-/// of lines. No sheet and no bundle does: the number behind its first byte is no letter.
+/// of lines. No sheet and no bundle does: the number behind its first byte is no letter, unless that
+/// is the claim of a bundle without programmes, and no word begins with the claim's byte.
 pub fn is_text(bytes: &[u8]) -> bool {
     let begins = match bytes {
+        [b'Z', ..] => false,
         // A lone command, not the beginning of a word.
-        [b'M' | b'T' | b'E' | b'Q' | b'P' | b'R' | b'S' | b'V' | b'Z', rest @ ..] => {
+        [b'M' | b'T' | b'E' | b'Q' | b'P' | b'R' | b'S' | b'V', rest @ ..] => {
             rest.first().is_some_and(u8::is_ascii_alphabetic)
         }
         [first, ..] => first.is_ascii() || *first == 0xEF,

@@ -6,21 +6,21 @@ use zeldrupa::{Bundle, Command, Sheet};
 
 /// The text of a sheet.
 pub fn sheet_text(sheet: &Sheet, names: &Names) -> String {
-    let mut text = format!("board processors {} store {}\n\n", sheet.processors(), sheet.limit());
+    let mut text = format!("board processors {} store {}\n", sheet.processors(), sheet.limit());
     let field = |name: &str, value: u16| format!("{name} {value}");
     let tasks = sheet.tasks().iter().enumerate().map(|(number, task)| {
         let name = format!("task {}", names.shown(number));
         vec![name, field("work", task.work), field("store", task.store)]
     });
-    text += &aligned(&tasks.collect::<Vec<_>>());
+    let tasks: Vec<_> = tasks.collect();
     let links = sheet.links().iter().enumerate().map(|(number, link)| {
         let name = format!("link {}", link_shown(sheet, names, number));
         vec![name, field("cost", link.cost), field("bytes", link.bytes)]
     });
     let links: Vec<_> = links.collect();
-    if !links.is_empty() {
+    for rows in [tasks, links].iter().filter(|rows| !rows.is_empty()) {
         text.push('\n');
-        text += &aligned(&links);
+        text += &aligned(rows);
     }
     text
 }

@@ -1,6 +1,7 @@
 //! The families of inputs, each with a comparison of its own, so that the same seed makes the same
 //! inputs on any number of threads.
 
+mod bare;
 mod formats;
 mod machine;
 mod plans;
@@ -24,6 +25,8 @@ pub type Family<R> = (&'static str, fn(&mut Comparison<R>) -> Outcome);
 pub const FAST: &[Family<Fast>] = &[
     ("trial sheets", formats::trial_sheets),
     ("refused sheets", formats::refused_sheets),
+    ("bare boards", bare::boards),
+    ("bare boards byte by byte", bare::byte_by_byte),
     ("valid sheets", formats::valid_sheets),
     ("damaged sheets", formats::damaged_sheets),
     ("damaged values of sheets", formats::damaged_sheet_values),
@@ -61,6 +64,8 @@ pub const FAST: &[Family<Fast>] = &[
 /// The families of small inputs, each of which is for several runs.
 pub const LITERAL: &[Family<Literal>] = &[
     ("refused sheets", formats::refused_sheets),
+    ("bare boards", bare::boards),
+    ("bare boards byte by byte", bare::byte_by_byte),
     ("small boards", small::boards),
     ("damaged small sheets", small::damaged_sheets),
     ("over-full sheets", small::over_full_sheets),
@@ -174,7 +179,8 @@ fn claim_wrongly(random: &mut Random, bundle: &mut bundles::Bundle) {
 /// Gives the limit that one of the programmes just needs, or one less or more.
 fn limit_as_needed(random: &mut Random, sheet: &mut sheets::Sheet, bundle: &mut bundles::Bundle) {
     let needs = bundles::needs(sheet, bundle);
-    let need = match random.once_in(3) {
+    // A bare board's bundle may have no programme.
+    let need = match random.once_in(3) && !needs.is_empty() {
         true => random.pick(&needs),
         false => needs.into_iter().max().unwrap_or(0),
     };

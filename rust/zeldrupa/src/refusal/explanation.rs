@@ -159,8 +159,12 @@ mod tests {
         let plan = include_bytes!("../../../../examples/k1.bundle");
         let stuck = include_bytes!("../../../../examples/k6.bundle");
         let sheets = (0..=k1.len()).map(|end| &k1[..end]);
-        for sheet in sheets.chain([&b"\x51"[..], b"\x45\0", b"?", b"\x4D\x01\0\0\0\0\x45\x07"]) {
-            for bundle in [&plan[..], &stuck[..], &plan[..9], &plan[..1], b"", b"\x5A", b"?"] {
+        let bare = b"\x4D\x01\0\0\0\0\x51";
+        let others = [&b"\x51"[..], b"\x45\0", b"?", b"\x4D\x01\0\0\0\0\x45\x07", bare];
+        for sheet in sheets.chain(others) {
+            let claims = [&b"\x5A"[..], b"\x5A\0\0\0\0", b"\x50\0\x5A\x01\0\0\0\0"];
+            let bundles = [&plan[..], &stuck[..], &plan[..9], &plan[..1], b"", b"?"];
+            for bundle in bundles.into_iter().chain(claims) {
                 for number in 0..=40 {
                     for place in [0, 1, 2, 3, 4, 6, 26, 47, 48, 255, 256, u64::MAX] {
                         let explained =

@@ -27,7 +27,7 @@ pub(crate) fn kind(number: u8) -> Option<&'static Kind> {
 }
 
 /// All of them; docs/FORMAT.md has the same sentences.
-pub(crate) static KINDS: [Kind; 25] = [
+pub(crate) static KINDS: [Kind; 24] = [
     Kind {
         number: 1,
         word: "cut sheet",
@@ -83,13 +83,6 @@ pub(crate) static KINDS: [Kind; 25] = [
         counts: Counts::SheetBytes,
         cause: "A second link leads from the same task to the same task.",
         remedy: "Make the two links one.",
-    },
-    Kind {
-        number: 9,
-        word: "bare sheet",
-        counts: Counts::SheetBytes,
-        cause: "The sheet has no task.",
-        remedy: "Add a task.",
     },
     Kind {
         number: 10,

@@ -7,19 +7,19 @@ use Rattle.bundle_writer.proofs.writer.cut_number.Statement.{statement}
 use Rattle.bundle_writer.proofs.writer.cut_number.Tie as tie
 
 returns : tie.Need-returns
-returns c = c .cut-inside .ensures ∙ sym (cut-message _ _ (sym (c .before .before .is-message .ensures) ∙ c .before .if1 .taken))
+returns c = c .cut-inside .ensures ∙ sym (cut-message _ _ _ (sym (c .before .before .is-message .ensures) ∙ c .before .if1 .taken))
 
 returns-2 : tie.Need-returns-2
-returns-2 c = c .cut-inside2 .ensures ∙ sym (cut-known _ _ 0x52 running (c .before .if2 .taken) refl)
+returns-2 c = c .cut-inside2 .ensures ∙ sym (cut-known _ _ _ 0x52 running (c .before .if2 .taken) refl)
 
 returns-3 : tie.Need-returns-3
-returns-3 c = sym (cut-known _ _ 0x50 opening (c .if3 .taken) refl)
+returns-3 c = sym (cut-known _ _ _ 0x50 opening (c .if3 .taken) refl)
 
 returns-4 : tie.Need-returns-4
-returns-4 c = c .cut-inside3 .ensures ∙ sym (cut-known _ _ 0x5A claiming (c .before .if4 .taken) refl)
+returns-4 c = c .cut-claim .ensures ∙ sym (cut-known _ _ _ 0x5A claiming (c .before .if4 .taken) refl)
 
 returns-5 : tie.Need-returns-5
-returns-5 c = cut-strange _ _ (sym (c .before .before .before .before .is-message .ensures) ∙ c .before .before .before .if1 .left) (c .before .before .if2 .left) (c .before .if3 .left) (c .if4 .left)
+returns-5 c = cut-strange _ _ _ (sym (c .before .before .before .before .is-message .ensures) ∙ c .before .before .before .if1 .left) (c .before .before .if2 .left) (c .before .if3 .left) (c .if4 .left)
 
 pub cut-number-spec : {M : Type 1} → statement M
 cut-number-spec =

@@ -20,10 +20,10 @@ returns-4 : tie.Need-returns-4
 returns-4 c = only-out (judges-strange (c .before .before .before .before .before .before .before .before .pre .0) (c .before .before .before .before .before .before .before .before .pre .1) (sym (c .before .before .before .before .is-message .ensures) ∙ c .before .before .before .if1 .left) (c .before .before .if2 .left) (c .before .if3 .left) (c .if4 .taken))
 
 returns-5 : tie.Need-returns-5
-returns-5 c = only-out (judges-claim-no (c .before .before .before .before .before .before .before .before .before .pre .0) (c .before .before .before .before .before .before .before .before .before .pre .1) (c .before .if4 .left) (c .if5 .taken))
+returns-5 c = only-out (judges-claim-no (c .before .before .before .before .before .before .before .before .before .before .pre .0) (c .before .before .before .before .before .before .before .before .before .before .pre .1) (c .before .before .if4 .left) (sym (c .before .is-early .ensures) ∙ c .if5 .taken))
 
 returns-6 : tie.Need-returns-6
-returns-6 c = only-out (judges-tail (c .before .before .before .before .before .before .before .before .before .pre .0) (c .before .before .before .before .before .before .before .before .before .pre .1) (c .before .if4 .left) (c .if5 .left))
+returns-6 c = only-out (judges-tail (c .before .before .before .before .before .before .before .before .before .before .pre .0) (c .before .before .before .before .before .before .before .before .before .before .pre .1) (c .before .before .if4 .left) (sym (c .before .is-early .ensures) ∙ c .if5 .left))
 
 pub next-at-spec : {M : Type 1} → statement M
 next-at-spec =
@@ -49,6 +49,7 @@ next-at-spec =
     (λ c κs. search needs)
     returns-3
     returns-4
+    (λ c κs. search needs)
     returns-5
     (λ c. search needs)
     returns-6)

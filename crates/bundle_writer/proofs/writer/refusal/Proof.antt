@@ -1,5 +1,6 @@
 -- `refusal` (src/writer.rt) keeps its contract.
 use Prim.Native.Nat.{_-_}
+use mathlib.Core.Path.{_∙_, sym}
 use lib.ListN.{length}
 use native.Mathlib.Omega.{arith}
 use Rattle.bundle_writer.specs.Judges.{Judges}
@@ -30,10 +31,10 @@ returns-2 : tie.Need-returns-2 Inv-loop μ-loop
 returns-2 c = judges-cut (c .before .before .before .before .loop .inv) _ (omega arith) (c .cut-number .ensures)
 
 returns-3 : tie.Need-returns-3 Inv-loop μ-loop
-returns-3 c = judges-bare (c .before .before .before .loop .inv) (omega arith) (c .if2 .taken)
+returns-3 c = judges-bare (c .before .before .before .before .loop .inv) (omega arith) (sym (c .before .is-early .ensures) ∙ c .if2 .taken)
 
 returns-4 : tie.Need-returns-4 Inv-loop μ-loop
-returns-4 c = judges-long (c .before .before .before .loop .inv) (omega arith) (c .if2 .left)
+returns-4 c = judges-long (c .before .before .before .before .loop .inv) (omega arith) (sym (c .before .is-early .ensures) ∙ c .if2 .left)
 
 pub refusal-spec : {M : Type 1} → statement M
 refusal-spec =
@@ -54,6 +55,7 @@ refusal-spec =
     (λ c. search needs)
     (λ c κs. search needs)
     returns-2
+    (λ c κs. search needs)
     returns-3
     (λ c. search needs)
     returns-4)
