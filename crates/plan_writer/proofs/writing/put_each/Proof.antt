@@ -24,17 +24,18 @@ put-programme-requires : tie.Need-put-programme-requires Inv-loop μ-loop
 put-programme-requires c κs =
     let s = c .before .before .before .before .before .before .before in
     let in-loop = c .before .before .loop .inv in
-    let opened = c .before .before .before .opened .ensures in
+    let opened = c .before .before .before .opened .ensures .0 in
+    let few = c .before .before .before .opened .ensures .1 in
     let below = c .before .loop-test .taken in
-    (s .pre .0, ((omega (arith, below, opened .1), s .pre .1 .0), filled-rest _ _ _ (in-loop .2) (scheduleIn (now (s .args .w)) .opened) (omega (arith, below, opened .0)) (omega (arith, s .pre .1 .1))))
+    (s .pre .0, ((omega (arith, below, few), s .pre .1 .0), filled-rest _ _ _ (in-loop .2) (scheduleIn (now (s .args .w)) .opened) (omega (arith, below, opened)) (omega (arith, s .pre .1 .1))))
 
 add-at : tie.Need-add-at Inv-loop μ-loop
 add-at c =
     let entry = c .before .before .before .before .before .before .before .before .before .before in
     let in-loop = c .before .before .before .before .before .loop .inv in
-    let count = c .before .before .before .before .before .before .opened .ensures in
+    let count = c .before .before .before .before .before .before .opened .ensures .0 in
     let below = c .before .before .before .before .loop-test .taken in
-    let room = filled-room _ _ _ (in-loop .2) (scheduleIn (now (entry .args .w)) .opened) (omega (arith, below, count .0)) (omega (arith, entry .pre .1 .1)) in
+    let room = filled-room _ _ _ (in-loop .2) (scheduleIn (now (entry .args .w)) .opened) (omega (arith, below, count)) (omega (arith, entry .pre .1 .1)) in
     omega (arith, c .before .before .put-programme .ensures .next, room)
 
 loop-again : tie.Need-loop-again Inv-loop μ-loop
@@ -42,9 +43,9 @@ loop-again c =
     let s = c .before .before .before .before .before .before .before .before .before .before in
     let in-loop = c .before .before .before .before .before .loop .inv in
     let put = c .before .before .put-programme in
-    let opened = c .before .before .before .before .before .before .opened .ensures in
+    let opened = c .before .before .before .before .before .before .opened .ensures .0 in
     let below = c .before .before .before .before .loop-test .taken in
-    let room = filled-room _ _ _ (in-loop .2) (scheduleIn (now (s .args .w)) .opened) (omega (arith, below, opened .0)) (omega (arith, s .pre .1 .1)) in
+    let room = filled-room _ _ _ (in-loop .2) (scheduleIn (now (s .args .w)) .opened) (omega (arith, below, opened)) (omega (arith, s .pre .1 .1)) in
     let more = filled-lent _ _ _ (in-loop .2) (in-loop .1) (put .ensures) (put .kept .1 .1 .0) in
     (omega arith, omega (arith, put .ensures .next, room, more .long, in-loop .2 .long), more)
 
