@@ -14,8 +14,8 @@ use Rattle.folds.proofs.Loops.{sum-zero, sum-one}
 use Rattle.folds.proofs.Laws.{sum-le}
 use Rattle.sheet.specs.Sheet.{Sheet, taskCount, linkCount, targetOf, bytesOf}
 use Rattle.sheet.specs.Tables.{Ranged}
-use Rattle.chains.specs.Frames.{Only}
-use Rattle.chains.proofs.Frames.{only-none, only-set}
+use Rattle.adjacency.specs.Frames.{Only}
+use Rattle.adjacency.proofs.Frames.{only-none, only-set}
 use Rattle.arrivals.specs.Layout.{bytesFrom, seenFrom, keptLength}
 use Rattle.arrivals.specs.Kept.{countedBy, into, oneBy, Gathered}
 use Rattle.arrivals.specs.Steps.{Zero, GatheredTo}

@@ -12,9 +12,9 @@ use Rattle.folds.specs.Folds.{sum}
 use Rattle.folds.proofs.Laws.{sum-rises}
 use Rattle.folds.proofs.Loops.{sum-one}
 use Rattle.sheet.specs.Sheet.{Sheet, taskCount, linkCount, targetOf}
-use Rattle.chains.specs.Chains.{headOf, nextOf, Chained}
-use Rattle.chains.specs.declared.End.the-variants.{Target}
-use Rattle.chains.proofs.Walks.{own-first, own-next, sum-first, sum-next}
+use Rattle.adjacency.specs.Chains.{headOf, nextOf, Chained}
+use Rattle.adjacency.specs.declared.End.the-variants.{Target}
+use Rattle.adjacency.proofs.Walks.{own-first, own-next, sum-first, sum-next}
 use Rattle.arrivals.specs.Kept.{countedBy, into, oneBy, Gathered}
 
 -- the walk, at link l, after i links

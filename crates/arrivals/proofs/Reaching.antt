@@ -16,9 +16,9 @@ use Rattle.sheet.specs.Times.{linkTime}
 use Rattle.sheet.specs.Tables.{Ranged}
 use Rattle.planner.specs.Schedule.{Schedule, placed, placeOf, stands, finishOf}
 use Rattle.planner.specs.Placing.{comes, endBy, endOf, startBy, startFrom, startOn}
-use Rattle.chains.specs.Chains.{headOf, nextOf, Chained}
-use Rattle.chains.specs.declared.End.the-variants.{Target}
-use Rattle.chains.proofs.Walks.{greatest-first, greatest-next}
+use Rattle.adjacency.specs.Chains.{headOf, nextOf, Chained}
+use Rattle.adjacency.specs.declared.End.the-variants.{Target}
+use Rattle.adjacency.proofs.Walks.{greatest-first, greatest-next}
 use Rattle.arrivals.specs.Layout.{endsFrom}
 use Rattle.arrivals.specs.Kept.{Ends, Caches}
 use Rattle.arrivals.specs.Lanes.{lane, Lanes, Steps, startPast, startTo}

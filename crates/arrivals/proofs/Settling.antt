@@ -15,8 +15,8 @@ use Rattle.sheet.specs.Sheet.{Sheet, taskCount, linkCount, sourceOf, targetOf, 
 use Rattle.sheet.specs.Tables.{Ranged}
 use Rattle.planner.specs.Schedule.{Schedule, put, stands}
 use Rattle.planner.specs.Placing.{endOf, storeBy, bytesBy, storeOn}
-use Rattle.chains.specs.Frames.{Only}
-use Rattle.chains.proofs.Frames.{only-none, only-set}
+use Rattle.adjacency.specs.Frames.{Only}
+use Rattle.adjacency.proofs.Frames.{only-none, only-set}
 use Rattle.arrivals.specs.Layout.{bytesFrom, endsFrom, storesFrom, waitingFrom, turnBytesFrom, turnLinksFrom, keptLength}
 use Rattle.arrivals.specs.Kept.{known, Gathered, Counted, Surveyed, Ends}
 use Rattle.arrivals.specs.Steps.{Placeable, Released, Enough}

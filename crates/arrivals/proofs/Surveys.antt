@@ -20,10 +20,10 @@ use Rattle.planner.specs.Schedule.{Schedule, placed, stands, placeOf, finishOf}
 use Rattle.planner.specs.Placing.{ready, startOn}
 use Rattle.planner.proofs.Ready.{ready-source}
 use Rattle.schedule.specs.Layout.{scheduleIn}
-use Rattle.chains.specs.Frames.{Only}
-use Rattle.chains.specs.Chains.{headOf, nextOf, Chained}
-use Rattle.chains.specs.declared.End.the-variants.{Target}
-use Rattle.chains.proofs.Frames.{only-none, only-set, only-trans}
+use Rattle.adjacency.specs.Frames.{Only}
+use Rattle.adjacency.specs.Chains.{headOf, nextOf, Chained}
+use Rattle.adjacency.specs.declared.End.the-variants.{Target}
+use Rattle.adjacency.proofs.Frames.{only-none, only-set, only-trans}
 use Rattle.arrivals.specs.Layout.{endsFrom, turnBytesFrom, turnLinksFrom, packedFrom, keptLength}
 use Rattle.arrivals.specs.Kept.{countedBy, intoFrom, oneBy, known, Gathered, SurveyedTo, Surveyed, Ends, Kept}
 use Rattle.arrivals.specs.Lanes.{Lanes, Steps, startPast, startTo}

@@ -18,8 +18,8 @@ use Rattle.sheet.proofs.Rows.{ranged}
 use Rattle.planner.specs.Schedule.{Schedule, placed}
 use Rattle.planner.specs.Placing.{reachBy}
 use Rattle.schedule.specs.Layout.{scheduleIn}
-use Rattle.chains.specs.Chains.{headOf, nextOf, Chained}
-use Rattle.chains.specs.declared.End.the-variants.{Source}
+use Rattle.adjacency.specs.Chains.{headOf, nextOf, Chained}
+use Rattle.adjacency.specs.declared.End.the-variants.{Source}
 use Rattle.arrivals.specs.Layout.{bytesFrom, seenFrom, arrivalsFrom, sendersFrom, endsFrom, storesFrom, waitingFrom, turnBytesFrom, packedFrom, keptLength}
 use Rattle.arrivals.specs.Kept.{countedBy, into, known, oneBy, Single, Gathered, Counted, Ends, Kept, Arrived}
 use Rattle.arrivals.specs.Steps.{upTo, Beside}

@@ -11,8 +11,8 @@ use Rattle.sheet.specs.Tables.{sheetIn, Loaded, Ranged}
 use Rattle.planner.specs.Schedule.{Schedule, placeOf, placed, stands}
 use Rattle.planner.specs.Placing.{reachBy, endOf, storeOn}
 use Rattle.schedule.specs.Layout.{scheduleIn}
-use Rattle.chains.specs.Chains.{Chained}
-use Rattle.chains.specs.declared.End.the-variants.{Source, Target}
+use Rattle.adjacency.specs.Chains.{Chained}
+use Rattle.adjacency.specs.declared.End.the-variants.{Source, Target}
 use Rattle.arrivals.specs.Layout.{bytesFrom, seenFrom, arrivalsFrom, sendersFrom, endsFrom, storesFrom, waitingFrom, turnBytesFrom, turnLinksFrom, packedFrom, keptLength}
 
 -- what link l gives, if it is counted (c) and of those that are asked for (q)

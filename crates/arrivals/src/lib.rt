@@ -11,15 +11,15 @@ ghost use Rattle.sheet.specs.Tables.{sheetIn, Loaded};
 ghost use Rattle.planner.specs.Schedule.{put, placed, placeOf, finishOf};
 ghost use Rattle.planner.specs.Placing.{ready, endOf, startBy, startOn};
 ghost use Rattle.schedule.specs.Layout.{scheduleIn};
-ghost use Rattle.chains.specs.Frames.{Only};
-ghost use Rattle.chains.specs.Chains.{Chained};
-ghost use Rattle.chains.specs.declared.End.the-variants.{Target};
+ghost use Rattle.adjacency.specs.Frames.{Only};
+ghost use Rattle.adjacency.specs.Chains.{Chained};
+ghost use Rattle.adjacency.specs.declared.End.the-variants.{Target};
 ghost use Rattle.arrivals.specs.Layout.{seenFrom, endsFrom, waitingFrom, turnBytesFrom, packedFrom, keptLength};
 ghost use Rattle.arrivals.specs.Kept.{Single, Gathered, Counted, SurveyedTo, Surveyed, Ends, Kept};
 ghost use Rattle.arrivals.specs.Lanes.{Lanes, Steps, startPast, Started, Early};
 ghost use Rattle.arrivals.specs.Reach.{further};
 ghost use Rattle.arrivals.specs.Steps.{countWords, upTo, Beside, Placeable, Landed, Released, Enough, GatheredTo};
-use chains::End;
+use adjacency::End;
 use sheet::tables;
 
 // Where each table of the planner's own words begins, and how many words these are: specs/Layout says what they hold.
@@ -65,7 +65,7 @@ fn reached(reach: Reach, k: usize, y: usize) -> Reach
     let most = reach.most;
     Reach {
         at: chosen(most < y, k, reach.at),
-        most: words::later(most, y),
+        most: numbers::later(most, y),
     }
 }
 
@@ -244,12 +244,12 @@ fn survey_links(w: &[u32], kept: &mut [u32], t: usize) -> Starts
 {
     let n = workspace::word(kept, t);
     let mut starts = begun(kept);
-    let mut l = chains::first(w, End::Target, t);
+    let mut l = adjacency::first(w, End::Target, t);
     let mut i: usize = 0;
     while i < n {
         starts = starts_with(w, starts, l);
         survey_link(w, kept, t, l);
-        l = chains::next(w, End::Target, l);
+        l = adjacency::next(w, End::Target, l);
         i += 1;
     }
     starts
@@ -285,14 +285,14 @@ pub fn starts_before(w: &[u32], kept: &[u32], t: usize, k: usize, limit: usize) 
 {
     let n = workspace::word(kept, t);
     let mut start = workspace::word(kept, ENDS + k);
-    let mut l = chains::first(w, End::Target, t);
+    let mut l = adjacency::first(w, End::Target, t);
     let mut i: usize = 0;
     while i < n {
         if limit <= start {
             return false;
         }
-        start = words::later(start, start_by(w, k, l));
-        l = chains::next(w, End::Target, l);
+        start = numbers::later(start, start_by(w, k, l));
+        l = adjacency::next(w, End::Target, l);
         i += 1;
     }
     start < limit

@@ -8,10 +8,10 @@ use mathlib.Core.Logic.{_⊎_, inl, inr, ⊎-elim}
 use mathlib.Core.List.{List, [], _∷_}
 use Rattle.sheet.specs.Sheet.{Sheet}
 use Rattle.bundle.specs.Bundle.{run, Bundle, programmeOf}
-use Rattle.messages.specs.Counting.{wholeOf, whole, each, is, need}
-use Rattle.messages.specs.Messages.{Published}
-use Rattle.messages.proofs.Weights.{weigh-split}
-use Rattle.messages.proofs.Messages.{run-once, inputs}
+use Rattle.admission.specs.Counting.{wholeOf, whole, each, is, need}
+use Rattle.admission.specs.Messages.{Published}
+use Rattle.admission.proofs.Weights.{weigh-split}
+use Rattle.admission.proofs.Messages.{run-once, inputs}
 use Rattle.machine.specs.Machine.{State, processorOf, step, canStep}
 use Rattle.machine.specs.Runs.{Run, freshRun, choose, runFrom, runOf, doneOf, leftOf, left, latest}
 use Rattle.machine.proofs.Steps.{Sound, can-step, step-can, sound-step, step-left}

@@ -18,9 +18,9 @@ use Rattle.bundle.specs.Bundle.{Bundle}
 use Rattle.bundle.specs.Format.{readBundle}
 use Rattle.bundle.proofs.Numbers.{bundle-numbered}
 use Rattle.bundle.specs.Writing.{bundleBytes}
-use Rattle.messages.specs.Messages.{at26, atMessage, at28}
-use Rattle.messages.proofs.Splits.{message-number}
-use Rattle.messages.specs.Admitted.{admitted, admittedBytes}
+use Rattle.admission.specs.Messages.{at26, atMessage, at28}
+use Rattle.admission.proofs.Splits.{message-number}
+use Rattle.admission.specs.Admitted.{admitted, admittedBytes}
 use Rattle.machine.specs.Runs.{settled}
 use Rattle.stepping_machine.specs.Starts.{starting}
 use Rattle.checker.specs.Checker.{at29, at30, closing, checked, check}

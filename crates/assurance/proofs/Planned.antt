@@ -18,7 +18,7 @@ use Rattle.graph.proofs.Forms.{Sized}
 use Rattle.graph.proofs.Proper.{Proper}
 use Rattle.bundle.specs.Bundle.{Command, run, Bundle, programmeCount, programmeOf}
 use Rattle.bundle.specs.Fits.{Fits}
-use Rattle.messages.specs.Counting.{weigh, each}
+use Rattle.admission.specs.Counting.{weigh, each}
 use Rattle.machine.specs.Machine.{State, freshState, processorOf, stampOf, stated, moved}
 use Rattle.machine.specs.Runs.{leftOf, left, clockOf, latest}
 use Rattle.machine.proofs.Runs.{Leads, here, leads-on, fresh-processor}

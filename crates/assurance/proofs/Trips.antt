@@ -24,7 +24,7 @@ use Rattle.bundle.specs.Format.{readBundle}
 use Rattle.bundle.specs.Writing.{bundleBytes, bundleValues}
 use Rattle.bundle.specs.Writing as bundles
 use Rattle.bundle.proofs.Rounds as bundle-rounds
-use Rattle.answers.specs.Values.{tabled, taskTable, linkTable, boardAfter, boardOf, commandTable, claimAfter, valueCount}
+use Rattle.entry_points.specs.Values.{tabled, taskTable, linkTable, boardAfter, boardOf, commandTable, claimAfter, valueCount}
 use Rattle.zeldrupa.specs.Promises.{Gives, writeSheetAnswer, writeBundleAnswer, readSheetAnswer, GivesSheet, readBundleAnswer, GivesBundle}
 use Rattle.zeldrupa.proofs.Gives.{enough}
 use Rattle.assurance.specs.RoundTrips.{Values, RoundTrips}

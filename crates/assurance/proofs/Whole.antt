@@ -15,8 +15,8 @@ use Rattle.bundle.specs.Bundle.{Bundle}
 use Rattle.bundle.specs.Format.{readBundle}
 use Rattle.bundle.specs.Writing.{bundleBytes}
 use Rattle.bundle.proofs.Backs.{read-back}
-use Rattle.messages.specs.Messages.{at26, atMessage, at28}
-use Rattle.messages.specs.Admitted.{admitted, admittedBytes}
+use Rattle.admission.specs.Messages.{at26, atMessage, at28}
+use Rattle.admission.specs.Admitted.{admitted, admittedBytes}
 use Rattle.machine.specs.Runs.{runFrom, runOf}
 use Rattle.checker.specs.Checker.{checked, check}
 use Rattle.checker.proofs.Accepted.{accepted, passes}
@@ -25,7 +25,7 @@ use Rattle.planner.specs.Planner.{bundleOf, planned, plan}
 use Rattle.stepping_machine.specs.Represents.{Represents}
 use Rattle.stepping_machine.specs.Starts.{starting}
 use Rattle.zeldrupa.specs.Promises.{checkAnswer, GivesCheck, planAnswer, GivesPlan}
-use Rattle.answers.specs.Values.{steppedIn}
+use Rattle.entry_points.specs.Values.{steppedIn}
 use Rattle.zeldrupa.specs.Stepping.{startAnswer}
 use Rattle.zeldrupa.proofs.Gives.{enough}
 use Rattle.assurance.specs.Demand.{Holds, Read, Begun, started, ran, Stepped, Agrees, About, Demand}

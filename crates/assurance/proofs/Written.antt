@@ -17,12 +17,12 @@ use Rattle.graph.proofs.Proper.{Proper}
 use Rattle.bundle.specs.Bundle.{Command, run, send, receive, Bundle, programmeCount, programmeOf}
 use Rattle.bundle.specs.Fits.{Known, Each, Fits}
 use Rattle.bundle.proofs.Parts.{each-append}
-use Rattle.messages.specs.Counting.{weigh, wholeOf, whole, is, need}
-use Rattle.messages.specs.Messages.{notOnce, home, before, at26, Published}
-use Rattle.messages.specs.Unsplit.{insideOk, acrossOk, linkOk}
-use Rattle.messages.proofs.Splits.{right-links}
-use Rattle.messages.proofs.Weights.{programme-or}
-use Rattle.messages.proofs.Messages.{home-is}
+use Rattle.admission.specs.Counting.{weigh, wholeOf, whole, is, need}
+use Rattle.admission.specs.Messages.{notOnce, home, before, at26, Published}
+use Rattle.admission.specs.Unsplit.{insideOk, acrossOk, linkOk}
+use Rattle.admission.proofs.Splits.{right-links}
+use Rattle.admission.proofs.Weights.{programme-or}
+use Rattle.admission.proofs.Messages.{home-is}
 use Rattle.planner.specs.Schedule.{Schedule, nowhere, empty, placeOf, finishOf, stands}
 use Rattle.planner.specs.Placing.{storeBy, bytesBy, storeOn}
 use Rattle.planner.specs.Planner.{brings, takesAway, receiveOf, sendOf, blockOf, blocks, programme, claimOf, bundleOf}

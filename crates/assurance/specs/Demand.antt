@@ -16,13 +16,13 @@ use Rattle.sheet.specs.Sheet.{Sheet, taskCount, linkCount, sourceOf, targetOf}
 use Rattle.graph.specs.Graph.{readSheet}
 use Rattle.bundle.specs.Bundle.{Command, run, receive, Bundle, programmeOf}
 use Rattle.bundle.specs.Format.{readBundle}
-use Rattle.messages.specs.Counting.{weigh, whole, each, is, need}
-use Rattle.messages.specs.Messages.{Published}
+use Rattle.admission.specs.Counting.{weigh, whole, each, is, need}
+use Rattle.admission.specs.Messages.{Published}
 use Rattle.machine.specs.Machine.{processorOf, stampOf, canStep}
 use Rattle.machine.specs.Runs.{Run, runOf, answers, doneOf, done, left, latest}
 use Rattle.stepping_machine.specs.Represents.{Represents}
 use Rattle.zeldrupa.specs.Promises.{GivesCheck, GivesPlan}
-use Rattle.answers.specs.Values.{numbersOf}
+use Rattle.entry_points.specs.Values.{numbersOf}
 use Rattle.zeldrupa.specs.Stepping.{GivesStart, GivesRun, GivesStep, GivesLeft, GivesProcessor, stampNumber, GivesStamp}
 
 -- "for each link into it, that processor has earlier run the source or received the message": among the first i commands of its programme p

@@ -17,8 +17,8 @@ use Rattle.bundle.specs.Format.{readBundle}
 use Rattle.bundle.specs.Format as bundles
 use Rattle.sheet.specs.Format as sheets
 use Rattle.bundle.specs.Writing.{bundleBytes}
-use Rattle.messages.specs.Counting.{weigh, wholeOf, whole, is}
-use Rattle.messages.specs.Messages.{notOnce, holds, home, before, inside, sendFault, receiveFault, orderFault, messageFault, overStore, at26, atMessage, at28}
+use Rattle.admission.specs.Counting.{weigh, wholeOf, whole, is}
+use Rattle.admission.specs.Messages.{notOnce, holds, home, before, inside, sendFault, receiveFault, orderFault, messageFault, overStore, at26, atMessage, at28}
 use Rattle.machine.specs.Machine.{processorOf, stampOf, next, stated, stepIn, step, canStep}
 use Rattle.machine.specs.Runs.{clockOf, latest, settle, settled}
 use Rattle.checker.specs.Checker.{unfinished, at29, at30, closing, checked, check}

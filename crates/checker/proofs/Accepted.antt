@@ -13,10 +13,10 @@ use Rattle.folds.proofs.Tests.{unless-value, unlessAt-value, not-some}
 use Rattle.folds.proofs.Laws.{sum-zeros, first-none, none-first}
 use Rattle.sheet.specs.Sheet.{Sheet}
 use Rattle.bundle.specs.Bundle.{Bundle, programmeCount, programmeOf}
-use Rattle.messages.specs.Counting.{wholeOf, each, need}
-use Rattle.messages.specs.Messages.{at26, atMessage, at28, Published}
-use Rattle.messages.proofs.Weights.{weigh-each}
-use Rattle.messages.proofs.Messages.{within-limit, limit-within}
+use Rattle.admission.specs.Counting.{wholeOf, each, need}
+use Rattle.admission.specs.Messages.{at26, atMessage, at28, Published}
+use Rattle.admission.proofs.Weights.{weigh-each}
+use Rattle.admission.proofs.Messages.{within-limit, limit-within}
 use Rattle.machine.specs.Machine.{State, freshState, processorOf}
 use Rattle.machine.specs.Runs.{leftOf, left, latest, settled}
 use Rattle.machine.proofs.Runs.{Leads, leads-sound, fresh-sound, ended}

@@ -5,9 +5,9 @@ use mathlib.Core.List.{List}
 use lib.ListN.{length}
 use borrow.Rule.Slice.PartMut.{midOf}
 use Rattle.sheet.specs.Tables.{sheetIn}
-use Rattle.messages.specs.Views.{ViewIs, Shown}
-use Rattle.messages.specs.declared.view.View.{View}
-use Rattle.messages.proofs.Areas.{known-in}
+use Rattle.admission.specs.Views.{ViewIs, Shown}
+use Rattle.admission.specs.declared.view.View.{View}
+use Rattle.admission.proofs.Areas.{known-in}
 use Rattle.stepping_machine.specs.Layout as lay
 use Rattle.checker.specs.Verdicts.{JudgementIs, CheckIs}
 use Rattle.checker.specs.declared.Verdict.{Verdict}

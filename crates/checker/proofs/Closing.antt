@@ -17,16 +17,16 @@ use Rattle.sheet.specs.Sheet.{Sheet}
 use Rattle.bundle.specs.Bundle.{Bundle, programmeCount}
 use Rattle.bundle.specs.Format.{readBundle}
 use Rattle.bundle.specs.Counts.{commandCount}
-use Rattle.messages.specs.Messages.{at26, atMessage, at28, Published}
-use Rattle.words.specs.Found.{foundOf}
-use Rattle.messages.specs.Admitted.{admitted, admittedBytes, judgedOf}
-use Rattle.messages.specs.declared.view.View.{View}
-use Rattle.words.specs.declared.Found.{Found}
-use Rattle.words.specs.declared.Found.the-variants.{At, Nothing}
-use Rattle.messages.specs.declared.Judged.{Judged}
-use Rattle.messages.specs.declared.Judged.the-variants.{Fit, Refused as Unfit}
+use Rattle.admission.specs.Messages.{at26, atMessage, at28, Published}
+use Rattle.workspace.specs.Found.{foundOf}
+use Rattle.admission.specs.Admitted.{admitted, admittedBytes, judgedOf}
+use Rattle.admission.specs.declared.view.View.{View}
+use Rattle.workspace.specs.declared.total.Found.{Found}
+use Rattle.workspace.specs.declared.total.Found.the-variants.{At, Nothing}
+use Rattle.admission.specs.declared.Judged.{Judged}
+use Rattle.admission.specs.declared.Judged.the-variants.{Fit, Refused as Unfit}
 use Rattle.folds.proofs.Laws.{first-found}
-use Rattle.messages.proofs.Admits.{admitted-published}
+use Rattle.admission.proofs.Admits.{admitted-published}
 use Rattle.machine.specs.Machine.{State, freshState}
 use Rattle.machine.specs.Runs.{latest, settled}
 use Rattle.checker.specs.Checker.{unfinished, at29, at30, closing, checked}

@@ -11,7 +11,7 @@ use Rattle.sheet.specs.Sheet.{Sheet}
 use Rattle.graph.specs.Graph.{readSheet}
 use Rattle.bundle.specs.Bundle.{Bundle, programmeCount, programmeOf}
 use Rattle.bundle.specs.Format.{readBundle}
-use Rattle.messages.specs.Messages.{at26, atMessage, at28}
+use Rattle.admission.specs.Messages.{at26, atMessage, at28}
 use Rattle.machine.specs.Machine.{State, processorOf}
 use Rattle.machine.specs.Runs.{settled, latest}
 

@@ -8,10 +8,10 @@ use Rattle.sheet.specs.Sheet.{Sheet}
 use Rattle.sheet.specs.Tables.{sheetIn}
 use Rattle.bundle.specs.Bundle.{Bundle}
 use Rattle.bundle.specs.Format.{readBundle}
-use Rattle.messages.specs.Fields.{Known}
-use Rattle.messages.specs.declared.view.View.{View}
-use Rattle.words.specs.Found.{foundOf}
-use Rattle.words.specs.declared.Found.{Found}
+use Rattle.admission.specs.Fields.{Known}
+use Rattle.admission.specs.declared.view.View.{View}
+use Rattle.workspace.specs.Found.{foundOf}
+use Rattle.workspace.specs.declared.total.Found.{Found}
 use Rattle.machine.specs.Machine.{State}
 use Rattle.machine.specs.Runs.{latest}
 use Rattle.stepping_machine.specs.Represents.{Represents}

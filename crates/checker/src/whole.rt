@@ -1,29 +1,29 @@
 // 29, 30, and the whole of 21 to 30.
 ghost use Prim.Native.Nat.{_≤_};
 ghost use lib.ListN.{length};
-ghost use Rattle.messages.specs.Fields.{Seen};
-ghost use Rattle.messages.specs.Views.{Shown};
+ghost use Rattle.admission.specs.Fields.{Seen};
+ghost use Rattle.admission.specs.Views.{Shown};
 ghost use Rattle.stepping_machine.specs.Layout.{extent};
 ghost use Rattle.checker.specs.Verdicts.{UnfinishedIs, LatestIs, FinishIs, JudgementIs, CheckIs};
 use crate::Verdict;
-use messages::Judged;
-use messages::view::View;
+use admission::Judged;
+use admission::view::View;
 use stepping_machine::BOARD;
 use stepping_machine::CLOCKS;
 use stepping_machine::COUNT;
 use stepping_machine::LASTS;
 use stepping_machine::settling::settle;
 use stepping_machine::start::admit;
-use words::Found;
+use workspace::total::Found;
 
 // 29: the lowest processor with commands left.
 fn unfinished(w: &[u32]) -> Found
     ensures { λ r. ⌜ UnfinishedIs (now (w .entry)) r ⌝ }
 {
-    let count = words::word(w, COUNT);
+    let count = workspace::total::word(w, COUNT);
     let mut k = 0;
     while k < count {
-        if words::word(w, k) < words::word(w, LASTS + k) {
+        if workspace::total::word(w, k) < workspace::total::word(w, LASTS + k) {
             return Found::At(k);
         }
         k += 1;
@@ -35,11 +35,11 @@ fn unfinished(w: &[u32]) -> Found
 fn latest(w: &[u32]) -> usize
     ensures { λ r. ⌜ LatestIs (now (w .entry)) r ⌝ }
 {
-    let n = words::word(w, COUNT);
+    let n = workspace::total::word(w, COUNT);
     let mut best = 0;
     let mut k = 0;
     while k < n {
-        best = words::later(best, words::word(w, CLOCKS + k));
+        best = numbers::later(best, workspace::total::word(w, CLOCKS + k));
         k += 1;
     }
     best
@@ -80,6 +80,6 @@ pub fn check(sheet: &[u8], bundle: &[u8], work: &mut [u32]) -> Verdict
     requires { ⌜ Shown (now sheet) (now work) ⌝ }
     ensures { λ r. ⌜ CheckIs (now (bundle .entry)) (now (work .entry)) (now (work .exit)) r ⌝ }
 {
-    let v = messages::view::of_tables(work);
+    let v = admission::view::of_tables(work);
     judgement(sheet, bundle, &mut work[BOARD..], v)
 }

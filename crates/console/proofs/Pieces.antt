@@ -8,9 +8,9 @@ use lib.Seq.{take-append-seam}
 use Rattle.folds.specs.Answers.{written}
 use Rattle.numbers.proofs.Puts.{fits-well}
 use Rattle.listing.specs.Listing.{listing}
-use Rattle.lines.specs.Listed.{listedOf, FitIs}
-use Rattle.lines.specs.declared.Listed.{Listed}
-use Rattle.lines.specs.declared.Listed.the-variants.{Long, Short}
+use Rattle.listing_writer.specs.Listed.{listedOf, FitIs}
+use Rattle.listing_writer.specs.declared.Listed.{Listed}
+use Rattle.listing_writer.specs.declared.Listed.the-variants.{Long, Short}
 use Rattle.console.specs.Pieces.{Whole, PutIs}
 
 -- an output of 21,551 bytes is long enough

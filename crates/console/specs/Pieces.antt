@@ -4,8 +4,8 @@ use mathlib.Core.Path.{_≡_}
 use mathlib.Core.List.{List}
 use lib.ListN.{length, take}
 use Rattle.listing.specs.Listing.{listing}
-use Rattle.lines.specs.declared.Listed.{Listed}
-use Rattle.lines.specs.declared.Listed.the-variants.{Long}
+use Rattle.listing_writer.specs.declared.Listed.{Listed}
+use Rattle.listing_writer.specs.declared.Listed.the-variants.{Long}
 
 -- a listing that was written
 pub record Whole (r : Listed) : Type 0 where

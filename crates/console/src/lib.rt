@@ -2,7 +2,7 @@
 ghost use mathlib.Core.Path.{_≡_};
 ghost use Prim.Native.Nat.{_≤_};
 ghost use Rattle.console.specs.Pieces.{Whole, PutIs};
-use lines::Listed;
+use listing_writer::Listed;
 
 // The length of a listing that was written.
 fn length_of(r: Listed) -> usize
@@ -20,5 +20,5 @@ pub fn put_listing(sheet: &[u8], out: &mut [u8; 21551]) -> usize
     ensures { λ n. ⌜ PutIs (now (sheet .entry)) (now (out .exit)) n ⌝ }
 {
     let mut work = [0u32; workspace::LENGTH];
-    length_of(lines::list(sheet, &mut work, out))
+    length_of(listing_writer::list(sheet, &mut work, out))
 }

@@ -12,22 +12,22 @@ use Rattle.folds.proofs.Laws.{sum-zeros, sum-mono}
 use Rattle.sheet.specs.Sheet.{Sheet, taskCount, linkCount, sourceOf, targetOf}
 use Rattle.sheet.specs.Tables.{sheetIn}
 use Rattle.graph.specs.Graph.{circle}
-use Rattle.chains.specs.Frames.{Only}
-use Rattle.chains.specs.Chains.{Rechained, Chained}
-use Rattle.chains.specs.declared.End.the-variants.{Target}
-use Rattle.chains.proofs.Frames.{only-trans}
-use Rattle.peeling.specs.Words.{Held, Outside, placeIn, inQueue, doneBy}
-use Rattle.peeling.specs.Peeling.{dueBy, levelIn, Peeled}
-use Rattle.words.specs.Found.{foundOf}
+use Rattle.adjacency.specs.Frames.{Only}
+use Rattle.adjacency.specs.Chains.{Rechained, Chained}
+use Rattle.adjacency.specs.declared.End.the-variants.{Target}
+use Rattle.adjacency.proofs.Frames.{only-trans}
+use Rattle.topological_order.specs.Words.{Held, Outside, placeIn, inQueue, doneBy}
+use Rattle.topological_order.specs.Peeling.{dueBy, levelIn, Peeled}
+use Rattle.workspace.specs.Found.{foundOf}
 use Rattle.levelling.specs.Found.{Levelled, LevelsAre}
-use Rattle.words.specs.declared.Found.{Found}
-use Rattle.words.specs.declared.Found.the-variants.{Nothing}
+use Rattle.workspace.specs.declared.total.Found.{Found}
+use Rattle.workspace.specs.declared.total.Found.the-variants.{Nothing}
 use Rattle.graph.proofs.Reaches.{Declared}
 use Rattle.graph.proofs.Ranks.{Ranked, Solved, ranked-none, rankOf, none-ranked, level-is}
-use Rattle.peeling.proofs.Frames.{only-kept, kept-held, kept-sheet, outside-held, outside-own, loaded-declared, outside-chained}
-use Rattle.peeling.proofs.Pushes.{in-queue, queued-all, queued-few}
-use Rattle.peeling.proofs.Lights.{due-lit, due-other}
-use Rattle.peeling.proofs.Turns.{chain-here}
+use Rattle.topological_order.proofs.Frames.{only-kept, kept-held, kept-sheet, outside-held, outside-own, loaded-declared, outside-chained}
+use Rattle.topological_order.proofs.Pushes.{in-queue, queued-all, queued-few}
+use Rattle.topological_order.proofs.Lights.{due-lit, due-other}
+use Rattle.topological_order.proofs.Turns.{chain-here}
 
 -- all are taken off
 module _ (s : Sheet) (k : ℕ) (w : List ℕ) (declared : Declared s) (p : Peeled s k k 0 0 w) (all : k ≡ taskCount s) where

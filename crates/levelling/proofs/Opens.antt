@@ -15,11 +15,11 @@ use Rattle.sheet_reader.specs.declared.Reading.{Reading}
 use Rattle.sheet_reader.specs.declared.Reading.the-variants.{Read, Refused}
 use Rattle.sheet.proofs.Rows.{sheet-frame, loaded-frame}
 use Rattle.graph.specs.Graph.{circle, readSheet}
-use Rattle.words.specs.Found.{foundOf}
+use Rattle.workspace.specs.Found.{foundOf}
 use Rattle.levelling.specs.Found.{Levelled, LevelsAre}
 use Rattle.levelling.specs.Opened.{OpenIs}
-use Rattle.words.specs.declared.Found.{Found}
-use Rattle.words.specs.declared.Found.the-variants.{At, Nothing}
+use Rattle.workspace.specs.declared.total.Found.{Found}
+use Rattle.workspace.specs.declared.total.Found.the-variants.{At, Nothing}
 
 -- a refusal leaves nothing to say of the tables
 open-refused : (a : Answer Sheet) (w last : List ℕ) (r e : ℕ) → length last ≡ length w → a ≡ refused r e → OpenIs a w last (Refused r e)

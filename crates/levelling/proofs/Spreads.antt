@@ -16,20 +16,20 @@ use Rattle.folds.proofs.Loops.{first-passed, first-at}
 use Rattle.sheet.specs.Sheet.{Sheet, taskCount, linkCount, sourceOf, targetOf}
 use Rattle.sheet.specs.Tables.{sheetIn}
 use Rattle.graph.specs.Graph.{reaches, onCircle, circle}
-use Rattle.chains.specs.Chains.{headOf, nextOf, Chained}
-use Rattle.chains.specs.declared.End.the-variants.{Target}
-use Rattle.peeling.specs.Words.{Held, Outside, placeIn, Queued, pushed, doneBy, doneUpTo}
-use Rattle.peeling.specs.Peeling.{Emptied, Noted, Search, Searched, Spreading}
+use Rattle.adjacency.specs.Chains.{headOf, nextOf, Chained}
+use Rattle.adjacency.specs.declared.End.the-variants.{Target}
+use Rattle.topological_order.specs.Words.{Held, Outside, placeIn, Queued, pushed, doneBy, doneUpTo}
+use Rattle.topological_order.specs.Peeling.{Emptied, Noted, Search, Searched, Spreading}
 use Rattle.levelling.specs.Found.{SpreadIs}
 use Rattle.levelling.specs.declared.search.Spread.{Spread}
 use Rattle.levelling.specs.declared.search.Spread.the-variants.{Back, On}
 use Rattle.graph.proofs.Reaches.{Declared, link-reaches, reaches-along, reaches-none}
-use Rattle.peeling.proofs.Frames.{loaded-declared, outside-sheet, outside-held, outside-none, outside-trans, outside-own, outside-from}
-use Rattle.peeling.proofs.Places.{place-in, place-off, place-far, place-none}
-use Rattle.peeling.proofs.Pushes.{queued-few, queued-room, queued-push, push-here, push-else, push-outside}
-use Rattle.peeling.proofs.Walks.{up-none, up-hop, up-end, up-same, up-late, up-else}
-use Rattle.peeling.proofs.Starts.{queued-none, done-none}
-use Rattle.peeling.proofs.Turns.{chain-here}
+use Rattle.topological_order.proofs.Frames.{loaded-declared, outside-sheet, outside-held, outside-none, outside-trans, outside-own, outside-from}
+use Rattle.topological_order.proofs.Places.{place-in, place-off, place-far, place-none}
+use Rattle.topological_order.proofs.Pushes.{queued-few, queued-room, queued-push, push-here, push-else, push-outside}
+use Rattle.topological_order.proofs.Walks.{up-none, up-hop, up-end, up-same, up-late, up-else}
+use Rattle.topological_order.proofs.Starts.{queued-none, done-none}
+use Rattle.topological_order.proofs.Turns.{chain-here}
 
 -- a task is noted
 module _ (w : List ℕ) (h : Held w) (k u : ℕ) (u-in : u < taskCount (sheetIn w)) (q : Queued (taskCount (sheetIn w)) k w) {x : ℕ} (x-is : x ≡ getD w (marksAt + u) 0) where

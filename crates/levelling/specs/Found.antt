@@ -6,15 +6,15 @@ use mathlib.Core.Path.{_≡_}
 use mathlib.Core.List.{List}
 use lib.ListN.{getD}
 use Rattle.workspace.specs.Area.{levelsAt, openedAt}
-use Rattle.words.specs.Found.{foundOf}
-use Rattle.words.specs.declared.Found.{Found}
+use Rattle.workspace.specs.Found.{foundOf}
+use Rattle.workspace.specs.declared.total.Found.{Found}
 use Rattle.sheet.specs.Sheet.{Sheet, taskCount}
 use Rattle.sheet.specs.Tables.{sheetIn}
 use Rattle.graph.specs.Graph.{onCircle, circle, level}
-use Rattle.chains.specs.Chains.{Chained}
-use Rattle.chains.specs.Frames.{Only}
-use Rattle.chains.specs.declared.End.the-variants.{Target}
-use Rattle.peeling.specs.Peeling.{Searched}
+use Rattle.adjacency.specs.Chains.{Chained}
+use Rattle.adjacency.specs.Frames.{Only}
+use Rattle.adjacency.specs.declared.End.the-variants.{Target}
+use Rattle.topological_order.specs.Peeling.{Searched}
 use Rattle.levelling.specs.declared.search.Spread.{Spread}
 use Rattle.levelling.specs.declared.search.Spread.the-variants.{Back, On}
 

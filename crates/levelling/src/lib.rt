@@ -1,10 +1,10 @@
 // Circles and levels of a sheet that stands in the work area, and a sheet opened there with them.
 ghost use Rattle.sheet.specs.Tables.{Loaded};
 ghost use Rattle.levelling.specs.Found.{LevelsAre};
-use chains::End;
-use peeling::peel;
+use adjacency::End;
 use sheet::tables;
-use words::Found;
+use topological_order::peel;
+use workspace::total::Found;
 
 pub mod open;
 mod search;
@@ -15,7 +15,7 @@ pub fn levels(w: &mut [u32]) -> Found
     requires { ⌜ Loaded (now w) ⌝ }
     ensures { λ r. ⌜ LevelsAre (now (w .entry)) (now (w .exit)) r ⌝ }
 {
-    chains::chain(w, End::Target);
+    adjacency::chain(w, End::Target);
     let k = peel::peel(w);
     let n = tables::tasks(w);
     if k == n {

@@ -9,7 +9,7 @@ ghost use Rattle.graph.specs.Graph.{circle, readSheet};
 ghost use Rattle.levelling.specs.Opened.{OpenIs};
 use sheet_reader::Reading;
 use sheet_reader::values;
-use words::Found;
+use workspace::total::Found;
 
 // Refusal 10 for a sheet that has the form, or its levels beside it.
 fn level(w: &mut [u32]) -> Reading

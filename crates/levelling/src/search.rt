@@ -4,18 +4,18 @@ ghost use Prim.Native.Nat.{_+_, _<_};
 ghost use Rattle.sheet.specs.Sheet.{taskCount};
 ghost use Rattle.sheet.specs.Tables.{sheetIn};
 ghost use Rattle.graph.specs.Graph.{onCircle, circle};
-ghost use Rattle.chains.specs.Chains.{Chained};
-ghost use Rattle.chains.specs.declared.End.the-variants.{Target};
-ghost use Rattle.peeling.specs.Words.{Held, Outside, placeIn, Queued};
-ghost use Rattle.peeling.specs.Peeling.{Emptied, Noted, Searched, Spreading};
-ghost use Rattle.words.specs.Found.{foundOf};
+ghost use Rattle.adjacency.specs.Chains.{Chained};
+ghost use Rattle.adjacency.specs.declared.End.the-variants.{Target};
+ghost use Rattle.topological_order.specs.Words.{Held, Outside, placeIn, Queued};
+ghost use Rattle.topological_order.specs.Peeling.{Emptied, Noted, Searched, Spreading};
+ghost use Rattle.workspace.specs.Found.{foundOf};
 ghost use Rattle.levelling.specs.Found.{SpreadIs};
-use chains::End;
-use peeling::queue;
+use adjacency::End;
 use sheet::tables;
-use words::Found;
+use topological_order::queue;
 use workspace::MARKS;
 use workspace::QUEUE;
+use workspace::total::Found;
 
 // A circle through the goal was closed, or the queue has so many tasks.
 pub enum Spread {
@@ -46,14 +46,14 @@ fn walk_into(w: &mut [u32], goal: usize, k: usize, v: usize) -> Spread
 {
     let m = tables::links(w);
     let mut q = k;
-    let mut l = chains::first(w, End::Target, v);
+    let mut l = adjacency::first(w, End::Target, v);
     while l < m {
         let u = tables::source(w, l);
         if u == goal {
             return Spread::Back;
         }
         q = note(w, q, u);
-        l = chains::next(w, End::Target, l);
+        l = adjacency::next(w, End::Target, l);
     }
     Spread::On(q)
 }

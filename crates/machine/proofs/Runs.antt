@@ -10,10 +10,10 @@ use Rattle.folds.proofs.Laws.{sum-cong, sum-add, sum-zeros, term-le-sum}
 use Rattle.folds.proofs.Lists.{getD-replicate}
 use Rattle.sheet.specs.Sheet.{Sheet, linkCount}
 use Rattle.bundle.specs.Bundle.{Command, send, Bundle, programmeCount, programmeOf}
-use Rattle.messages.specs.Counting.{weigh, wholeOf, whole, each, is}
-use Rattle.messages.specs.Messages.{Published}
-use Rattle.messages.proofs.Weights.{programme-or, weigh-split, weigh-each, weigh-none}
-use Rattle.messages.proofs.Messages.{messages}
+use Rattle.admission.specs.Counting.{weigh, wholeOf, whole, each, is}
+use Rattle.admission.specs.Messages.{Published}
+use Rattle.admission.proofs.Weights.{programme-or, weigh-split, weigh-each, weigh-none}
+use Rattle.admission.proofs.Messages.{messages}
 use Rattle.machine.specs.Machine.{State, freshProcessor, freshState, processorOf, stampOf, step}
 use Rattle.machine.specs.Runs.{Run, took, choose, runFrom, doneOf, leftOf, done, left}
 use Rattle.machine.proofs.Steps.{Sound, sound-step}

@@ -15,8 +15,8 @@ use Rattle.folds.proofs.Tests.{equal-or, not-some}
 use Rattle.folds.proofs.Laws.{sum-differ}
 use Rattle.sheet.specs.Sheet.{Sheet, linkCount}
 use Rattle.bundle.specs.Bundle.{Command, run, send, receive, Bundle, programmeCount, programmeOf}
-use Rattle.messages.specs.Counting.{weigh, each, is, need}
-use Rattle.messages.proofs.Weights.{command-below, weigh-drop, weigh-take, is-refl}
+use Rattle.admission.specs.Counting.{weigh, each, is, need}
+use Rattle.admission.proofs.Weights.{command-below, weigh-drop, weigh-take, is-refl}
 use Rattle.machine.specs.Machine.{State, Processor, freshProcessor, processorOf, stampOf, next, waits, stated, after, posted, moved, stepIn, step, holdsSome, canStep}
 use Rattle.machine.specs.Runs.{doneOf, leftOf, left}
 

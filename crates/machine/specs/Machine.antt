@@ -8,7 +8,7 @@ use Rattle.folds.specs.Folds.{then}
 use Rattle.sheet.specs.Sheet.{Sheet, workOf, linkCount}
 use Rattle.sheet.specs.Times.{linkTime}
 use Rattle.bundle.specs.Bundle.{Command, run, send, receive, Bundle, programmeCount, programmeOf}
-use Rattle.messages.specs.Counting.{need}
+use Rattle.admission.specs.Counting.{need}
 
 pub record Processor : Type 0 where
   pub clock : ℕ

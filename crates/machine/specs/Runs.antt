@@ -7,7 +7,7 @@ use lib.ListN.{length, take, drop}
 use Rattle.folds.specs.Folds.{sum, greatest, first, then}
 use Rattle.sheet.specs.Sheet.{Sheet}
 use Rattle.bundle.specs.Bundle.{Command, Bundle, programmeCount, programmeOf}
-use Rattle.messages.specs.Counting.{weigh, whole, each}
+use Rattle.admission.specs.Counting.{weigh, whole, each}
 use Rattle.machine.specs.Machine.{State, freshState, processorOf, step, canStep}
 
 -- a run: the state after a list of choices, and how many of them stepped

@@ -1,6 +1,6 @@
-// Unsigned numbers of 8, 16 and 32 bits in a slice of bytes, lowest byte first.
+// Unsigned numbers: of 8, 16 and 32 bits in a slice of bytes, lowest byte first; the later, the smaller and the difference of two.
 ghost use mathlib.Core.Path.{_≡_};
-ghost use Prim.Native.Nat.{_+_, _≤_, _<_};
+ghost use Prim.Native.Nat.{_+_, _-_, _≤_, _<_, max, min};
 ghost use lib.ListN.{length, getD};
 ghost use Rattle.numbers.specs.Number.{numberAt, numberBytes, stored};
 
@@ -47,4 +47,31 @@ pub fn put32(s: &mut [u8], at: usize, v: u32)
 {
     put16(s, at, (v % 65536) as u16);
     put16(s, at + 2, (v / 65536) as u16);
+}
+
+// The later of two times.
+pub fn later(a: usize, b: usize) -> usize
+    ensures { λ r. ⌜ r ≡ max a b ⌝ }
+{
+    if a < b { b } else { a }
+}
+
+// The smaller of two numbers.
+pub fn smaller(a: usize, b: usize) -> usize
+    ensures { λ r. ⌜ r ≡ min a b ⌝ }
+{
+    if a < b {
+        return a;
+    }
+    b
+}
+
+// The first number less the second, and 0 where that is greater.
+pub fn minus(a: usize, b: usize) -> usize
+    ensures { λ r. ⌜ r ≡ a - b ⌝ }
+{
+    if a < b {
+        return 0;
+    }
+    a - b
 }

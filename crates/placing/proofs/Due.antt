@@ -5,9 +5,9 @@ use mathlib.Core.List.{List}
 use native.Mathlib.Omega.{arith}
 use Rattle.sheet.specs.Sheet.{Sheet, taskCount, linkCount, sourceOf, targetOf}
 use Rattle.planner.specs.Schedule.{Schedule}
-use Rattle.chains.specs.Chains.{headOf, nextOf, Chained}
-use Rattle.chains.specs.declared.End.the-variants.{Source}
-use Rattle.chains.proofs.Walks.{sum-first, sum-next}
+use Rattle.adjacency.specs.Chains.{headOf, nextOf, Chained}
+use Rattle.adjacency.specs.declared.End.the-variants.{Source}
+use Rattle.adjacency.proofs.Walks.{sum-first, sum-next}
 use Rattle.placing.specs.Choosing.{knownInto, dueBy, fourIn, Small, MoreDue, DuesTo}
 use Rattle.placing.specs.declared.Counts.{Counts}
 use Rattle.placing.specs.declared.Senders.the-variants.{Four}

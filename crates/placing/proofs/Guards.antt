@@ -22,9 +22,9 @@ use Rattle.schedule.specs.Layout.{scheduleIn}
 use Rattle.arrivals.specs.Layout.{arrivalsFrom, sendersFrom}
 use Rattle.arrivals.specs.Kept.{countedBy, intoFrom, known, Kept}
 use Rattle.arrivals.proofs.Walks.{kept-arrived}
-use Rattle.words.specs.Found.{foundOf}
-use Rattle.words.specs.declared.Found.{Found}
-use Rattle.words.specs.declared.Found.the-variants.{At, Nothing}
+use Rattle.workspace.specs.Found.{foundOf}
+use Rattle.workspace.specs.declared.total.Found.{Found}
+use Rattle.workspace.specs.declared.total.Found.the-variants.{At, Nothing}
 use Rattle.readiness.proofs.Counts.{arrival-kept}
 use Rattle.placing.specs.Guards.{BarsFor, Bars}
 

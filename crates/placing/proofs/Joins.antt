@@ -15,9 +15,9 @@ use Rattle.folds.proofs.Laws.{any-found, any-some, greatest-le, term-le-greates
 use Rattle.folds.proofs.Tests.{both-parts, parts-both}
 use Rattle.sheet.specs.Sheet.{Sheet, linkCount, sourceOf, targetOf}
 use Rattle.sheet.specs.Tables.{sheetIn}
-use Rattle.chains.specs.Chains.{headOf, nextOf}
-use Rattle.chains.specs.declared.End.the-variants.{Target}
-use Rattle.chains.proofs.Walks.{greatest-first, greatest-next}
+use Rattle.adjacency.specs.Chains.{headOf, nextOf}
+use Rattle.adjacency.specs.declared.End.the-variants.{Target}
+use Rattle.adjacency.proofs.Walks.{greatest-first, greatest-next}
 use Rattle.planner.specs.Schedule.{Schedule, stands, placeOf}
 use Rattle.planner.specs.Placing.{holdsBy, holdsPredecessor}
 use Rattle.planner.proofs.Ready.{ready-source}

@@ -7,7 +7,7 @@ use native.Mathlib.Omega.{arith}
 use lib.Dec.{ltb}
 use Rattle.folds.specs.Folds.{pick, greatest, leading, least}
 use Rattle.folds.proofs.Tests.{ltb-same}
-use Rattle.keys.proofs.Leading.{index-more, leader}
+use Rattle.readiness.proofs.Leading.{index-more, leader}
 use Rattle.placing.specs.Ranks.{lowKey, highKey, processorOf}
 
 module _ (n : ℕ) (few : n ≤ 16) (p : ℕ → Bool) (f : ℕ → ℕ) where

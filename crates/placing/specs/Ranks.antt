@@ -6,7 +6,7 @@ use mathlib.Core.List.{List}
 use lib.ListN.{getD}
 use lib.Dec.{leb}
 use Rattle.folds.specs.Folds.{pick, both}
-use Rattle.keys.specs.Keys.{indexOf}
+use Rattle.readiness.specs.Keys.{indexOf}
 use Rattle.sheet.specs.Sheet.{Sheet}
 use Rattle.planner.specs.Schedule.{Schedule}
 use Rattle.planner.specs.Placing.{endOf, startOn, fits, barred}

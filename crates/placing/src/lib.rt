@@ -15,15 +15,15 @@ ghost use Rattle.schedule.specs.Layout.{scheduleIn};
 ghost use Rattle.arrivals.specs.Layout.{sendersFrom, waitingFrom, keptLength};
 ghost use Rattle.arrivals.specs.Lanes.{Started};
 ghost use Rattle.arrivals.specs.Kept.{Kept};
-ghost use Rattle.words.specs.Found.{foundOf, Below};
+ghost use Rattle.workspace.specs.Found.{foundOf, Below};
 ghost use Rattle.readiness.specs.Keyed.{Keyed};
 ghost use Rattle.placing.specs.Choosing.{Choosing, knownInto, dueBy, fourIn, Small, MoreDue, DuesTo, Dues, OnBoard};
 ghost use Rattle.placing.specs.Ranks.{lowKey, highKey, processorOf, joinKey, idleKey, mayBeIdle};
 ghost use Rattle.placing.specs.Guards.{BarsFor, Bars};
+use adjacency::End;
 use arrivals::Starts;
-use chains::End;
 use sheet::tables;
-use words::Found;
+use workspace::total::Found;
 
 // When k is done with its tasks.
 fn end_of(w: &[u32], kept: &[u32], k: usize) -> usize
@@ -76,11 +76,11 @@ fn due_from(w: &[u32], kept: &[u32], t: usize, from: Senders) -> usize
     ensures { λ r. ⌜ r ≡ sum (linkCount (sheetIn (now (w .entry)))) (dueBy (sheetIn (now (w .entry))) (scheduleIn (now (w .entry))) t from) ⌝ }
 {
     let m = tables::links(w);
-    let mut l = chains::first(w, End::Source, t);
+    let mut l = adjacency::first(w, End::Source, t);
     let mut due: usize = 0;
     while l < m {
         due += known_into(w, kept, tables::target(w, l), from);
-        l = chains::next(w, End::Source, l);
+        l = adjacency::next(w, End::Source, l);
     }
     due
 }
@@ -133,7 +133,7 @@ fn dues_of(w: &[u32], kept: &[u32], t: usize) -> Counts
     ensures { λ r. ⌜ DuesTo (sheetIn (now (w .entry))) (scheduleIn (now (w .entry))) t (linkCount (sheetIn (now (w .entry)))) r ⌝ }
 {
     let m = tables::links(w);
-    let mut l = chains::first(w, End::Source, t);
+    let mut l = adjacency::first(w, End::Source, t);
     let mut x = Counts {
         a: 0,
         b: 0,
@@ -142,7 +142,7 @@ fn dues_of(w: &[u32], kept: &[u32], t: usize) -> Counts
     };
     while l < m {
         x = more_due(w, kept, x, tables::target(w, l));
-        l = chains::next(w, End::Source, l);
+        l = adjacency::next(w, End::Source, l);
     }
     x
 }
@@ -211,7 +211,7 @@ fn bars_on(w: &[u32], kept: &[u32], t: usize, starts: Starts, u: usize, a: usize
     ensures { λ r. ⌜ BarsFor (sheetIn (now (w .entry))) (scheduleIn (now (w .entry))) t u r ⌝ }
 {
     let finish = workspace::wide(starts.at[k]) + tables::work(w, t);
-    if arrivals::starts_before(w, kept, u, k, words::smaller(a, finish)) {
+    if arrivals::starts_before(w, kept, u, k, numbers::smaller(a, finish)) {
         return k;
     }
     16
@@ -273,14 +273,14 @@ fn join_on(w: &[u32], kept: &[u32], t: usize, starts: Starts, bars: usize, a: us
     ensures { λ r. ⌜ (foundOf r ≡ join (sheetIn (now (w .entry))) (barred (sheetIn (now (w .entry)))) (scheduleIn (now (w .entry))) t) × Below 16 r ⌝ }
 {
     let n = workspace::word(kept, t);
-    let mut l = chains::first(w, End::Target, t);
+    let mut l = adjacency::first(w, End::Target, t);
     let mut best: usize = 0;
     let mut i: usize = 0;
     while i < n {
         let k = schedule::place(w, tables::source(w, l));
         let x = workspace::wide(starts.at[k]);
-        best = words::later(best, join_key(w, kept, t, bars, a, k, x));
-        l = chains::next(w, End::Target, l);
+        best = numbers::later(best, join_key(w, kept, t, bars, a, k, x));
+        l = adjacency::next(w, End::Target, l);
         i += 1;
     }
     processor_of(best)
@@ -340,7 +340,7 @@ fn idle_among(w: &[u32], kept: &[u32], t: usize, a: usize, d: usize, dues: Count
     let mut best: usize = 0;
     let mut k: usize = 0;
     while k < n {
-        best = words::later(best, idle_key(w, kept, t, a, d, dues, k));
+        best = numbers::later(best, idle_key(w, kept, t, a, d, dues, k));
         k += 1;
     }
     processor_of(best)
@@ -383,7 +383,7 @@ fn last_on(w: &[u32], kept: &[u32], t: usize, starts: Starts) -> Found
     let mut k: usize = 0;
     while k < n {
         let x = workspace::wide(starts.at[k]);
-        best = words::later(best, low_key(fits_on(w, kept, t, k), x, k));
+        best = numbers::later(best, low_key(fits_on(w, kept, t, k), x, k));
         k += 1;
     }
     processor_of(best)

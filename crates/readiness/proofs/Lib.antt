@@ -1,4 +1,6 @@
 -- The laws of `readiness`.
+pub mod Blocks
+pub mod Leading
 pub mod Counts
-pub mod Keys
+pub mod Keying
 pub mod Renewing

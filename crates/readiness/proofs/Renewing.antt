@@ -13,15 +13,15 @@ use Rattle.folds.specs.Folds.{pick, both, either, any, greatest}
 use Rattle.folds.proofs.Tests.{equal-or, both-false, parts-both, pick-le}
 use Rattle.folds.proofs.Lists.{getD-replicate}
 use Rattle.folds.proofs.Laws.{greatest-le, greatest-mono, greatest-cong, any-found, none-any, any-cong, all-cong}
-use Rattle.keys.specs.Keys.{keyBy, Blocked, Changed}
+use Rattle.readiness.specs.Keys.{keyBy, Blocked, Changed}
 use Rattle.sheet.specs.Sheet.{Sheet, taskCount, linkCount, sourceOf, targetOf, costOf}
 use Rattle.sheet.specs.Tables.{Ranged}
 use Rattle.planner.specs.Schedule.{Schedule, placed, finishOf, put}
 use Rattle.planner.specs.Placing.{comes, lacks, satisfied, ready, partlyReady, arrivalBy, arrival, priority}
 use Rattle.planner.proofs.Ready.{ready-source}
 use Rattle.planner.proofs.Schedules.{finish-other, placed-other}
-use Rattle.chains.specs.Chains.{headOf, nextOf, Chained}
-use Rattle.chains.specs.declared.End.the-variants.{Source}
+use Rattle.adjacency.specs.Chains.{headOf, nextOf, Chained}
+use Rattle.adjacency.specs.declared.End.the-variants.{Source}
 use Rattle.arrivals.specs.Kept.{Single}
 use Rattle.arrivals.specs.Steps.{Placeable}
 use Rattle.arrivals.proofs.Placing.{free-off, not-t, now-on, landed}

@@ -8,7 +8,7 @@ use mathlib.Core.Option.{Option}
 use mathlib.Core.List.{List}
 use lib.ListN.{getD}
 use Rattle.folds.specs.Folds.{pick, any}
-use Rattle.keys.specs.Keys.{indexOf, Blocked}
+use Rattle.readiness.specs.Keys.{indexOf, Blocked}
 use Rattle.sheet.specs.Sheet.{Sheet, taskCount, linkCount, sourceOf, targetOf}
 use Rattle.graph.specs.Graph.{level}
 use Rattle.planner.specs.Schedule.{Schedule, placed}

@@ -1,26 +1,28 @@
 // Who is ready, who partly, when messages are there, and who goes first, by a table of keys that each placing brings up to date.
+pub mod keys; // keys.rt: the table of keys, with the greatest of each block
+
 ghost use mathlib.Core.Path.{_≡_};
 ghost use Prim.Native.Nat.{_<_, _≤_};
 ghost use lib.ListN.{length, replicate};
 ghost use Rattle.folds.specs.Folds.{pick};
-ghost use Rattle.keys.specs.Keys.{Blocked};
-ghost use Rattle.words.specs.Found.{foundOf, Below};
+ghost use Rattle.readiness.specs.Keys.{Blocked};
+ghost use Rattle.workspace.specs.Found.{foundOf, Below};
 ghost use Rattle.sheet.specs.Sheet.{taskCount};
 ghost use Rattle.sheet.specs.Tables.{sheetIn, Loaded};
 ghost use Rattle.planner.specs.Schedule.{placed};
 ghost use Rattle.planner.specs.Placing.{ready, partlyReady, arrival, priority, firstReady, firstPartlyReady};
 ghost use Rattle.levelling.specs.Found.{Levelled};
 ghost use Rattle.schedule.specs.Layout.{scheduleIn};
-ghost use Rattle.chains.specs.Chains.{Chained};
-ghost use Rattle.chains.specs.declared.End.the-variants.{Source};
+ghost use Rattle.adjacency.specs.Chains.{Chained};
+ghost use Rattle.adjacency.specs.declared.End.the-variants.{Source};
 ghost use Rattle.arrivals.specs.Layout.{keptLength};
 ghost use Rattle.arrivals.specs.Kept.{known, Single, Gathered, Counted, Kept, Arrived};
 ghost use Rattle.arrivals.specs.Steps.{upTo, Beside, Landed};
 ghost use Rattle.arrivals.specs.Lanes.{Early};
 ghost use Rattle.readiness.specs.Keyed.{keyOf, taskOf, Renewed, Waiting, Keyed, KeyedBeside};
-use chains::End;
+use adjacency::End;
 use sheet::tables;
-use words::Found;
+use workspace::total::Found;
 
 fn is_placed(w: &[u32], t: usize) -> bool
     requires { ⌜ Loaded (now w) ⌝ }
@@ -135,11 +137,11 @@ pub fn count_links(w: &[u32], kept: &mut [u32], q: &mut [u64], t: usize, k: usiz
 {
     keys::put(q, t, 0);
     let m = tables::links(w);
-    let mut l = chains::first(w, End::Source, t);
+    let mut l = adjacency::first(w, End::Source, t);
     while l < m {
         arrivals::count_link(w, kept, t, k, f, l);
         renew_target(w, kept, q, tables::target(w, l));
-        l = chains::next(w, End::Source, l);
+        l = adjacency::next(w, End::Source, l);
     }
 }
 

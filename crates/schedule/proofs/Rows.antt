@@ -10,7 +10,7 @@ use Rattle.folds.proofs.Lists.{length-listed, getD-listed, listed-cong}
 use Rattle.sheet.specs.Sheet.{Sheet, taskCount, linkCount}
 use Rattle.sheet.specs.Tables.{sheetIn}
 use Rattle.sheet.proofs.Rows.{tasks-in}
-use Rattle.chains.proofs.Walks.{chained-frame}
+use Rattle.adjacency.proofs.Walks.{chained-frame}
 use Rattle.planner.specs.Schedule.{nowhere, placeOf, startOf, finishOf}
 use Rattle.levelling.specs.Found.{Levelled}
 use Rattle.schedule.specs.Layout.{onIn, turnIn, finishIn, startIn, scheduleIn}

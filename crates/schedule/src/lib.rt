@@ -31,7 +31,7 @@ pub fn start(w: &[u32], t: usize) -> usize
     requires { ⌜ t < taskCount (sheetIn (now w)) ⌝ }
     ensures { λ r. ⌜ (r ≡ startOf (scheduleIn (now (w .entry))) t) × (r < 4294967296) ⌝ }
 {
-    words::minus(finish(w, t), tables::work(w, t))
+    numbers::minus(finish(w, t), tables::work(w, t))
 }
 
 pub fn finish(w: &[u32], t: usize) -> usize
@@ -116,7 +116,7 @@ pub fn claim(w: &[u32]) -> usize
     let mut last: usize = 0;
     let mut t: usize = 0;
     while t < n {
-        last = words::later(last, finish(w, t));
+        last = numbers::later(last, finish(w, t));
         t += 1;
     }
     last

@@ -15,7 +15,7 @@ use Rattle.folds.specs.Folds.{pick}
 use Rattle.sheet.specs.Sheet.{Sheet, workOf, storeOf, costOf, bytesOf}
 use Rattle.bundle.specs.Bundle.{Command, run, send, receive, Bundle, programmeOf}
 use Rattle.bundle.specs.Fits.{Known}
-use Rattle.messages.specs.Counting.{each, need as demands}
+use Rattle.admission.specs.Counting.{each, need as demands}
 use Rattle.machine.specs.Machine.{State, processorOf, stampOf, next, waits, takes, stated, moved, step, canStep, stampIn}
 use Rattle.machine.specs.Runs.{chosen, left}
 use Rattle.machine.proofs.Steps.{move-step, left-moved, stamp-sent, stamp-other}

@@ -9,7 +9,7 @@ use Rattle.folds.proofs.Tests.{not-some}
 use Rattle.folds.proofs.Lists.{getD-replicate}
 use Rattle.sheet.specs.Sheet.{Sheet, linkCount}
 use Rattle.bundle.specs.Bundle.{Bundle}
-use Rattle.messages.specs.Counting.{whole, each}
+use Rattle.admission.specs.Counting.{whole, each}
 use Rattle.machine.specs.Machine.{freshState, stampOf, stampIn}
 use Rattle.machine.specs.Runs.{left}
 use Rattle.machine.proofs.Runs.{fresh-processor, fresh-left}

@@ -10,8 +10,8 @@ use lib.ListN.{length, length-set}
 use Rattle.folds.specs.Folds.{bit}
 use Rattle.sheet.specs.Sheet.{Sheet}
 use Rattle.bundle.specs.Bundle.{Bundle, programmeCount}
-use Rattle.messages.specs.Counting.{each}
-use Rattle.messages.specs.Messages.{Published}
+use Rattle.admission.specs.Counting.{each}
+use Rattle.admission.specs.Messages.{Published}
 use Rattle.machine.specs.Machine.{State, freshState, stated, step, canStep}
 use Rattle.machine.specs.Runs.{Run, freshRun, runFrom, runOf, left, settled}
 use Rattle.machine.specs.Kept.{StepIs, RunIs}

@@ -17,12 +17,12 @@ use Rattle.bundle.specs.Bundle.{Command, run, send, receive}
 use Rattle.bundle.specs.Fits.{Known as Declared}
 use Rattle.bundle.specs.Lies.{sizeOf, Stands, Lies}
 use Rattle.bundle.proofs.Lying.{Next, lies-next, lies-none}
-use Rattle.messages.specs.Counting.{weigh, need}
-use Rattle.messages.specs.Fields.{workAt, storeAt, costAt, Known}
-use Rattle.messages.specs.declared.view.View.{View}
-use Rattle.messages.proofs.Weights.{weigh-take}
-use Rattle.messages.proofs.Walking.{drop-next, drop-short}
-use Rattle.messages.proofs.Noted.{stands-known}
+use Rattle.admission.specs.Counting.{weigh, need}
+use Rattle.admission.specs.Fields.{workAt, storeAt, costAt, Known}
+use Rattle.admission.specs.declared.view.View.{View}
+use Rattle.admission.proofs.Weights.{weigh-take}
+use Rattle.admission.proofs.Walking.{drop-next, drop-short}
+use Rattle.admission.proofs.Noted.{stands-known}
 use Rattle.stepping_machine.specs.declared.decoding.Coded.{Coded}
 use Rattle.stepping_machine.specs.Layout as lay
 use Rattle.stepping_machine.specs.Words.{wordOf}

@@ -9,7 +9,7 @@ use lib.ListN.{length, getD, getElem?, set, length-set}
 use lib.Seq.{getD-set-same, getD-set-other}
 use Rattle.sheet.specs.Sheet.{Sheet, linkCount}
 use Rattle.bundle.specs.Bundle.{Command, run, Bundle, programmeOf}
-use Rattle.messages.specs.Counting.{each, need}
+use Rattle.admission.specs.Counting.{each, need}
 use Rattle.machine.specs.Machine.{State, processorOf, stampOf, next, takes, moved, stampIn}
 use Rattle.machine.specs.Runs.{left}
 use Rattle.machine.proofs.Steps.{each-of, left-moved, length-posted}

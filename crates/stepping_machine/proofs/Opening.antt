@@ -14,17 +14,17 @@ use Rattle.folds.specs.Folds.{sum}
 use Rattle.folds.proofs.Tests.{below-suc}
 use Rattle.folds.proofs.Laws.{sum-rises, none-first, first-found}
 use Rattle.workspace.specs.Area.{ClearIs}
-use Rattle.words.specs.declared.Found.{Found}
-use Rattle.words.specs.declared.Found.the-variants.{At, Nothing}
+use Rattle.workspace.specs.declared.total.Found.{Found}
+use Rattle.workspace.specs.declared.total.Found.the-variants.{At, Nothing}
 use Rattle.numbers.specs.Number.{numberAt}
 use Rattle.sheet.specs.Sheet.{Sheet, taskCount, linkCount}
 use Rattle.bundle.specs.Bundle.{Command, Bundle, programmeCount, programmeOf}
 use Rattle.bundle.specs.Lies.{Lies}
-use Rattle.messages.specs.Counting.{weigh, wholeOf, whole, each, need}
-use Rattle.messages.specs.Messages.{overStore, at28}
-use Rattle.messages.specs.Fields.{storeAt}
-use Rattle.messages.specs.declared.view.View.{View}
-use Rattle.messages.proofs.Weights.{weigh-each}
+use Rattle.admission.specs.Counting.{weigh, wholeOf, whole, each, need}
+use Rattle.admission.specs.Messages.{overStore, at28}
+use Rattle.admission.specs.Fields.{storeAt}
+use Rattle.admission.specs.declared.view.View.{View}
+use Rattle.admission.proofs.Weights.{weigh-each}
 use Rattle.machine.specs.Machine.{freshState}
 use Rattle.stepping_machine.specs.Layout as lay
 use Rattle.stepping_machine.specs.Words.{nextIn, firstIn, lastIn, openedWords}

@@ -13,9 +13,9 @@ use Rattle.folds.specs.Answers.{Answer, value, refused, unless, andThen}
 use Rattle.folds.proofs.Tests.{below-suc, andThen-value, not-value}
 use Rattle.numbers.specs.Number.{Bytes}
 use Rattle.workspace.specs.Area.{fixed}
-use Rattle.words.specs.Found.{foundOf}
-use Rattle.words.specs.declared.Found.{Found}
-use Rattle.words.specs.declared.Found.the-variants.{At, Nothing}
+use Rattle.workspace.specs.Found.{foundOf}
+use Rattle.workspace.specs.declared.total.Found.{Found}
+use Rattle.workspace.specs.declared.total.Found.the-variants.{At, Nothing}
 use Rattle.sheet.specs.Sheet.{Sheet, taskCount, linkCount}
 use Rattle.sheet.specs.Tables.{sheetIn}
 use Rattle.sheet_reader.specs.declared.Reading.{Reading}
@@ -28,18 +28,18 @@ use Rattle.bundle.specs.Bundle.{Bundle, programmeCount}
 use Rattle.bundle.specs.Format.{readBundle}
 use Rattle.bundle.specs.Counts.{commandCount}
 use Rattle.bundle.proofs.Rounds.{read-formed}
-use Rattle.messages.specs.Counting.{whole, each}
-use Rattle.messages.specs.Messages.{Published}
-use Rattle.messages.specs.Fields.{Known, Seen}
-use Rattle.messages.specs.Views.{ViewIs, Shown}
-use Rattle.messages.specs.Admitted.{publishedBytes, admitted, admittedBytes, judgedOf, JudgeIs}
-use Rattle.messages.specs.declared.view.View.{View}
-use Rattle.messages.specs.declared.Judged.{Judged}
-use Rattle.messages.specs.declared.Judged.the-variants.{Fit, Refused}
-use Rattle.messages.proofs.Few.{few-of-read, commands-whole}
-use Rattle.messages.proofs.Admits.{read-published, admitted-published, refused-too, stored-then}
-use Rattle.messages.proofs.Areas.{part-long, known-in}
-use Rattle.messages.proofs.Written.{fields-read}
+use Rattle.admission.specs.Counting.{whole, each}
+use Rattle.admission.specs.Messages.{Published}
+use Rattle.admission.specs.Fields.{Known, Seen}
+use Rattle.admission.specs.Views.{ViewIs, Shown}
+use Rattle.admission.specs.Admitted.{publishedBytes, admitted, admittedBytes, judgedOf, JudgeIs}
+use Rattle.admission.specs.declared.view.View.{View}
+use Rattle.admission.specs.declared.Judged.{Judged}
+use Rattle.admission.specs.declared.Judged.the-variants.{Fit, Refused}
+use Rattle.admission.proofs.Few.{few-of-read, commands-whole}
+use Rattle.admission.proofs.Admits.{read-published, admitted-published, refused-too, stored-then}
+use Rattle.admission.proofs.Areas.{part-long, known-in}
+use Rattle.admission.proofs.Written.{fields-read}
 use Rattle.machine.specs.Machine.{State, freshState}
 use Rattle.stepping_machine.specs.Layout as lay
 use Rattle.stepping_machine.specs.Represents.{Represents, Within}

@@ -14,8 +14,8 @@ use Rattle.folds.proofs.Tests.{ltb-same}
 use Rattle.folds.proofs.Laws.{sum-cong, sum-skip, sum-zeros, greatest-cong}
 use Rattle.sheet.specs.Sheet.{Sheet}
 use Rattle.bundle.specs.Bundle.{Command, Bundle, programmeCount, programmeOf}
-use Rattle.messages.specs.Counting.{weigh, each}
-use Rattle.messages.proofs.Weights.{programme-or, weigh-each}
+use Rattle.admission.specs.Counting.{weigh, each}
+use Rattle.admission.proofs.Weights.{programme-or, weigh-each}
 use Rattle.machine.specs.Machine.{State, Processor, freshProcessor, processorOf, stampOf, stampIn}
 use Rattle.machine.specs.Runs.{leftOf, left, clockOf, latest}
 use Rattle.stepping_machine.specs.Layout as lay

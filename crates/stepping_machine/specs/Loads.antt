@@ -4,17 +4,17 @@ use mathlib.Core.Path.{_≡_}
 use mathlib.Core.Logic.{_⊎_}
 use mathlib.Core.List.{List}
 use lib.ListN.{length, getD}
-use Rattle.words.specs.Found.{foundOf}
-use Rattle.words.specs.declared.Found.{Found}
-use Rattle.words.specs.declared.Found.the-variants.{Nothing}
+use Rattle.workspace.specs.Found.{foundOf}
+use Rattle.workspace.specs.declared.total.Found.{Found}
+use Rattle.workspace.specs.declared.total.Found.the-variants.{Nothing}
 use Rattle.numbers.specs.Number.{numberAt}
 use Rattle.sheet.specs.Sheet.{Sheet, taskCount, linkCount}
 use Rattle.bundle.specs.Bundle.{Command, Bundle, programmeCount, programmeOf}
 use Rattle.bundle.specs.Lies.{sizeOf, Stands, Lies, Laid}
-use Rattle.messages.specs.Counting.{weigh, whole, each, need}
-use Rattle.messages.specs.Messages.{at28}
-use Rattle.messages.specs.Fields.{storeAt, Bounded, Known}
-use Rattle.messages.specs.declared.view.View.{View}
+use Rattle.admission.specs.Counting.{weigh, whole, each, need}
+use Rattle.admission.specs.Messages.{at28}
+use Rattle.admission.specs.Fields.{storeAt, Bounded, Known}
+use Rattle.admission.specs.declared.view.View.{View}
 use Rattle.machine.specs.Machine.{freshState}
 use Rattle.stepping_machine.specs.declared.decoding.Coded.{Coded}
 use Rattle.stepping_machine.specs.Layout as lay

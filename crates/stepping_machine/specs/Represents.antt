@@ -10,7 +10,7 @@ use Rattle.sheet.specs.Sheet.{Sheet, taskCount, linkCount, storeOf}
 use Rattle.sheet.specs.Tables.{Ranged}
 use Rattle.bundle.specs.Bundle.{Command, run, Bundle, programmeCount, programmeOf}
 use Rattle.bundle.specs.Fits.{Known}
-use Rattle.messages.specs.Counting.{each}
+use Rattle.admission.specs.Counting.{each}
 use Rattle.machine.specs.Machine.{State, processorOf, stampOf, stampIn}
 use Rattle.machine.specs.Runs.{left}
 use Rattle.machine.specs.Kept.{StepIs}

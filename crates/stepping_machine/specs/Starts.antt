@@ -10,11 +10,11 @@ use Rattle.sheet.specs.Tables.{sheetIn}
 use Rattle.graph.specs.Graph.{readSheet}
 use Rattle.bundle.specs.Bundle.{Bundle, programmeCount}
 use Rattle.bundle.specs.Counts.{commandCount}
-use Rattle.messages.specs.Fields.{Known}
-use Rattle.messages.specs.Admitted.{admittedBytes, judgedOf}
-use Rattle.messages.specs.declared.view.View.{View}
-use Rattle.messages.specs.declared.Judged.{Judged}
-use Rattle.messages.specs.declared.Judged.the-variants.{Refused}
+use Rattle.admission.specs.Fields.{Known}
+use Rattle.admission.specs.Admitted.{admittedBytes, judgedOf}
+use Rattle.admission.specs.declared.view.View.{View}
+use Rattle.admission.specs.declared.Judged.{Judged}
+use Rattle.admission.specs.declared.Judged.the-variants.{Refused}
 use Rattle.machine.specs.Machine.{freshState}
 use Rattle.stepping_machine.specs.Layout as lay
 use Rattle.stepping_machine.specs.Words.{needIn}

@@ -14,7 +14,10 @@ pub fn left(w: &[u32]) -> usize
     let mut n = 0;
     let mut k = 0;
     while k < 16 {
-        n += words::minus(words::word(w, LASTS + k), words::word(w, k));
+        n += numbers::minus(
+            workspace::total::word(w, LASTS + k),
+            workspace::total::word(w, k),
+        );
         k += 1;
     }
     n
@@ -25,7 +28,7 @@ pub fn clock(w: &[u32], k: usize) -> usize
     ensures { λ r. ⌜ ClockIs (now (w .entry)) k r ⌝ }
 {
     if k < 16 {
-        return words::word(w, CLOCKS + k);
+        return workspace::total::word(w, CLOCKS + k);
     }
     0
 }
@@ -35,7 +38,10 @@ pub fn position(w: &[u32], k: usize) -> usize
     ensures { λ r. ⌜ PositionIs (now (w .entry)) k r ⌝ }
 {
     if k < 16 {
-        return words::minus(words::word(w, k), words::word(w, FIRSTS + k));
+        return numbers::minus(
+            workspace::total::word(w, k),
+            workspace::total::word(w, FIRSTS + k),
+        );
     }
     0
 }
@@ -45,7 +51,7 @@ pub fn store(w: &[u32], k: usize) -> usize
     ensures { λ r. ⌜ StoreIs (now (w .entry)) k r ⌝ }
 {
     if k < 16 {
-        return words::word(w, STORES + k);
+        return workspace::total::word(w, STORES + k);
     }
     0
 }
@@ -54,8 +60,8 @@ pub fn store(w: &[u32], k: usize) -> usize
 pub fn stamp(w: &[u32], l: usize) -> usize
     ensures { λ r. ⌜ StampIs (now (w .entry)) l r ⌝ }
 {
-    if l < words::word(w, LINKS) {
-        return words::word(w, STAMPS + l);
+    if l < workspace::total::word(w, LINKS) {
+        return workspace::total::word(w, STAMPS + l);
     }
     0
 }

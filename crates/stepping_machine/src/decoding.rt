@@ -9,7 +9,7 @@ ghost use Rattle.stepping_machine.specs.Loads.{Decodable, CodeIs};
 use crate::KINDS;
 use crate::NUMBERS;
 use crate::TASKS;
-use messages::view::View;
+use admission::view::View;
 
 // A command's word, how many bytes it has, and what it adds to the store in use.
 pub struct Coded {

@@ -54,5 +54,5 @@ fn put(w: &mut [u32], i: usize, x: usize)
     requires { ⌜ i < length (now w) ⌝ }
     ensures { λ _. ⌜ now (w .exit) ≡ set (now (w .entry)) i (x % 4294967296) ⌝ }
 {
-    w[i] = words::narrow(x);
+    w[i] = workspace::total::narrow(x);
 }

@@ -2,7 +2,7 @@
 ghost use mathlib.Core.Path.{_≡_};
 ghost use Prim.Native.Nat.{suc, _+_, _%_, _≤_, _<_};
 ghost use lib.ListN.{length, getD};
-ghost use Rattle.messages.specs.Fields.{Bounded};
+ghost use Rattle.admission.specs.Fields.{Bounded};
 ghost use Rattle.stepping_machine.specs.Layout.{extent, commands};
 ghost use Rattle.stepping_machine.specs.Words.{openedWords};
 ghost use Rattle.stepping_machine.specs.Loads.{Decodable, Ready, ProgrammeIs, OneIs, AllIs, RestIs, WipeIs, NeedsIs, LoadIs};
@@ -18,8 +18,8 @@ use crate::STAMPS;
 use crate::decoding::decode;
 use crate::decoding::pair;
 use crate::put;
-use messages::view::View;
-use words::Found;
+use admission::view::View;
+use workspace::total::Found;
 
 // The index behind a programme, and what it needs of the store.
 struct Extent {
@@ -45,12 +45,12 @@ fn load_programme(
     let mut sum: usize = 0;
     while from < e {
         let x = decode(sheet, bundle, v, from, e);
-        words::put(w, to, x.word);
+        workspace::total::put(w, to, x.word);
         sum += x.need;
         from += x.size;
         to += 1;
     }
-    words::put(w, to, 0);
+    workspace::total::put(w, to, 0);
     Extent { end: to, need: sum }
 }
 

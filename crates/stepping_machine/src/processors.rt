@@ -14,7 +14,7 @@ fn advanced(p: Processor, wait: usize, work: usize, need: usize) -> Processor
     requires { ⌜ Narrow p × Small wait work need ⌝ }
     ensures { λ r. ⌜ r ≡ after p wait work need ⌝ }
 {
-    let clock = words::later(p.clock, wait) + work;
+    let clock = numbers::later(p.clock, wait) + work;
     Processor {
         clock,
         position: p.position + 1,

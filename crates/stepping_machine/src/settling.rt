@@ -23,7 +23,7 @@ fn advance(w: &mut [u32], k: usize) -> usize
 fn round(w: &mut [u32]) -> usize
     ensures { λ r. ⌜ RoundIs (now (w .entry)) (now (w .exit)) r ⌝ }
 {
-    let count = words::smaller(words::word(w, COUNT), 16);
+    let count = numbers::smaller(workspace::total::word(w, COUNT), 16);
     let mut n = 0;
     let mut k = 0;
     while k < count {

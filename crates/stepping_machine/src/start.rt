@@ -2,8 +2,8 @@
 ghost use Prim.Native.Nat.{_+_, _≤_};
 ghost use lib.ListN.{length};
 ghost use Rattle.workspace.specs.Area.{fixed};
-ghost use Rattle.messages.specs.Fields.{Seen};
-ghost use Rattle.messages.specs.Views.{Shown};
+ghost use Rattle.admission.specs.Fields.{Seen};
+ghost use Rattle.admission.specs.Views.{Shown};
 ghost use Rattle.stepping_machine.specs.Layout.{commands, extent};
 ghost use Rattle.stepping_machine.specs.Starts.{AdmitIs, CopyIs, HandIs, BeginIs, OpenIs, BytesIs};
 use crate::BOARD;
@@ -11,18 +11,18 @@ use crate::COMMANDS;
 use crate::NEEDS;
 use crate::STAMPS;
 use crate::load::load;
+use admission::Judged;
+use admission::view::View;
 use levelling::open;
-use messages::Judged;
-use messages::view::View;
 use sheet_reader::Reading;
-use words::Found;
+use workspace::total::Found;
 
 // 21 to 26, 31 to 33 and 28 of a bundle; where none applies, the words represent the fresh state.
 pub fn admit(sheet: &[u8], bundle: &[u8], w: &mut [u32], v: View) -> Judged
     requires { ⌜ Seen (now sheet) v × (extent ≤ length (now w)) ⌝ }
     ensures { λ r. ⌜ AdmitIs (now (sheet .entry)) (now (bundle .entry)) (now (w .entry)) (now (w .exit)) v r ⌝ }
 {
-    match messages::judge::judge(sheet, bundle, w, v) {
+    match admission::judge::judge(sheet, bundle, w, v) {
         Judged::Refused(r, at) => Judged::Refused(r, at),
         Judged::Fit(m, c, claim) => match load(sheet, bundle, w, v, m) {
             Found::At(k) => Judged::Refused(28, k),
@@ -72,7 +72,7 @@ fn from_tables(sheet: &[u8], bundle: &[u8], work: &mut [u32], state: &mut [u32])
     requires { ⌜ Shown (now sheet) (now work) × (extent ≤ length (now state)) ⌝ }
     ensures { λ r. ⌜ OpenIs (now (sheet .entry)) (now (bundle .entry)) (now (work .entry)) (now (work .exit)) (now (state .entry)) (now (state .exit)) r ⌝ }
 {
-    let v = messages::view::of_tables(work);
+    let v = admission::view::of_tables(work);
     begin(sheet, bundle, &mut work[BOARD..], state, v)
 }
 

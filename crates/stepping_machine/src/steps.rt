@@ -89,7 +89,7 @@ fn command(w: &mut [u32], k: usize) -> bool
     requires { ⌜ (k < 16) × (extent ≤ length (now w)) ⌝ }
     ensures { λ r. ⌜ ChoiceIs (now (w .entry)) (now (w .exit)) k r ⌝ }
 {
-    let x = words::word(w, workspace::word(w, k));
+    let x = workspace::total::word(w, workspace::word(w, k));
     let kind = x / KINDS;
     if kind == 0 {
         return false;
@@ -137,7 +137,7 @@ pub fn run_all(choices: &[u8], w: &mut [u32]) -> usize
     let mut n = 0;
     let mut i = 0;
     while i < choices.len() {
-        let k = words::byte(choices, i);
+        let k = workspace::total::byte(choices, i);
         n += counted(step(w, k));
         i += 1;
     }

@@ -18,11 +18,11 @@ use Rattle.planner.specs.Planner.{turns, plannedBy, planned}
 use Rattle.levelling.specs.Found.{Levelled}
 use Rattle.schedule.specs.Layout.{scheduleIn}
 use Rattle.schedule.proofs.Rows.{schedule-frame, order-long}
-use Rattle.chains.specs.Chains.{Rechained, Chained}
-use Rattle.chains.specs.Frames.{Only}
-use Rattle.chains.specs.declared.End.the-variants.{Source, Target}
-use Rattle.chains.proofs.Frames.{same-sheet, same-loaded, only-sheet, only-loaded}
-use Rattle.chains.proofs.Walks.{chained-frame, chained-under}
+use Rattle.adjacency.specs.Chains.{Rechained, Chained}
+use Rattle.adjacency.specs.Frames.{Only}
+use Rattle.adjacency.specs.declared.End.the-variants.{Source, Target}
+use Rattle.adjacency.proofs.Frames.{same-sheet, same-loaded, only-sheet, only-loaded}
+use Rattle.adjacency.proofs.Walks.{chained-frame, chained-under}
 use Rattle.arrivals.specs.Layout.{seenFrom, keptLength}
 use Rattle.arrivals.specs.Kept.{Single, Caches}
 use Rattle.arrivals.specs.Steps.{Zero, GatheredTo}

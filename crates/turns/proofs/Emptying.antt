@@ -16,7 +16,7 @@ use Rattle.sheet.specs.Tables.{sheetIn, Loaded}
 use Rattle.sheet.proofs.Rows.{tasks-in, ranged}
 use Rattle.planner.specs.Schedule.{empty}
 use Rattle.schedule.specs.Layout.{onIn, turnIn, finishIn, startIn, scheduleIn}
-use Rattle.chains.proofs.Frames.{only-none, only-set}
+use Rattle.adjacency.proofs.Frames.{only-none, only-set}
 use Rattle.turns.specs.Turns.{Cleared, Emptied}
 
 pub cleared-none : (w : List ℕ) → Cleared w 0 w

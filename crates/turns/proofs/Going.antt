@@ -17,11 +17,11 @@ use Rattle.levelling.specs.Found.{Levelled}
 use Rattle.schedule.specs.Layout.{scheduleIn, putWords}
 use Rattle.schedule.proofs.Rows.{levelled-frame}
 use Rattle.schedule.proofs.Puts.{put-low, put-long, put-placed, schedule-put}
-use Rattle.chains.specs.Chains.{Chained}
-use Rattle.chains.specs.Frames.{Only}
-use Rattle.chains.specs.declared.End.the-variants.{Source}
-use Rattle.chains.proofs.Frames.{same-sheet, same-loaded}
-use Rattle.chains.proofs.Walks.{chained-frame}
+use Rattle.adjacency.specs.Chains.{Chained}
+use Rattle.adjacency.specs.Frames.{Only}
+use Rattle.adjacency.specs.declared.End.the-variants.{Source}
+use Rattle.adjacency.proofs.Frames.{same-sheet, same-loaded}
+use Rattle.adjacency.proofs.Walks.{chained-frame}
 use Rattle.arrivals.specs.Layout.{endsFrom, waitingFrom, turnBytesFrom, turnLinksFrom, packedFrom, keptLength}
 use Rattle.arrivals.specs.Kept.{known, Single, Gathered, Counted, Surveyed, Ends, Caches}
 use Rattle.arrivals.specs.Steps.{upTo, Beside, Placeable, Landed, Released, Enough}

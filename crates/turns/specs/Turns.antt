@@ -9,9 +9,9 @@ use Rattle.sheet.specs.Tables.{sheetIn, Loaded}
 use Rattle.planner.specs.Schedule.{Schedule, empty, finishOf}
 use Rattle.levelling.specs.Found.{Levelled}
 use Rattle.schedule.specs.Layout.{scheduleIn}
-use Rattle.chains.specs.Chains.{Chained}
-use Rattle.chains.specs.Frames.{Only}
-use Rattle.chains.specs.declared.End.the-variants.{Source, Target}
+use Rattle.adjacency.specs.Chains.{Chained}
+use Rattle.adjacency.specs.Frames.{Only}
+use Rattle.adjacency.specs.declared.End.the-variants.{Source, Target}
 use Rattle.arrivals.specs.Kept.{Kept}
 use Rattle.turns.specs.declared.Planned.{Planned}
 use Rattle.turns.specs.declared.Planned.the-variants.{Done, Refused}

@@ -12,14 +12,14 @@ ghost use Rattle.arrivals.specs.Lanes.{Started};
 ghost use Rattle.arrivals.specs.Kept.{Single, Surveyed};
 ghost use Rattle.readiness.specs.Keyed.{Keyed};
 ghost use Rattle.turns.specs.Turns.{answerOf, Going, Cleared, Emptied, Afterwards};
+use adjacency::End;
 use arrivals::Starts;
-use chains::End;
 use sheet::tables;
-use words::Found;
 use workspace::FINISHES;
 use workspace::OPENED;
 use workspace::PLACED;
 use workspace::PLACES;
+use workspace::total::Found;
 
 // Done, or refused for want of store (11) at a task.
 pub enum Planned {
@@ -44,7 +44,7 @@ fn put_on(
     ensures { λ _. ⌜ (scheduleIn (now (w .exit)) ≡ placedFrom (sheetIn (now (w .entry))) (barred (sheetIn (now (w .entry)))) (scheduleIn (now (w .entry))) t k (startOn (sheetIn (now (w .entry))) (scheduleIn (now (w .entry))) t k)) × Going (now (w .entry)) (j + 1) (now (w .exit)) (now (kept .exit)) × Keyed (sheetIn (now (w .exit))) (scheduleIn (now (w .exit))) (now (q .exit)) ⌝ }
 {
     let finish = start + tables::work(w, t);
-    let open = words::later(schedule::opened(w), k + 1);
+    let open = numbers::later(schedule::opened(w), k + 1);
     let n = schedule::placed(w);
     arrivals::settle(w, kept, t, k, start, finish);
     arrivals::release(kept);
@@ -166,7 +166,7 @@ pub fn schedule(w: &mut [u32]) -> Planned
 {
     let mut kept = [0u32; arrivals::LENGTH];
     clear(w);
-    chains::chain(w, End::Source);
+    adjacency::chain(w, End::Source);
     arrivals::gather(w, &mut kept);
     take_turns(w, &mut kept)
 }

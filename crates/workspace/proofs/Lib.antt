@@ -1,2 +1,3 @@
 -- The laws of `workspace`.
 pub mod Clearing
+pub mod Searches

@@ -1,2 +1,3 @@
 -- The definitions of `workspace`.
 pub mod Area
+pub mod Found

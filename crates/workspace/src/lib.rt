@@ -1,4 +1,6 @@
 // The work area that a caller lends: words of 32 bits.
+pub mod total; // total.rt: bytes and words at any index
+
 ghost use mathlib.Core.Path.{_≡_};
 ghost use Prim.Native.Nat.{_≤_, _<_};
 ghost use lib.ListN.{length, getD, replicate};

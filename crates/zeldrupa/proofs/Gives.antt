@@ -9,10 +9,10 @@ use Rattle.numbers.proofs.Puts.{kept}
 use Rattle.workspace.specs.Area.{fixed}
 use Rattle.sheet.specs.Sheet.{Sheet}
 use Rattle.bundle.specs.Bundle.{Bundle}
-use Rattle.answers.specs.Values.{taskTable, linkTable, boardAfter, commandTable, claimAfter, no-place, valueCount}
+use Rattle.entry_points.specs.Values.{taskTable, linkTable, boardAfter, commandTable, claimAfter, no-place, valueCount}
 use Rattle.zeldrupa.specs.Promises.{Ends, Gives, GivesSheet, GivesBundle}
-use Rattle.answers.specs.Parts.{outcomeOf, numberOf, placeOf, EndIs, PartIs, SheetIs, BundleIs}
-use Rattle.answers.specs.declared.ending.Outcome.{Outcome}
+use Rattle.entry_points.specs.Parts.{outcomeOf, numberOf, placeOf, EndIs, PartIs, SheetIs, BundleIs}
+use Rattle.entry_points.specs.declared.ending.Outcome.{Outcome}
 
 -- an area that is too short, and one that is long enough
 pub short : {A : Type 0} (a : Answer A) (n : ℕ) → n < fixed → longEnough fixed n a ≡ refused 13 fixed

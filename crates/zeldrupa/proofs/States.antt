@@ -17,8 +17,8 @@ use Rattle.machine.specs.Machine.{State, stampIn}
 use Rattle.stepping_machine.specs.Represents.{ChoiceIs, LeftIs, StampIs}
 use Rattle.stepping_machine.specs.Starts.{starting}
 use Rattle.zeldrupa.specs.Stepping.{startAnswer, GivesState, stateNumber, GivesStep, GivesLeft, GivesProcessor, stampNumber, GivesStamp}
-use Rattle.answers.specs.Parts.{numberOf, placeOf, StateIs, NumbersIs}
-use Rattle.answers.specs.declared.ending.Outcome.{Outcome}
+use Rattle.entry_points.specs.Parts.{numberOf, placeOf, StateIs, NumbersIs}
+use Rattle.entry_points.specs.declared.ending.Outcome.{Outcome}
 use Rattle.zeldrupa.proofs.Gives.{short, enough, all-zero, untouched, number-of, place-of}
 
 module _ (f : Sheet × Bundle → ℕ) (τ : Sheet → Bundle → State) (sheet bundle work state : List ℕ) where

@@ -18,7 +18,7 @@ use Rattle.bundle.specs.Writing as bundles
 use Rattle.checker.specs.Checker.{check}
 use Rattle.planner.specs.Planner.{plan}
 use Rattle.listing.specs.Listing.{listing}
-use Rattle.answers.specs.Values.{levelsOf, tabled, no-place, taskTable, linkTable, boardAfter, commandTable, claimAfter, valueCount}
+use Rattle.entry_points.specs.Values.{levelsOf, tabled, no-place, taskTable, linkTable, boardAfter, commandTable, claimAfter, valueCount}
 
 -- what is returned, the place, and the work area afterwards, by an answer whose results have f as their place
 pub record Ends {A : Type 0} (f : A → ℕ) (a : Answer A) (work work′ : List ℕ) (p r : ℕ) : Type 0 where

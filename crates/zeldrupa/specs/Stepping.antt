@@ -10,13 +10,13 @@ use Rattle.folds.specs.Answers.{Answer, value, refused, longEnough, number, pla
 use Rattle.workspace.specs.Area.{fixed}
 use Rattle.sheet.specs.Sheet.{Sheet}
 use Rattle.bundle.specs.Bundle.{Bundle}
-use Rattle.messages.specs.Counting.{each}
+use Rattle.admission.specs.Counting.{each}
 use Rattle.machine.specs.Machine.{State, freshState, stampOf, step, canStep}
 use Rattle.machine.specs.Runs.{chosen, runOf, left}
 use Rattle.stepping_machine.specs.Words.{Blank}
 use Rattle.stepping_machine.specs.Represents.{Represents}
 use Rattle.stepping_machine.specs.Starts.{starting}
-use Rattle.answers.specs.Values.{steppedIn, numbersOf}
+use Rattle.entry_points.specs.Values.{steppedIn, numbersOf}
 
 -- zeldrupa_start, zeldrupa_run: 13 for the work area, then for the state's
 unfoldable pub startAnswer : List ℕ → List ℕ → ℕ → ℕ → Answer (Sheet × Bundle)

@@ -4,10 +4,10 @@
 ghost use lib.ListN.{length};
 ghost use Rattle.zeldrupa.specs.Promises.{Gives, GivesSheet, GivesBundle, GivesCheck, GivesPlan, GivesListing, levelsAnswer, writeSheetAnswer, readSheetAnswer, readBundleAnswer, writeBundleAnswer};
 ghost use Rattle.zeldrupa.specs.Stepping.{GivesStart, GivesRun, GivesStep, GivesLeft, GivesProcessor, GivesStamp};
-use answers::bundles;
-use answers::ending;
-use answers::runs;
-use answers::sheets;
+use entry_points::bundles;
+use entry_points::ending;
+use entry_points::runs;
+use entry_points::sheets;
 
 // Reads a sheet into its tables: two values a task, four a link; processors, limit, tasks and links into `board`.
 #[no_mangle]
@@ -146,7 +146,7 @@ pub extern "C" fn zeldrupa_plan(
         *place = workspace::LENGTH as u64;
         return 13;
     }
-    let o = plans::write(sheet, work, out);
+    let o = entry_points::plans::write(sheet, work, out);
     workspace::clear(work);
     ending::conclude(o, place)
 }
@@ -165,7 +165,7 @@ pub extern "C" fn zeldrupa_listing(
         *place = workspace::LENGTH as u64;
         return 13;
     }
-    let o = plans::list(sheet, work, out);
+    let o = entry_points::plans::list(sheet, work, out);
     workspace::clear(work);
     ending::conclude(o, place)
 }

@@ -2,8 +2,8 @@
 use Prim.Native.Nat.{_-_, _≤_}
 use native.Mathlib.Omega.{arith}
 use Rattle.sheet.specs.Tables.{sheetIn}
-use Rattle.chains.specs.Frames.{Only}
-use Rattle.chains.proofs.Frames.{only-none, only-trans}
+use Rattle.adjacency.specs.Frames.{Only}
+use Rattle.adjacency.proofs.Frames.{only-none, only-trans}
 use Rattle.arrivals.specs.Layout.{seenFrom}
 use Rattle.arrivals.specs.Steps.{GatheredTo}
 use Rattle.arrivals.proofs.Gathering.{gathers-at}

@@ -1,6 +1,6 @@
 -- `survey` (src/lib.rt) keeps its contract.
 use native.Mathlib.Omega.{arith}
-use Rattle.chains.proofs.Frames.{only-trans}
+use Rattle.adjacency.proofs.Frames.{only-trans}
 use Rattle.arrivals.proofs.Clearing.{cleared}
 use Rattle.arrivals.proofs.Surveys.{survey-gathered, survey-ends, survey-none}
 use borrow.Author.Needs.{needs}

@@ -1,6 +1,6 @@
 -- `levels` (src/lib.rt) keeps its contract.
 use Rattle.levelling.proofs.Ends.{find-goes, levels-found, levels-free, peel-asks}
-use Rattle.peeling.proofs.Frames.{held}
+use Rattle.topological_order.proofs.Frames.{held}
 use borrow.Author.Needs.{needs}
 use Rattle.levelling.proofs.levels.Statement.{statement}
 use Rattle.levelling.proofs.levels.Tie as tie

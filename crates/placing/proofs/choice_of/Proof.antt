@@ -1,8 +1,8 @@
 -- `choice_of` (src/lib.rt) keeps its contract.
 use mathlib.Core.Path.{_∙_, ap, sym}
 use Rattle.arrivals.proofs.Walks.{kept-arrived}
-use Rattle.words.proofs.Searches.{below-at}
-use Rattle.words.specs.Found.{foundOf}
+use Rattle.workspace.proofs.Searches.{below-at}
+use Rattle.workspace.specs.Found.{foundOf}
 use Rattle.placing.proofs.Steps.{choice-join}
 use borrow.Author.Needs.{needs}
 use Rattle.placing.proofs.choice_of.Statement.{statement}

@@ -6,7 +6,7 @@ use denote.Ref.{now}
 use Rattle.placing.proofs.Spent.{due-else, due-own, target-free}
 use Rattle.placing.specs.Choosing.{dueBy}
 use Rattle.sheet.specs.Sheet.{linkCount, sourceOf}
-use Rattle.chains.proofs.Walks.{own-first, own-next, sum-first, sum-next}
+use Rattle.adjacency.proofs.Walks.{own-first, own-next, sum-first, sum-next}
 use Rattle.schedule.specs.Layout.{scheduleIn}
 use Rattle.sheet.specs.Tables.{sheetIn}
 use Rattle.folds.specs.Folds.{sum}

@@ -6,7 +6,7 @@ use denote.Ref.{now}
 use Rattle.sheet.specs.Sheet.{linkCount, sourceOf}
 use Rattle.sheet.specs.Tables.{sheetIn}
 use Rattle.schedule.specs.Layout.{scheduleIn}
-use Rattle.chains.proofs.Walks.{own-first, own-next}
+use Rattle.adjacency.proofs.Walks.{own-first, own-next}
 use Rattle.placing.specs.Choosing.{dueBy, DuesTo}
 use Rattle.placing.specs.declared.Senders.the-variants.{Four}
 use Rattle.placing.proofs.Spent.{due-else, target-free}

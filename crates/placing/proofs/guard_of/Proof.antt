@@ -1,6 +1,6 @@
 -- `guard_of` (src/lib.rt) keeps its contract.
 use Rattle.arrivals.proofs.Walks.{kept-arrived}
-use Rattle.words.proofs.Searches.{below-at}
+use Rattle.workspace.proofs.Searches.{below-at}
 use Rattle.placing.proofs.Guards.{guard-ahead, guard-behind, guard-none}
 use borrow.Author.Needs.{needs}
 use Rattle.placing.proofs.guard_of.Statement.{statement}

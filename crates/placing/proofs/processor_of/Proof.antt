@@ -1,7 +1,7 @@
 -- `processor_of` (src/lib.rt) keeps its contract.
 use mathlib.Core.Path.{sym}
 use native.Mathlib.Omega.{arith}
-use Rattle.keys.proofs.Leading.{index-more}
+use Rattle.readiness.proofs.Leading.{index-more}
 use borrow.Author.Needs.{needs}
 use Rattle.placing.proofs.processor_of.Statement.{statement}
 use Rattle.placing.proofs.processor_of.Tie as tie

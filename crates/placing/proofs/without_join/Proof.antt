@@ -1,7 +1,7 @@
 -- `without_join` (src/lib.rt) keeps its contract.
 use mathlib.Core.Path.{_∙_, ap, sym}
-use Rattle.words.proofs.Searches.{below-at}
-use Rattle.words.specs.Found.{foundOf}
+use Rattle.workspace.proofs.Searches.{below-at}
+use Rattle.workspace.specs.Found.{foundOf}
 use Rattle.placing.proofs.Steps.{choice-another, choice-idle, choice-last}
 use borrow.Author.Needs.{needs}
 use Rattle.placing.proofs.without_join.Statement.{statement}

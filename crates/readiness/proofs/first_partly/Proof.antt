@@ -1,5 +1,5 @@
 -- `first_partly` (src/lib.rt) keeps its contract.
-use Rattle.readiness.proofs.Keys.{first-partly-is}
+use Rattle.readiness.proofs.Keying.{first-partly-is}
 use borrow.Author.Needs.{needs}
 use Rattle.readiness.proofs.first_partly.Statement.{statement}
 use Rattle.readiness.proofs.first_partly.Tie as tie

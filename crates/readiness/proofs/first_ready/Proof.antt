@@ -1,5 +1,5 @@
 -- `first_ready` (src/lib.rt) keeps its contract.
-use Rattle.readiness.proofs.Keys.{first-ready-is}
+use Rattle.readiness.proofs.Keying.{first-ready-is}
 use borrow.Author.Needs.{needs}
 use Rattle.readiness.proofs.first_ready.Statement.{statement}
 use Rattle.readiness.proofs.first_ready.Tie as tie

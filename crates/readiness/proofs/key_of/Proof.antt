@@ -1,6 +1,6 @@
 -- `key_of` (src/lib.rt) keeps its contract.
 use native.Mathlib.Omega.{arith}
-use Rattle.readiness.proofs.Keys.{level-le, priority-le}
+use Rattle.readiness.proofs.Keying.{level-le, priority-le}
 use Rattle.readiness.specs.Keyed.{keyOf}
 use Rattle.sheet.specs.Tables.{sheetIn}
 use denote.Ref.{now}

@@ -1,7 +1,7 @@
 -- `task_of` (src/lib.rt) keeps its contract.
 use mathlib.Core.Path.{sym}
 use native.Mathlib.Omega.{arith}
-use Rattle.keys.proofs.Leading.{index-more}
+use Rattle.readiness.proofs.Leading.{index-more}
 use borrow.Author.Needs.{needs}
 use Rattle.readiness.proofs.task_of.Statement.{statement}
 use Rattle.readiness.proofs.task_of.Tie as tie

@@ -1,8 +1,8 @@
 -- `place_surveyed` (src/lib.rt) keeps its contract.
 use mathlib.Core.Path.{_∙_, ap, sym}
 use native.Mathlib.Omega.{arith}
-use Rattle.words.specs.Found.{foundOf}
-use Rattle.words.proofs.Searches.{below-at}
+use Rattle.workspace.specs.Found.{foundOf}
+use Rattle.workspace.proofs.Searches.{below-at}
 use Rattle.turns.proofs.Going.{choosing, later-turns}
 use Rattle.turns.proofs.Turns.{place-done, place-refused}
 use borrow.Author.Needs.{needs}

@@ -1,9 +1,9 @@
 -- `take_turn` (src/lib.rt) keeps its contract.
 use mathlib.Core.Path.{_∙_, ap, sym}
 use native.Mathlib.Omega.{arith}
-use Rattle.words.proofs.Searches.{below-at}
+use Rattle.workspace.proofs.Searches.{below-at}
 use Rattle.turns.proofs.Turns.{first-is-ready, turn-none, turn-some}
-use Rattle.words.specs.Found.{foundOf}
+use Rattle.workspace.specs.Found.{foundOf}
 use Rattle.turns.proofs.Going.{later-turns}
 use borrow.Author.Needs.{needs}
 use Rattle.turns.proofs.take_turn.Statement.{statement}

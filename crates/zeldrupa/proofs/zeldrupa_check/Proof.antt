@@ -1,7 +1,7 @@
 -- `zeldrupa_check` (src/lib.rt) keeps its contract.
 use Rattle.zeldrupa.proofs.Gives.{ends-part, ends-short}
 use Rattle.checker.specs.Checker.{check}
-use Rattle.answers.specs.Values.{no-place}
+use Rattle.entry_points.specs.Values.{no-place}
 use Rattle.zeldrupa.specs.Promises.{checkAnswer}
 use denote.Ref.{now}
 use borrow.Author.Needs.{needs}

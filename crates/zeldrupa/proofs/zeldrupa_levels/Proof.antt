@@ -2,7 +2,7 @@
 use Rattle.folds.specs.Answers.{andThen, fitting}
 use Rattle.graph.specs.Graph.{readSheet}
 use Rattle.zeldrupa.proofs.Gives.{gives-part, gives-short}
-use Rattle.answers.specs.Values.{levelsOf}
+use Rattle.entry_points.specs.Values.{levelsOf}
 use Rattle.zeldrupa.specs.Promises.{levelsAnswer}
 use borrow.Author.Needs.{needs}
 use denote.Ref.{now}

@@ -2,7 +2,7 @@
 use Rattle.bundle.specs.Format.{readBundle}
 use Rattle.folds.specs.Answers.{andThen}
 use Rattle.graph.specs.Graph.{readSheet}
-use Rattle.answers.proofs.Bundling.{fittingBundle}
+use Rattle.entry_points.proofs.Bundling.{fittingBundle}
 use Rattle.zeldrupa.proofs.Gives.{gives-bundle, gives-bundle-short}
 use Rattle.zeldrupa.specs.Promises.{readBundleAnswer}
 use borrow.Author.Needs.{needs}

@@ -2,7 +2,7 @@
 use Rattle.folds.specs.Answers.{andThen}
 use Rattle.graph.specs.Graph.{readSheet}
 use Rattle.zeldrupa.proofs.Gives.{gives-sheet, gives-sheet-short}
-use Rattle.answers.specs.Values.{tabled}
+use Rattle.entry_points.specs.Values.{tabled}
 use Rattle.zeldrupa.specs.Promises.{readSheetAnswer}
 use borrow.Author.Needs.{needs}
 use denote.Ref.{now}

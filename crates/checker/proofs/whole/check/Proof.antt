@@ -3,7 +3,7 @@ use Rattle.checker.proofs.Areas.{checked-in}
 use borrow.Author.Needs.{needs}
 use denote.Ref.{now}
 use Rattle.stepping_machine.proofs.Starting.{part-extent}
-use Rattle.messages.proofs.Areas.{seen-in}
+use Rattle.admission.proofs.Areas.{seen-in}
 use Rattle.checker.proofs.whole.check.Statement.{statement}
 use Rattle.checker.proofs.whole.check.Tie as tie
 

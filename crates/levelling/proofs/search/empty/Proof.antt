@@ -1,9 +1,9 @@
 -- `empty` (src/search.rt) keeps its contract.
-use Rattle.peeling.specs.Words.{Outside}
-use Rattle.peeling.specs.Peeling.{Emptied}
+use Rattle.topological_order.specs.Words.{Outside}
+use Rattle.topological_order.specs.Peeling.{Emptied}
 use Prim.Native.Nat.{_-_, _≤_}
 use native.Mathlib.Omega.{arith}
-use Rattle.peeling.proofs.Frames.{outside-none, outside-set}
+use Rattle.topological_order.proofs.Frames.{outside-none, outside-set}
 use Rattle.levelling.proofs.Spreads.{emptied-at, emptied-more, emptied-none}
 use borrow.Author.Needs.{needs}
 use Rattle.levelling.proofs.search.empty.Statement.{statement}

@@ -1,9 +1,9 @@
 -- `find` (src/search.rt) keeps its contract.
-use Rattle.peeling.specs.Words.{Outside}
+use Rattle.topological_order.specs.Words.{Outside}
 use Prim.Native.Nat.{_-_, _≤_}
 use mathlib.Core.Path.{_∙_, _≡_}
 use native.Mathlib.Omega.{arith}
-use Rattle.peeling.proofs.Frames.{outside-none, outside-trans}
+use Rattle.topological_order.proofs.Frames.{outside-none, outside-trans}
 use Rattle.levelling.proofs.Spreads.{find-asks, find-done, find-hit, find-miss, find-start}
 use Rattle.folds.specs.Folds.{first}
 use borrow.Author.Needs.{needs}

@@ -1,10 +1,10 @@
 -- `look_all` (src/search.rt) keeps its contract.
-use Rattle.peeling.specs.Words.{Outside}
-use Rattle.peeling.specs.Peeling.{Searched}
+use Rattle.topological_order.specs.Words.{Outside}
+use Rattle.topological_order.specs.Peeling.{Searched}
 use Prim.Native.Nat.{_-_}
 use mathlib.Core.Path.{_∙_}
 use native.Mathlib.Omega.{arith}
-use Rattle.peeling.proofs.Frames.{outside-none, outside-trans}
+use Rattle.topological_order.proofs.Frames.{outside-none, outside-trans}
 use Rattle.levelling.proofs.Spreads.{look-asks, look-back, look-ends, look-index, look-on}
 use borrow.Author.Needs.{needs}
 use Rattle.sheet.specs.Tables.{sheetIn}

@@ -1,6 +1,6 @@
 -- `on_circle` (src/search.rt) keeps its contract.
 use native.Mathlib.Omega.{arith}
-use Rattle.peeling.proofs.Frames.{outside-held}
+use Rattle.topological_order.proofs.Frames.{outside-held}
 use Rattle.levelling.proofs.Spreads.{goal-asks, goal-ends, goal-first}
 use borrow.Author.Needs.{needs}
 use Rattle.levelling.proofs.search.on_circle.Statement.{statement}

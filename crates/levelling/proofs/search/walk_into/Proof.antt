@@ -2,9 +2,9 @@
 use Rattle.levelling.proofs.Spreads.{SpreadTo, spread-asks, spread-closes, spread-ends, spread-goes, spread-is-back, spread-is-on, spread-less, spread-source, spread-starts}
 use Prim.Native.Nat.{_-_}
 use native.Mathlib.Omega.{arith}
-use Rattle.peeling.proofs.Frames.{outside-held, outside-trans}
+use Rattle.topological_order.proofs.Frames.{outside-held, outside-trans}
 use borrow.Author.Needs.{needs}
-use Rattle.peeling.proofs.Turns.{next-asks}
+use Rattle.topological_order.proofs.Turns.{next-asks}
 use denote.Ref.{now}
 use Rattle.levelling.proofs.search.walk_into.Statement.{statement}
 use Rattle.levelling.proofs.search.walk_into.Tie as tie

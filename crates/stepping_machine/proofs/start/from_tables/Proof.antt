@@ -2,7 +2,7 @@
 use borrow.Author.Needs.{needs}
 use denote.Ref.{now}
 use Rattle.stepping_machine.proofs.Starting.{opened-in, part-extent}
-use Rattle.messages.proofs.Areas.{seen-in}
+use Rattle.admission.proofs.Areas.{seen-in}
 use Rattle.stepping_machine.proofs.start.from_tables.Statement.{statement}
 use Rattle.stepping_machine.proofs.start.from_tables.Tie as tie
 

@@ -1,0 +1,3 @@
+-- The definitions of `adjacency`.
+pub mod Frames
+pub mod Chains

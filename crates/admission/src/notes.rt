@@ -1,0 +1,74 @@
+// One pass over a bundle that notes of each command how often and where it stands.
+ghost use mathlib.Core.Path.{_≡_};
+ghost use Prim.Native.Nat.{_+_, _*_, _≤_, _<_};
+ghost use lib.ListN.{length, getD};
+ghost use lib.Dec.{eqb};
+ghost use Rattle.folds.specs.Folds.{bit};
+ghost use Rattle.admission.specs.Notes.{slotsAt, slotsEnd, messageAt, notedWords, BlankIs, NotesIs};
+
+// Where the notes of runs, of sends and of receives stand.
+pub const NOTES: usize = 2048;
+
+pub const SENDS: usize = 2304;
+
+pub const RECEIVES: usize = 3328;
+
+// The slot of the send or receive at `at`. A sum and no test: which of them stands there cannot be foretold.
+fn message(bundle: &[u8], at: usize) -> usize
+    requires { ⌜ at + 3 ≤ length (now bundle) ⌝ }
+    ensures { λ r. ⌜ (r ≡ messageAt (now (bundle .entry)) at) × (r < 66816) ⌝ }
+{
+    let c = numbers::get8(bundle, at);
+    let l = numbers::get16(bundle, at + 1) as usize;
+    256 + 1024 * ((c + 172) / 256) + l
+}
+
+// A command of slot x was met in programme k, r others before it: how many were met now.
+fn note(w: &mut [u32], x: usize, k: usize, r: usize) -> usize
+    requires { ⌜ (x < 66816) × (2 * r < 18446744073709551616) ⌝ }
+    ensures { λ n. ⌜ (now (w .exit) ≡ notedWords (now (w .entry)) x k r) × (n ≡ r + bit (eqb (getD (now (w .entry)) (slotsAt + x) 0) 0)) ⌝ }
+{
+    if workspace::total::word(w, NOTES + x) == 0 {
+        workspace::total::put(w, NOTES + x, 4096 * (k % 16 + 1) + r);
+        return r + 1;
+    }
+    workspace::total::put(w, NOTES + x, 1);
+    r
+}
+
+// No command is noted of n tasks and l links. The other slots stay: no command of a bundle that was read has one.
+fn blank(w: &mut [u32], n: usize, l: usize)
+    requires { ⌜ (n ≤ 256) × (l ≤ 1024) × (slotsEnd ≤ length (now w)) ⌝ }
+    ensures { λ _. ⌜ BlankIs (now (w .entry)) (now (w .exit)) n l ⌝ }
+{
+    workspace::clear_words(w, NOTES, NOTES + n);
+    workspace::clear_words(w, SENDS, SENDS + l);
+    workspace::clear_words(w, RECEIVES, RECEIVES + l);
+}
+
+// Notes all commands of a bundle for a sheet of n tasks and l links, in the words from NOTES on.
+pub fn note_all(bundle: &[u8], w: &mut [u32], n: usize, l: usize)
+    requires { ⌜ (n ≤ 256) × (l ≤ 1024) × (slotsEnd ≤ length (now w)) ⌝ }
+    ensures { λ _. ⌜ NotesIs (now (bundle .entry)) (now (w .entry)) (now (w .exit)) n l ⌝ }
+{
+    blank(w, n, l);
+    let end = numbers::minus(bundle.len(), 5);
+    let mut at: usize = 2;
+    let mut k: usize = 0;
+    let mut r: usize = 0;
+    while at < end {
+        let c = numbers::get8(bundle, at);
+        if c == 0x50 {
+            k += 1;
+            at += 2;
+        } else {
+            if c == 0x52 {
+                r = note(w, numbers::get8(bundle, at + 1), k, r);
+                at += 2;
+            } else {
+                r = note(w, message(bundle, at), k, r);
+                at += 3;
+            }
+        }
+    }
+}

@@ -1,3 +1,0 @@
--- The definitions of `answers`.
-pub mod Values
-pub mod Parts

@@ -1,3 +1,0 @@
--- The definitions of `chains`.
-pub mod Frames
-pub mod Chains

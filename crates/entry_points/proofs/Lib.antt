@@ -1,0 +1,5 @@
+-- The laws of `entry_points`.
+pub mod Opening
+pub mod Bundling
+pub mod Running
+pub mod Planning

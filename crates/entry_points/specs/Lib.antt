@@ -1,0 +1,3 @@
+-- The definitions of `entry_points`.
+pub mod Values
+pub mod Parts

@@ -1,0 +1,121 @@
+// The sheet's side of the interface, behind the test of the work area.
+ghost use mathlib.Core.Path.{_≡_};
+ghost use Prim.Native.Nat.{_+_, _*_, _≤_, _<_};
+ghost use lib.ListN.{length};
+ghost use Rattle.folds.specs.Answers.{andThen, fitting};
+ghost use Rattle.numbers.specs.Number.{stored};
+ghost use Rattle.workspace.specs.Area.{fixed};
+ghost use Rattle.sheet.specs.Sheet.{taskCount};
+ghost use Rattle.sheet.specs.Tables.{sheetIn, Loaded};
+ghost use Rattle.sheet.specs.Writing.{valueBytes};
+ghost use Rattle.graph.specs.Graph.{readSheet};
+ghost use Rattle.levelling.specs.Found.{Levelled};
+ghost use Rattle.entry_points.specs.Values.{levelsOf, tabled, boardOf};
+ghost use Rattle.entry_points.specs.Parts.{PartIs, SheetIs};
+use crate::ending::Outcome;
+use levelling::open;
+use sheet::tables;
+use sheet_reader::Reading;
+use sheet_writer::unload;
+use sheet_writer::writer;
+use workspace::LEVELS;
+use workspace::LIMIT;
+use workspace::LINK_COUNT;
+use workspace::PROCESSORS;
+use workspace::TASK_COUNT;
+
+// The level words, at the front of `out`.
+fn copy_levels(w: &[u32], out: &mut [u32])
+    requires { ⌜ Loaded (now w) ⌝ }
+    requires { ⌜ Levelled (sheetIn (now w)) (now w) ⌝ }
+    requires { ⌜ taskCount (sheetIn (now w)) ≤ length (now out) ⌝ }
+    ensures { λ _. ⌜ now (out .exit) ≡ stored (now (out .entry)) 0 (levelsOf (sheetIn (now (w .entry)))) ⌝ }
+{
+    let n = tables::tasks(w);
+    let mut t: usize = 0;
+    while t < n {
+        out[t] = w[LEVELS + t];
+        t += 1;
+    }
+}
+
+// The levels of a sheet.
+pub fn levels(sheet: &[u8], work: &mut [u32], out: &mut [u32]) -> Outcome
+    requires { ⌜ fixed ≤ length (now work) ⌝ }
+    ensures { λ o. ⌜ PartIs (andThen (readSheet (now (sheet .entry))) (λ s. fitting (length (now (out .entry))) (levelsOf s))) (now (work .entry)) (now (work .exit)) (now (out .entry)) (now (out .exit)) o ⌝ }
+{
+    match open::read(sheet, work) {
+        Reading::Refused(r, at) => Outcome::Refused(r, at),
+        Reading::Read => {
+            let n = tables::tasks(work);
+            if out.len() < n {
+                return Outcome::Refused(12, n);
+            }
+            copy_levels(work, out);
+            Outcome::Done(n)
+        }
+    }
+}
+
+// The bytes of a sheet that is given by its values.
+pub fn write(
+    processors: u8,
+    limit: u32,
+    tasks: &[u16],
+    links: &[u16],
+    work: &mut [u32],
+    out: &mut [u8],
+) -> Outcome
+    requires { ⌜ fixed ≤ length (now work) ⌝ }
+    ensures { λ o. ⌜ PartIs (andThen (readSheet (valueBytes processors limit (now (tasks .entry)) (now (links .entry)))) (λ s. fitting (length (now (out .entry))) (valueBytes processors limit (now (tasks .entry)) (now (links .entry))))) (now (work .entry)) (now (work .exit)) (now (out .entry)) (now (out .exit)) o ⌝ }
+{
+    match open::load(processors, limit, tasks, links, work) {
+        Reading::Refused(r, at) => Outcome::Refused(r, at),
+        Reading::Read => {
+            let need = 7 + 5 * (tasks.len() / 2) + 7 * (links.len() / 4);
+            if out.len() < need {
+                return Outcome::Refused(12, need);
+            }
+            writer::put_sheet(out, processors, limit, tasks, links);
+            Outcome::Done(need)
+        }
+    }
+}
+
+// Processors, limit, tasks and links.
+fn put_board(w: &[u32], board: &mut [u32; 4])
+    requires { ⌜ Loaded (now w) ⌝ }
+    ensures { λ _. ⌜ now (board .exit) ≡ boardOf (sheetIn (now (w .entry))) ⌝ }
+{
+    *board = [w[PROCESSORS], w[LIMIT], w[TASK_COUNT], w[LINK_COUNT]];
+}
+
+// The tables of a sheet.
+pub fn read(
+    sheet: &[u8],
+    work: &mut [u32],
+    tasks: &mut [u16],
+    links: &mut [u16],
+    board: &mut [u32; 4],
+) -> Outcome
+    requires { ⌜ fixed ≤ length (now work) ⌝ }
+    ensures { λ o. ⌜ SheetIs (andThen (readSheet (now (sheet .entry))) (tabled (length (now (tasks .entry))) (length (now (links .entry))))) (now (work .entry)) (now (work .exit)) (now (tasks .entry)) (now (tasks .exit)) (now (links .entry)) (now (links .exit)) (now (board .entry)) (now (board .exit)) o ⌝ }
+{
+    match open::read(sheet, work) {
+        Reading::Refused(r, at) => Outcome::Refused(r, at),
+        Reading::Read => {
+            let n = 2 * tables::tasks(work);
+            if tasks.len() < n {
+                return Outcome::Refused(12, n);
+            }
+            let m = 4 * tables::links(work);
+            if links.len() < m {
+                return Outcome::Refused(12, m);
+            }
+            unload::tasks(work, tasks);
+            unload::links(work, links);
+            put_board(work, board);
+            Outcome::Done(0)
+        }
+    }
+}

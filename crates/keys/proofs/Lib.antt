@@ -1,3 +1,0 @@
--- The laws of `keys`.
-pub mod Blocks
-pub mod Leading

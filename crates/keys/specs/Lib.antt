@@ -1,2 +1,0 @@
--- The definitions of `keys`.
-pub mod Keys

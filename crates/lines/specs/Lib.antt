@@ -1,3 +1,0 @@
--- The definitions of `lines`.
-pub mod Lines
-pub mod Listed

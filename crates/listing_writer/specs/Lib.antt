@@ -1,0 +1,3 @@
+-- The definitions of `listing_writer`.
+pub mod Lines
+pub mod Listed

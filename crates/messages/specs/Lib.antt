@@ -1,9 +1,0 @@
--- The definitions of `messages`.
-pub mod Counting
-pub mod Messages
-pub mod Unsplit
-pub mod Fields
-pub mod Views
-pub mod Notes
-pub mod Rules
-pub mod Admitted

@@ -1,8 +1,0 @@
--- The laws of `peeling`.
-pub mod Frames
-pub mod Places
-pub mod Pushes
-pub mod Lights
-pub mod Walks
-pub mod Turns
-pub mod Starts

@@ -1,3 +1,0 @@
--- The definitions of `peeling`.
-pub mod Words
-pub mod Peeling

@@ -1,2 +1,0 @@
--- The laws of `plans`.
-pub mod Planning

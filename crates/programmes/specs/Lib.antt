@@ -1,6 +1,0 @@
--- The definitions of `programmes`.
-pub mod Bytes
-pub mod Laid
-pub mod Queues
-pub mod Scheduled
-pub mod Written

@@ -1,0 +1,8 @@
+-- The laws of `topological_order`.
+pub mod Frames
+pub mod Places
+pub mod Pushes
+pub mod Lights
+pub mod Walks
+pub mod Turns
+pub mod Starts

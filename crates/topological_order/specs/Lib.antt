@@ -1,0 +1,3 @@
+-- The definitions of `topological_order`.
+pub mod Words
+pub mod Peeling

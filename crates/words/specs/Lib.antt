@@ -1,2 +1,0 @@
--- The definitions of `words`.
-pub mod Found
