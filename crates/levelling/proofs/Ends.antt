@@ -19,7 +19,7 @@ use Rattle.adjacency.proofs.Frames.{only-trans}
 use Rattle.adjacency.proofs.Walks.{chained-under}
 use Rattle.topological_order.specs.Words.{Held, Outside, placeIn, inQueue, doneBy}
 use Rattle.topological_order.specs.Peeling.{dueBy, levelIn, Peeled}
-use Rattle.topological_order.specs.Steps.{AllTaken}
+use Rattle.topological_order.specs.Steps.{Ordered, AllTaken}
 use Rattle.workspace.specs.Found.{foundOf}
 use Rattle.levelling.specs.Found.{Levelled, LevelsAre}
 use Rattle.workspace.specs.declared.total.Found.{Found}
@@ -90,6 +90,10 @@ module _ (s : Sheet) (k : ℕ) (w : List ℕ) (declared : Declared s) (p : Peele
       let low : sum (taskCount s) (λ t. 1) ≤ sum (taskCount s) (inQueue w) =
       sum-mono (taskCount s) (λ t. 1) (inQueue w) (λ t h. omega (arith, in-queue w t (all-placed (taskCount s) t h (ranks .few t h)))) in
       omega (arith, p .peel .queued .count, queued-few (p .peel .queued), sum-ones (taskCount s))
+
+-- without a circle the steps of the loop set every task's level
+pub ordered-all : {s : Sheet} {k : ℕ} {w : List ℕ} → Declared s → AllTaken s k w → Ordered s k w → circle s ≡ none → Ordered s (taskCount s) w
+ordered-all {s} {k} {w} declared a o free = subst (λ (n : ℕ). Ordered s n w) (peeled-all s k w declared (a .peeled) free) o
 
 -- the whole, from what its parts say: both ends are chained, the links into tasks first
 pub chains-stand : {w w₁ w₂ : List ℕ} → Held w → Rechained Target w w₁ × Chained Target (sheetIn w) w₁ → Rechained Source w₁ w₂ × Chained Source (sheetIn w₁) w₂
