@@ -1,5 +1,5 @@
 -- The end of peeling: where all tasks are taken off there is no circle and the levels are there; where one is left there is a circle.
-use Prim.Native.Nat.{ℕ, zero, suc, _≤_, _<_}
+use Prim.Native.Nat.{ℕ, zero, suc, _+_, _≤_, _<_}
 use mathlib.Core.Option.{none}
 use mathlib.Core.Path.{_≡_, ap, sym, _∙_, subst}
 use mathlib.Core.List.{List}
@@ -7,17 +7,19 @@ use native.Mathlib.Omega.{arith}
 use native.Mathlib.Decide.{ℕ-discrete}
 use borrow.Author.Tests.{lt-ltb}
 use Rattle.workspace.specs.Area.{levelsAt, openedAt}
-use Rattle.folds.specs.Folds.{sum}
+use Rattle.folds.specs.Folds.{sum, greatest}
 use Rattle.folds.proofs.Laws.{sum-zeros, sum-mono}
-use Rattle.sheet.specs.Sheet.{Sheet, taskCount, linkCount, sourceOf, targetOf}
-use Rattle.sheet.specs.Tables.{sheetIn}
-use Rattle.graph.specs.Graph.{circle}
+use Rattle.sheet.specs.Sheet.{Sheet, taskCount, linkCount, workOf, sourceOf, targetOf}
+use Rattle.sheet.specs.Tables.{sheetIn, Loaded}
+use Rattle.graph.specs.Graph.{circle, levelBy}
 use Rattle.adjacency.specs.Frames.{Only}
 use Rattle.adjacency.specs.Chains.{Rechained, Chained}
-use Rattle.adjacency.specs.declared.End.the-variants.{Target}
+use Rattle.adjacency.specs.declared.End.the-variants.{Source, Target}
 use Rattle.adjacency.proofs.Frames.{only-trans}
+use Rattle.adjacency.proofs.Walks.{chained-under}
 use Rattle.topological_order.specs.Words.{Held, Outside, placeIn, inQueue, doneBy}
 use Rattle.topological_order.specs.Peeling.{dueBy, levelIn, Peeled}
+use Rattle.topological_order.specs.Steps.{Ordered, AllTaken}
 use Rattle.workspace.specs.Found.{foundOf}
 use Rattle.levelling.specs.Found.{Levelled, LevelsAre}
 use Rattle.workspace.specs.declared.total.Found.{Found}
@@ -30,7 +32,10 @@ use Rattle.topological_order.proofs.Lights.{due-lit, due-other}
 use Rattle.topological_order.proofs.Turns.{chain-here}
 
 -- all are taken off
-module _ (s : Sheet) (k : ℕ) (w : List ℕ) (declared : Declared s) (p : Peeled s k k 0 0 w) (all : k ≡ taskCount s) where
+module _ (s : Sheet) (k : ℕ) (w : List ℕ) (declared : Declared s) (a : AllTaken s k w) (all : k ≡ taskCount s) where
+  abbrev p : Peeled s k k 0 0 w
+  p = a .peeled
+
   placed : (t : ℕ) → t < taskCount s → placeIn w t < 256
   placed = queued-all (p .peel .queued) all
 
@@ -42,8 +47,11 @@ module _ (s : Sheet) (k : ℕ) (w : List ℕ) (declared : Declared s) (p : Peele
       }
 
   solved : Solved s (levelIn w)
-  unfolding levelIn
-  solved = record { is = λ t h. p .peel .solved t h (p .peel .queued .few t h (placed t h)) }
+  solved =
+      record {
+        is = λ t h.
+            subst (λ (x : ℕ). levelIn w x ≡ workOf s x + greatest (linkCount s) (levelBy s (levelIn w) x)) (p .peel .queued .back t h (placed t h)) (a .levels .level (placeIn w t) (p .peel .queued .few t h (placed t h)));
+      }
 
   pub peeled-free : circle s ≡ none
   peeled-free = ranked-none s (placeIn w) ranked
@@ -83,37 +91,49 @@ module _ (s : Sheet) (k : ℕ) (w : List ℕ) (declared : Declared s) (p : Peele
       sum-mono (taskCount s) (λ t. 1) (inQueue w) (λ t h. omega (arith, in-queue w t (all-placed (taskCount s) t h (ranks .few t h)))) in
       omega (arith, p .peel .queued .count, queued-few (p .peel .queued), sum-ones (taskCount s))
 
--- the whole, from what its parts say
-pub peel-asks : {w w₁ : List ℕ} → Held w → Rechained Target w w₁ × Chained Target (sheetIn w) w₁ → Held w₁ × Chained Target (sheetIn w₁) w₁
-peel-asks {w} {w₁} h d = let k = only-kept (d .0 .only) in (kept-held h k, subst (λ (s : Sheet). Chained Target s w₁) (sym (kept-sheet h k)) (d .1))
+-- without a circle the steps of the loop set every task's level
+pub ordered-all : {s : Sheet} {k : ℕ} {w : List ℕ} → Declared s → AllTaken s k w → Ordered s k w → circle s ≡ none → Ordered s (taskCount s) w
+ordered-all {s} {k} {w} declared a o free = subst (λ (n : ℕ). Ordered s n w) (peeled-all s k w declared (a .peeled) free) o
 
-pub find-goes : {w w₁ w₂ : List ℕ} → Held w → Rechained Target w w₁ × Chained Target (sheetIn w) w₁ → Outside w₁ w₂ → Held w₂ × Chained Target (sheetIn w₂) w₂
+-- the whole, from what its parts say: both ends are chained, the links into tasks first
+pub chains-stand : {w w₁ w₂ : List ℕ} → Held w → Rechained Target w w₁ × Chained Target (sheetIn w) w₁ → Rechained Source w₁ w₂ × Chained Source (sheetIn w₁) w₂
+    → Only levelsAt openedAt w w₂ × (Chained Source (sheetIn w) w₂ × Chained Target (sheetIn w) w₂)
+chains-stand {w} {w₁} {w₂} h d e = (
+  only-trans (only-kept (d .0 .only)) (only-kept (e .0 .only)),
+  (subst (λ (s : Sheet). Chained Source s w₂) (kept-sheet h (only-kept (d .0 .only))) (e .1), chained-under (e .0) (d .1)),
+)
+
+pub source-asks : {w w₁ : List ℕ} → Held w → Rechained Target w w₁ × Chained Target (sheetIn w) w₁ → Loaded w₁
+source-asks h d = kept-held h (only-kept (d .0 .only)) .loaded
+
+pub peel-asks : {w w₁ : List ℕ} → Held w → Only levelsAt openedAt w w₁ × (Chained Source (sheetIn w) w₁ × Chained Target (sheetIn w) w₁) → Held w₁ × (Chained Source (sheetIn w₁) w₁ × Chained Target (sheetIn w₁) w₁)
+peel-asks {w} {w₁} h d = (kept-held h (d .0), subst (λ (s : Sheet). Chained Source s w₁ × Chained Target s w₁) (sym (kept-sheet h (d .0))) (d .1))
+
+pub find-goes : {w w₁ w₂ : List ℕ} → Held w → Only levelsAt openedAt w w₁ × (Chained Source (sheetIn w) w₁ × Chained Target (sheetIn w) w₁) → Outside w₁ w₂ → Held w₂ × Chained Target (sheetIn w₂) w₂
 find-goes {w} {w₁} {w₂} h d b =
     let q = peel-asks h d in
-    (outside-held (q .0) b, outside-own (λ (s : Sheet). Chained Target s w₂) (q .0) b (chain-here (q .0) (q .1) b))
+    (outside-held (q .0) b, outside-own (λ (s : Sheet). Chained Target s w₂) (q .0) b (chain-here (q .0) (q .1 .1) b))
 
-pub levels-free : {w w₁ w₂ : List ℕ} {k n : ℕ} → Held w → Rechained Target w w₁ × Chained Target (sheetIn w) w₁ → Outside w₁ w₂ × Peeled (sheetIn w₁) k k 0 0 w₂ → n ≡ taskCount (sheetIn w₂) → k ≡ n → LevelsAre w w₂ Nothing
-levels-free {w} {w₁} {w₂} {k} {n} h c d e q =
-    let b : Only levelsAt openedAt w w₁ = only-kept (c .0 .only) in
-    let same : sheetIn w₁ ≡ sheetIn w = kept-sheet h b in
-    let kept : Only levelsAt openedAt w w₂ = only-trans b (d .0 .kept) in
-    let p : Peeled (sheetIn w) k k 0 0 w₂ = subst (λ (s : Sheet). Peeled s k k 0 0 w₂) same (d .1) in
+pub levels-free : {w w₁ w₂ : List ℕ} {k n : ℕ} → Held w → Only levelsAt openedAt w w₁ × (Chained Source (sheetIn w) w₁ × Chained Target (sheetIn w) w₁)
+    → Outside w₁ w₂ → AllTaken (sheetIn w₁) k w₂ → n ≡ taskCount (sheetIn w₂) → k ≡ n → LevelsAre w w₂ Nothing
+levels-free {w} {w₁} {w₂} {k} {n} h c b d e q =
+    let kept : Only levelsAt openedAt w w₂ = only-trans (c .0) (b .kept) in
+    let p : AllTaken (sheetIn w) k w₂ = subst (λ (s : Sheet). AllTaken s k w₂) (kept-sheet h (c .0)) d in
     let all : k ≡ taskCount (sheetIn w) = q ∙ e ∙ ap taskCount (kept-sheet h kept) in
     record {
       answer = sym (peeled-free (sheetIn w) k w₂ (loaded-declared (h .loaded)) p all);
-      levels = λ f. peeled-levels (sheetIn w) k w₂ (loaded-declared (h .loaded)) p all (outside-chained (sheetIn w) w₁ w₂ (h .few-tasks) (h .few-links) (d .0) (c .1));
+      levels = λ f. peeled-levels (sheetIn w) k w₂ (loaded-declared (h .loaded)) p all (outside-chained (sheetIn w) w₁ w₂ (h .few-tasks) (h .few-links) b (c .1 .1));
       kept = kept;
     }
 
-pub levels-found : {w w₁ w₂ w₃ : List ℕ} {k n : ℕ} {r : Found} → Held w → Rechained Target w w₁ → Outside w₁ w₂ × Peeled (sheetIn w₁) k k 0 0 w₂ → n ≡ taskCount (sheetIn w₂) → (k ≡ n → ⊥) → Outside w₂ w₃ × (foundOf r ≡ circle (sheetIn w₂)) → LevelsAre w w₃ r
-levels-found {w} {w₁} {w₂} {w₃} {k} {n} {r} h o d e q t =
-    let b : Only levelsAt openedAt w w₁ = only-kept (o .only) in
-    let same : sheetIn w₁ ≡ sheetIn w = kept-sheet h b in
-    let kept : Only levelsAt openedAt w w₂ = only-trans b (d .0 .kept) in
+pub levels-found : {w w₁ w₂ w₃ : List ℕ} {k n : ℕ} {r : Found} → Held w → Only levelsAt openedAt w w₁ → Outside w₁ w₂ → AllTaken (sheetIn w₁) k w₂ → n ≡ taskCount (sheetIn w₂) → (k ≡ n → ⊥)
+    → Outside w₂ w₃ × (foundOf r ≡ circle (sheetIn w₂)) → LevelsAre w w₃ r
+levels-found {w} {w₁} {w₂} {w₃} {k} {n} {r} h o b d e q t =
+    let kept : Only levelsAt openedAt w w₂ = only-trans o (b .kept) in
     let same₂ : sheetIn w₂ ≡ sheetIn w = kept-sheet h kept in
-    let p : Peeled (sheetIn w) k k 0 0 w₂ = subst (λ (s : Sheet). Peeled s k k 0 0 w₂) same (d .1) in
+    let p : AllTaken (sheetIn w) k w₂ = subst (λ (s : Sheet). AllTaken s k w₂) (kept-sheet h o) d in
     record {
       answer = t .1 ∙ ap circle same₂;
-      levels = λ f. absurd (q (peeled-all (sheetIn w) k w₂ (loaded-declared (h .loaded)) p f ∙ sym (ap taskCount same₂) ∙ sym e));
+      levels = λ f. absurd (q (peeled-all (sheetIn w) k w₂ (loaded-declared (h .loaded)) (p .peeled) f ∙ sym (ap taskCount same₂) ∙ sym e));
       kept = only-trans kept (t .0 .kept);
     }

@@ -16,6 +16,7 @@ pub fn levels(w: &mut [u32]) -> Found
     ensures { λ r. ⌜ LevelsAre (now (w .entry)) (now (w .exit)) r ⌝ }
 {
     adjacency::chain(w, End::Target);
+    adjacency::chain(w, End::Source);
     let k = peel::peel(w);
     let n = tables::tasks(w);
     if k == n {

@@ -11,10 +11,10 @@ use Rattle.sheet.specs.Tables.{sheetIn, Loaded}
 use Rattle.sheet.proofs.Rows.{ranged}
 use Rattle.adjacency.specs.Frames.{Only}
 use Rattle.adjacency.specs.Chains.{Chained}
-use Rattle.adjacency.specs.declared.End.the-variants.{Target}
+use Rattle.adjacency.specs.declared.End.{End}
 use Rattle.adjacency.proofs.Frames.{only-none, only-trans, only-wider, only-set, only-sheet, only-loaded}
 use Rattle.adjacency.proofs.Walks.{chained-frame}
-use Rattle.topological_order.specs.Words.{Held, Outside}
+use Rattle.topological_order.specs.Words.{Held, Outside, Grown}
 use Rattle.graph.proofs.Reaches.{Declared}
 
 -- what writes the chains alone
@@ -55,8 +55,8 @@ pub outside-sheet : {w w′ : List ℕ} → Held w → Outside w w′ → sheetI
 outside-sheet h b = kept-sheet h (b .kept)
 
 -- the chains of an area whose chains are as they were
-pub outside-chained : (s : Sheet) (w w′ : List ℕ) → taskCount s ≤ 256 → linkCount s ≤ 1024 → Outside w w′ → Chained Target s w → Chained Target s w′
-outside-chained s w w′ n m b = chained-frame n m (λ i h k. b .chains i h k)
+pub outside-chained : {e : End} (s : Sheet) (w w′ : List ℕ) → taskCount s ≤ 256 → linkCount s ≤ 1024 → Outside w w′ → Chained e s w → Chained e s w′
+outside-chained {e} s w w′ n m b = chained-frame n m (λ i h k. b .chains i h k)
 
 -- what is said of the sheet before holds of the sheet after, and the other way round
 pub outside-own : (P : Sheet → Type 0) {w w′ : List ℕ} → Held w → Outside w w′ → P (sheetIn w) → P (sheetIn w′)
@@ -64,3 +64,13 @@ outside-own P h b p = subst P (sym (outside-sheet h b)) p
 
 pub outside-from : (P : Sheet → Type 0) {w w′ : List ℕ} → Held w → Outside w w′ → P (sheetIn w′) → P (sheetIn w)
 outside-from P h b p = subst P (outside-sheet h b) p
+
+-- what writes the marks and the queue alone
+pub grown-none : (k : ℕ) (w : List ℕ) → Grown k k w w
+grown-none k w = record { only = only-none marksAt openedAt w; more = omega arith; queue = λ j h. refl }
+
+pub grown-trans : {k q r : ℕ} {u v w : List ℕ} → Grown k q u v → Grown q r v w → Grown k r u w
+grown-trans a b = let x = a .more in let y = b .more in record { only = only-trans (a .only) (b .only); more = omega arith; queue = λ j h. b .queue j (omega arith) ∙ a .queue j h }
+
+pub grown-outside : {k r : ℕ} {w w′ : List ℕ} → Grown k r w w′ → Outside w w′
+grown-outside g = record { kept = only-wider (omega arith) (omega arith) (g .only); chains = λ i h k. g .only .low i k }

@@ -4,5 +4,7 @@ pub mod Places
 pub mod Pushes
 pub mod Lights
 pub mod Walks
+pub mod Levels
+pub mod Orders
 pub mod Turns
 pub mod Starts

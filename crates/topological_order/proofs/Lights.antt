@@ -1,5 +1,5 @@
 -- Taking tasks off: what holds while links are counted off, tasks are put into the queue, and a task is taken from it.
-use Prim.Native.Nat.{ℕ, _+_, _*_, _-_, _≤_, _<_, max}
+use Prim.Native.Nat.{ℕ, _+_, _-_, _≤_, _<_}
 use mathlib.Core.Bool.{Bool, true, false, not}
 use mathlib.Core.Path.{_≡_, refl, ap, sym, _∙_}
 use mathlib.Core.Logic.{_≢_}
@@ -7,20 +7,20 @@ use mathlib.Core.List.{List}
 use native.Mathlib.Omega.{arith}
 use native.Mathlib.Decide.{decLt, ℕ-discrete}
 use borrow.Author.Tests.{eq-eqb, ne-eqb}
-use lib.ListN.{length, getD, set, length-set}
-use lib.Seq.{getD-set-same, getD-set-other}
+use lib.ListN.{length, getD, set}
+use lib.Seq.{getD-set-other}
 use lib.Dec.{eqb, ltb}
 use Rattle.workspace.specs.Area.{fixed, headsAt, levelsAt, marksAt, queueAt}
-use Rattle.folds.specs.Folds.{pick, bit, both, sum, greatest}
+use Rattle.folds.specs.Folds.{bit, both, sum, greatest}
 use Rattle.folds.proofs.Tests.{both-false}
-use Rattle.folds.proofs.Laws.{sum-cong, sum-point, term-le-sum, greatest-cong, greatest-point}
-use Rattle.sheet.specs.Sheet.{Sheet, taskCount, linkCount, workOf, sourceOf, targetOf, costOf}
+use Rattle.folds.proofs.Laws.{sum-cong, sum-point, term-le-sum, greatest-cong}
+use Rattle.sheet.specs.Sheet.{Sheet, taskCount, linkCount, sourceOf, targetOf, costOf}
 use Rattle.graph.specs.Graph.{levelBy}
-use Rattle.topological_order.specs.Words.{placeIn, degreeIn, Queued, inQueue, pushed}
-use Rattle.topological_order.specs.Peeling.{dueBy, gaveBy, levelIn, Peel}
+use Rattle.topological_order.specs.Words.{placeIn, degreeIn, taskAt, Queued, inQueue, pushed}
+use Rattle.topological_order.specs.Peeling.{dueBy, Peel}
 use Rattle.graph.proofs.Reaches.{Declared}
 use Rattle.topological_order.proofs.Places.{place-le, degree-short, place-same, degree-same, place-far, degree-far, place-none, degree-put}
-use Rattle.topological_order.proofs.Pushes.{queued-few, queued-room, queued-push, apart, push-here, push-else, push-none, push-due, push-low}
+use Rattle.topological_order.proofs.Pushes.{queued-few, queued-room, queued-push, apart, push-here, push-else, push-none, push-due}
 
 -- a link by what it says of t
 module _ (s : Sheet) (c : ℕ → Bool) (t l : ℕ) where
@@ -36,33 +36,17 @@ module _ (s : Sheet) (c : ℕ → Bool) (t l : ℕ) where
   unfolding dueBy
   due-other h = rw (ne-eqb (sourceOf s l) t h)
 
-  gave-lit : (w : List ℕ) → sourceOf s l ≡ t → c l ≡ true → gaveBy s c w t l ≡ costOf s l + getD w (levelsAt + targetOf s l) 0
-  unfolding gaveBy
-  gave-lit w h e = rw (eq-eqb (sourceOf s l) t h, e)
-
-  pub gave-unlit : (w : List ℕ) → c l ≡ false → gaveBy s c w t l ≡ 0
-  unfolding gaveBy
-  gave-unlit w e = rw (e, both-false (eqb (sourceOf s l) t))
-
-  gave-other : (w : List ℕ) → sourceOf s l ≢ t → gaveBy s c w t l ≡ 0
-  unfolding gaveBy
-  gave-other w h = rw (ne-eqb (sourceOf s l) t h)
-
-level-own : (s : Sheet) (of : ℕ → ℕ) (t l : ℕ) → sourceOf s l ≡ t → levelBy s of t l ≡ costOf s l + of (targetOf s l)
+pub level-own : (s : Sheet) (of : ℕ → ℕ) (t l : ℕ) → sourceOf s l ≡ t → levelBy s of t l ≡ costOf s l + of (targetOf s l)
 unfolding levelBy
 level-own s of t l e = rw (eq-eqb (sourceOf s l) t e)
 
-level-other : (s : Sheet) (of : ℕ → ℕ) (t l : ℕ) → sourceOf s l ≢ t → levelBy s of t l ≡ 0
+pub level-other : (s : Sheet) (of : ℕ → ℕ) (t l : ℕ) → sourceOf s l ≢ t → levelBy s of t l ≡ 0
 unfolding levelBy
 level-other s of t l e = rw (ne-eqb (sourceOf s l) t e)
 
 pub due-cong : (s : Sheet) (c c′ : ℕ → Bool) (t l : ℕ) → c l ≡ c′ l → dueBy s c t l ≡ dueBy s c′ t l
 unfolding dueBy
 due-cong s c c′ t l e = ap (λ (b : Bool). bit (both (eqb (sourceOf s l) t) (not b))) e
-
-gave-cong : (s : Sheet) (c c′ : ℕ → Bool) (w : List ℕ) (t l : ℕ) → c l ≡ c′ l → gaveBy s c w t l ≡ gaveBy s c′ w t l
-unfolding gaveBy
-gave-cong s c c′ w t l e = ap (λ (b : Bool). pick (both (eqb (sourceOf s l) t) b) (costOf s l + getD w (levelsAt + targetOf s l) 0) 0) e
 
 -- a task whose links are all counted off
 pub due-none : (s : Sheet) (c : ℕ → Bool) (t l : ℕ) → sum (linkCount s) (dueBy s c t) ≡ 0 → l < linkCount s → sourceOf s l ≡ t → c l ≡ true
@@ -72,24 +56,14 @@ due-none s c t l e h p = go (c l) refl
     go true q = q
     go false q = absurd (omega (arith, due-unlit s c t l p q, term-le-sum (linkCount s) (dueBy s c t) l h))
 
--- levels of tasks none of whose successors changed its level
-level-same : (s : Sheet) (w w′ : List ℕ) (t : ℕ) → ((l : ℕ) → l < linkCount s → sourceOf s l ≡ t → getD w′ (levelsAt + targetOf s l) 0 ≡ getD w (levelsAt + targetOf s l) 0)
-    → greatest (linkCount s) (levelBy s (levelIn w) t) ≡ greatest (linkCount s) (levelBy s (levelIn w′) t)
-unfolding levelIn
-level-same s w w′ t h = greatest-cong (linkCount s) (levelBy s (levelIn w) t) (levelBy s (levelIn w′) t) (λ l k. go l k (ℕ-discrete (sourceOf s l) t))
+-- the formula of a task none of whose successors changed its level
+pub level-same : (s : Sheet) (of of′ : ℕ → ℕ) (t : ℕ) → ((l : ℕ) → l < linkCount s → sourceOf s l ≡ t → of′ (targetOf s l) ≡ of (targetOf s l))
+    → greatest (linkCount s) (levelBy s of t) ≡ greatest (linkCount s) (levelBy s of′ t)
+level-same s of of′ t h = greatest-cong (linkCount s) (levelBy s of t) (levelBy s of′ t) (λ l k. go l k (ℕ-discrete (sourceOf s l) t))
   where
-    go : (l : ℕ) → l < linkCount s → Dec (sourceOf s l ≡ t) → levelBy s (levelIn w) t l ≡ levelBy s (levelIn w′) t l
-    go l k (yes e) = level-own s (levelIn w) t l e ∙ sym (level-own s (levelIn w′) t l e ∙ ap (λ (x : ℕ). costOf s l + x) (h l k e))
-    go l k (no e) = level-other s (levelIn w) t l e ∙ sym (level-other s (levelIn w′) t l e)
-
--- what links gave, where the levels of the targets of those counted off are as they were
-gave-same : (s : Sheet) (c : ℕ → Bool) (w w′ : List ℕ) (t l : ℕ) → (c l ≡ true → getD w′ (levelsAt + targetOf s l) 0 ≡ getD w (levelsAt + targetOf s l) 0) → gaveBy s c w t l ≡ gaveBy s c w′ t l
-gave-same s c w w′ t l h = go (c l) refl (ℕ-discrete (sourceOf s l) t)
-  where
-    go : (b : Bool) → c l ≡ b → Dec (sourceOf s l ≡ t) → gaveBy s c w t l ≡ gaveBy s c w′ t l
-    go true q (yes e) = gave-lit s c t l w e q ∙ sym (gave-lit s c t l w′ e q ∙ ap (λ (x : ℕ). costOf s l + x) (h q))
-    go true q (no e) = gave-other s c t l w e ∙ sym (gave-other s c t l w′ e)
-    go false q d = gave-unlit s c t l w q ∙ sym (gave-unlit s c t l w′ q)
+    go : (l : ℕ) → l < linkCount s → Dec (sourceOf s l ≡ t) → levelBy s of t l ≡ levelBy s of′ t l
+    go l k (yes e) = level-own s of t l e ∙ sym (level-own s of′ t l e ∙ ap (λ (x : ℕ). costOf s l + x) (h l k e))
+    go l k (no e) = level-other s of t l e ∙ sym (level-other s of′ t l e)
 
 -- the queue of an area whose words from the queue on, and whose places, are as they were
 pub queued-same : {n k : ℕ} {w w′ : List ℕ} → ((t : ℕ) → placeIn w′ t ≡ placeIn w t) → ((i : ℕ) → queueAt ≤ i → getD w′ i 0 ≡ getD w i 0) → Queued n k w → Queued n k w′
@@ -112,24 +86,20 @@ peel-same {s} {i} {k} {e} {f} {w} c c′ h p =
       early = p .early;
       lit = λ l g q. p .lit l g (h l g ∙ q);
       degree = λ t g. p .degree t g ∙ sum-cong (linkCount s) (dueBy s c t) (dueBy s c′ t) (λ l q. due-cong s c c′ t l (h l q));
-      gathered = λ t g q. p .gathered t g q ∙ greatest-cong (linkCount s) (gaveBy s c w t) (gaveBy s c′ w t) (λ l r. gave-cong s c c′ w t l (h l r));
       ready = p .ready;
       waits = p .waits;
       falls = p .falls;
-      solved = p .solved;
-      bounded = p .bounded;
     }
 
 module _ (s : Sheet) (w : List ℕ) (declared : Declared s) (few : taskCount s ≤ 256) (long : fixed ≤ length w) where
   -- a link is counted off at its source
-  module _ (c c′ : ℕ → Bool) (i k l y d : ℕ) (p : Peel s c i k 0 0 w) (l-in : l < linkCount s) (off : c l ≡ false) (on : c′ l ≡ true)
-      (else : (j : ℕ) → j < linkCount s → j ≢ l → c′ j ≡ c j) (gone : placeIn w (targetOf s l) < i) (small : costOf s l + getD w (levelsAt + targetOf s l) 0 ≤ 131070 * i)
-      (y-is : y ≡ max (getD w (levelsAt + sourceOf s l) 0) (costOf s l + getD w (levelsAt + targetOf s l) 0)) (d-is : d ≡ degreeIn w (sourceOf s l) - 1) where
+  module _ (c c′ : ℕ → Bool) (i k l d : ℕ) (p : Peel s c i k 0 0 w) (l-in : l < linkCount s) (off : c l ≡ false) (on : c′ l ≡ true)
+      (else : (j : ℕ) → j < linkCount s → j ≢ l → c′ j ≡ c j) (gone : placeIn w (targetOf s l) < i) (d-is : d ≡ degreeIn w (sourceOf s l) - 1) where
     abbrev u : ℕ
     u = sourceOf s l
 
     abbrev lit-words : List ℕ
-    lit-words = set (set w (levelsAt + sourceOf s l) y) (marksAt + sourceOf s l) d
+    lit-words = set w (marksAt + sourceOf s l) d
 
     u-in : u < taskCount s
     u-in = declared .source l l-in
@@ -150,35 +120,24 @@ module _ (s : Sheet) (w : List ℕ) (declared : Declared s) (few : taskCount s �
     few-gone : i ≤ 256
     few-gone = omega (arith, p .early, queued-few (p .queued))
 
-    level-here : getD lit-words (levelsAt + u) 0 ≡ y
-    level-here = let h = u-in in getD-set-other (set w (levelsAt + u) y) (marksAt + u) (levelsAt + u) d 0 (omega arith) ∙ getD-set-same w (levelsAt + u) y 0 (omega arith)
-
-    level-else : (t : ℕ) → t < taskCount s → t ≢ u → getD lit-words (levelsAt + t) 0 ≡ getD w (levelsAt + t) 0
-    level-else t h e = getD-set-other (set w (levelsAt + u) y) (marksAt + u) (levelsAt + t) d 0 (omega arith) ∙ getD-set-other w (levelsAt + u) (levelsAt + t) y 0 (λ x. e (omega arith))
-
     d-short : d < 65536
     d-short = omega (arith, degree-short w u)
 
     pub light-degree : degreeIn lit-words (sourceOf s l) ≡ d
-    light-degree = let h = u-in in degree-put (set w (levelsAt + u) y) u (simp length-set (omega arith)) d d-short
+    light-degree = let h = u-in in degree-put w u (omega arith) d d-short
 
     degree-else : (t : ℕ) → t ≢ u → degreeIn lit-words t ≡ degreeIn w t
-    degree-else t e = let h = u-in in degree-far (set w (levelsAt + u) y) (marksAt + u) d t (λ x. e (omega arith)) ∙ degree-far w (levelsAt + u) y t (omega arith)
+    degree-else t e = degree-far w (marksAt + u) d t (λ x. e (omega arith))
 
     light-high : (j : ℕ) → queueAt ≤ j → getD lit-words j 0 ≡ getD w j 0
-    light-high j h = let g = u-in in getD-set-other (set w (levelsAt + u) y) (marksAt + u) j d 0 (omega arith) ∙ getD-set-other w (levelsAt + u) j y 0 (omega arith)
+    light-high j h = let g = u-in in getD-set-other w (marksAt + u) j d 0 (omega arith)
 
     pub light-place : (t : ℕ) → placeIn lit-words t ≡ placeIn w t
     light-place t = go (ℕ-discrete t u)
       where
         go : Dec (t ≡ u) → placeIn lit-words t ≡ placeIn w t
-        go (yes e) =
-            let h = u-in in
-            rw e (place-none (set w (levelsAt + u) y) u (simp length-set (omega arith)) d d-short ∙ omega (arith, place-le w u, light-free))
-        go (no e) = let h = u-in in place-far (set w (levelsAt + u) y) (marksAt + u) d t (λ x. e (omega arith)) ∙ place-far w (levelsAt + u) y t (omega arith)
-
-    pub light-level : (t : ℕ) → t < taskCount s → placeIn w t < 256 → getD lit-words (levelsAt + t) 0 ≡ getD w (levelsAt + t) 0
-    light-level t h g = level-else t h (not-u t g)
+        go (yes e) = let h = u-in in rw e (place-none w u (omega arith) d d-short ∙ omega (arith, place-le w u, light-free))
+        go (no e) = place-far w (marksAt + u) d t (λ x. e (omega arith))
 
     due′ : (t : ℕ) → t < taskCount s → Dec (t ≡ u) → degreeIn lit-words t ≡ sum (linkCount s) (dueBy s c′ t)
     due′ t h (yes e) =
@@ -195,33 +154,6 @@ module _ (s : Sheet) (w : List ℕ) (declared : Declared s) (few : taskCount s �
             due-other s c t j x ∙ sym (due-other s c′ t j x)
         go j g (no q) = due-cong s c c′ t j (sym (else j g q))
 
-    gave-else : (t j : ℕ) → j < linkCount s → j ≢ l → gaveBy s c w t j ≡ gaveBy s c′ lit-words t j
-    gave-else t j g q =
-        gave-same s c w lit-words t j (λ x. let z = p .lit j g x in let few′ = few-gone in light-level (targetOf s j) (declared .target j g) (omega arith))
-        ∙ gave-cong s c c′ lit-words t j (sym (else j g q))
-
-    gathered′ : (t : ℕ) → t < taskCount s → i ≤ placeIn lit-words t → Dec (t ≡ u) → getD lit-words (levelsAt + t) 0 ≡ greatest (linkCount s) (gaveBy s c′ lit-words t)
-    gathered′ t h g (yes e) =
-        let few′ = few-gone in
-        let old : getD w (levelsAt + u) 0 ≡ greatest (linkCount s) (gaveBy s c w u) = p .gathered u u-in (omega (arith, light-free)) in
-        let here : gaveBy s c′ lit-words u l ≡ costOf s l + getD w (levelsAt + targetOf s l) 0 =
-        gave-lit s c′ u l lit-words refl on ∙ ap (λ (x : ℕ). costOf s l + x) (light-level (targetOf s l) (declared .target l l-in) (omega arith)) in
-        let here′ : gaveBy s c′ lit-words u l ≡ max (gaveBy s c w u l) (costOf s l + getD w (levelsAt + targetOf s l) 0) = omega (arith, here, gave-unlit s c u l w off) in
-        let all = greatest-point (linkCount s) (gaveBy s c w u) (gaveBy s c′ lit-words u) l (costOf s l + getD w (levelsAt + targetOf s l) 0) l-in here′ (λ j q r. sym (gave-else u j q r)) in
-        rw e (level-here ∙ y-is ∙ omega arith)
-    gathered′ t h g (no e) =
-        level-else t h e ∙ p .gathered t h (omega (arith, light-place t)) ∙ greatest-cong (linkCount s) (gaveBy s c w t) (gaveBy s c′ lit-words t) (λ j q. go j q (ℕ-discrete j l))
-      where
-        go : (j : ℕ) → j < linkCount s → Dec (j ≡ l) → gaveBy s c w t j ≡ gaveBy s c′ lit-words t j
-        go j q (yes r) =
-            let x : sourceOf s j ≢ t = λ z. e (sym z ∙ ap (sourceOf s) r) in
-            gave-other s c t j w x ∙ sym (gave-other s c′ t j lit-words x)
-        go j q (no r) = gave-else t j q r
-
-    bounded′ : (t : ℕ) → t < taskCount s → Dec (t ≡ u) → getD lit-words (levelsAt + t) 0 ≤ 131070 * i
-    bounded′ t h (yes e) = rw (e, level-here) (omega (arith, p .bounded u u-in))
-    bounded′ t h (no e) = rw (level-else t h e) (p .bounded t h)
-
     pub peel-light : Peel s c′ i k u (u + 1) lit-words
     peel-light =
         let few′ = few-gone in
@@ -230,15 +162,9 @@ module _ (s : Sheet) (w : List ℕ) (declared : Declared s) (few : taskCount s �
           early = p .early;
           lit = λ j h q. rw (light-place (targetOf s j)) (back j h q (ℕ-discrete j l));
           degree = λ t h. due′ t h (ℕ-discrete t u);
-          gathered = λ t h g. gathered′ t h g (ℕ-discrete t u);
           ready = λ t h g. let x = light-place t in degree-else t (not-u t (omega arith)) ∙ p .ready t h (omega arith);
           waits = λ t h x g. rw (light-place t) (let y = degree-else t (λ z. x (omega arith) (omega arith)) in p .waits t h (λ q r. absurd (omega arith)) (omega arith));
           falls = λ j h g. let a = light-place (sourceOf s j) in let b = light-place (targetOf s j) in omega (arith, p .falls j h (omega arith));
-          solved = λ t h g.
-              let x = light-place t in
-              level-else t h (not-u t (omega arith)) ∙ p .solved t h (omega arith) ∙
-              ap (λ (z : ℕ). workOf s t + z) (level-same s w lit-words t (λ j q r. let a : placeIn w (sourceOf s j) ≡ placeIn w t = ap (placeIn w) r in let b = p .falls j q (omega arith) in light-level (targetOf s j) (declared .target j q) (omega arith)));
-          bounded = λ t h. bounded′ t h (ℕ-discrete t u);
         }
       where
         back : (j : ℕ) → j < linkCount s → c′ j ≡ true → Dec (j ≡ l) → placeIn w (targetOf s j) < i
@@ -260,21 +186,8 @@ module _ (s : Sheet) (w : List ℕ) (declared : Declared s) (few : taskCount s �
     else-place : (t : ℕ) → t < taskCount s → t ≢ u → placeIn queue-words t ≡ placeIn w t
     else-place t = push-else (taskCount s) k u w few long u-in free (p .queued) t
 
-    low-words : (j : ℕ) → j < marksAt → getD queue-words j 0 ≡ getD w j 0
-    low-words = push-low (taskCount s) k u w few long u-in free (p .queued)
-
     old-place : (t : ℕ) → t < taskCount s → placeIn w t < 256 → placeIn queue-words t ≡ placeIn w t
     old-place t g h = else-place t g (apart w t u h free)
-
-    new-place : (t : ℕ) → t < taskCount s → placeIn queue-words t < i → placeIn w t < i
-    new-place t g h = go (ℕ-discrete t u)
-      where
-        go : Dec (t ≡ u) → placeIn w t < i
-        go (yes q) = let x : placeIn queue-words t ≡ placeIn queue-words u = ap (placeIn queue-words) q in absurd (omega (arith, in-place, p .early))
-        go (no q) = omega (arith, else-place t g q)
-
-    level-word : (t : ℕ) → t < taskCount s → getD queue-words (levelsAt + t) 0 ≡ getD w (levelsAt + t) 0
-    level-word t h = low-words (levelsAt + t) (omega arith)
 
     degree-word : (t : ℕ) → t < taskCount s → degreeIn queue-words t ≡ degreeIn w t
     degree-word t h = go (ℕ-discrete t u)
@@ -282,10 +195,6 @@ module _ (s : Sheet) (w : List ℕ) (declared : Declared s) (few : taskCount s �
         go : Dec (t ≡ u) → degreeIn queue-words t ≡ degreeIn w t
         go (yes q) = rw q (push-none (taskCount s) k u w few long u-in free (p .queued) ∙ sym none)
         go (no q) = push-due (taskCount s) k u w few long u-in free (p .queued) t h q
-
-    gathered-push : (t : ℕ) → t < taskCount s → i ≤ placeIn queue-words t → Dec (t ≡ u) → getD w (levelsAt + t) 0 ≡ greatest (linkCount s) (gaveBy s c w t)
-    gathered-push t h g (yes q) = let x : placeIn w t ≡ placeIn w u = ap (placeIn w) q in let y = few-k in p .gathered t h (omega (arith, p .early))
-    gathered-push t h g (no q) = p .gathered t h (omega (arith, else-place t h q))
 
     ready-push : (t : ℕ) → t < taskCount s → placeIn queue-words t < 256 → Dec (t ≡ u) → degreeIn w t ≡ 0
     ready-push t h g (yes q) = ap (degreeIn w) q ∙ none
@@ -315,37 +224,18 @@ module _ (s : Sheet) (w : List ℕ) (declared : Declared s) (few : taskCount s �
           early = omega (arith, p .early);
           lit = λ l h q. let x = p .lit l h q in let y = old-place (targetOf s l) (declared .target l h) (omega (arith, p .early, few-k)) in omega arith;
           degree = λ t h. degree-word t h ∙ p .degree t h;
-          gathered = λ t h g. level-word t h ∙ gathered-push t h g (ℕ-discrete t u) ∙ greatest-cong (linkCount s) (gaveBy s c w t) (gaveBy s c queue-words t) (λ l q. gave-same s c w queue-words t l (λ x. level-word (targetOf s l) (declared .target l q)));
           ready = λ t h g. degree-word t h ∙ ready-push t h g (ℕ-discrete t u);
           waits = λ t h x g. waits-push t h x (sym (degree-word t h) ∙ g) (ℕ-discrete t u);
           falls = λ l h g. falls-push l h g (ℕ-discrete (sourceOf s l) u);
-          solved = λ t h g.
-              level-word t h ∙ p .solved t h (new-place t h g) ∙ ap (λ (z : ℕ). workOf s t + z) (level-same s w queue-words t (λ l q r. level-word (targetOf s l) (declared .target l q)));
-          bounded = λ t h. rw (level-word t h) (p .bounded t h);
         }
 
-  -- the next task of the queue is taken off
-  module _ (c : ℕ → Bool) (i k v y : ℕ) (p : Peel s c i k 0 0 w) (left : i < k) (v-is : v ≡ getD w (queueAt + i) 0) (y-is : y ≡ workOf s v + getD w (levelsAt + v) 0) (short : workOf s v ≤ 65535) where
+  -- the next task of the queue is taken off: its level is set, and the places and counts are as they were
+  module _ (c : ℕ → Bool) (i k v y : ℕ) (p : Peel s c i k 0 0 w) (left : i < k) (v-in : v < taskCount s) where
     abbrev off-words : List ℕ
     off-words = set w (levelsAt + v) y
 
-    pub pop-in : v < taskCount s
-    pop-in = rw v-is (p .queued .task i left)
-
-    pub pop-place : placeIn w v ≡ i
-    pop-place = ap (placeIn w) v-is ∙ p .queued .place i left
-
-    pop-few : i < 256
-    pop-few = omega (arith, queued-few (p .queued))
-
-    pub pop-high : (j : ℕ) → headsAt ≤ j → getD off-words j 0 ≡ getD w j 0
-    pop-high j h = let g = pop-in in getD-set-other w (levelsAt + v) j y 0 (omega arith)
-
-    pop-here : getD off-words (levelsAt + v) 0 ≡ y
-    pop-here = let g = pop-in in getD-set-same w (levelsAt + v) y 0 (omega arith)
-
-    pop-else : (t : ℕ) → t ≢ v → getD off-words (levelsAt + t) 0 ≡ getD w (levelsAt + t) 0
-    pop-else t e = getD-set-other w (levelsAt + v) (levelsAt + t) y 0 (λ x. e (omega arith))
+    pop-high : (j : ℕ) → headsAt ≤ j → getD off-words j 0 ≡ getD w j 0
+    pop-high j h = getD-set-other w (levelsAt + v) j y 0 (omega arith)
 
     pub pop-same : (t : ℕ) → placeIn off-words t ≡ placeIn w t
     pop-same t = place-same w off-words t (pop-high (marksAt + t) (omega arith))
@@ -353,44 +243,8 @@ module _ (s : Sheet) (w : List ℕ) (declared : Declared s) (few : taskCount s �
     pop-due : (t : ℕ) → degreeIn off-words t ≡ degreeIn w t
     pop-due t = degree-same w off-words t (pop-high (marksAt + t) (omega arith))
 
-    not-v : (t : ℕ) → (placeIn w t ≡ i → ⊥) → t ≢ v
-    not-v t h e = h (ap (placeIn w) e ∙ pop-place)
-
-    pub pop-own : getD off-words (levelsAt + v) 0 ≤ 131070 * i + 65535
-    pop-own = rw pop-here (omega (arith, p .bounded v pop-in))
-
-    is-v : (t : ℕ) → t < taskCount s → t ≢ v → placeIn w t < i + 1 → placeIn w t < i
-    is-v t h e g = go (ℕ-discrete (placeIn w t) i)
-      where
-        go : Dec (placeIn w t ≡ i) → placeIn w t < i
-        go (yes q) = absurd (e (sym (p .queued .back t h (omega (arith, pop-few))) ∙ ap (λ (z : ℕ). getD w (queueAt + z) 0) q ∙ sym v-is))
-        go (no q) = omega arith
-
-    solved-here : y ≡ workOf s v + greatest (linkCount s) (levelBy s (levelIn off-words) v)
-    unfolding levelIn
-    solved-here =
-        let g = pop-place in
-        y-is ∙ ap (λ (z : ℕ). workOf s v + z) (p .gathered v pop-in (omega arith) ∙ greatest-cong (linkCount s) (gaveBy s c w v) (levelBy s (levelIn off-words) v) (λ l h. go l h (ℕ-discrete (sourceOf s l) v)))
-      where
-        go : (l : ℕ) → l < linkCount s → Dec (sourceOf s l ≡ v) → gaveBy s c w v l ≡ levelBy s (levelIn off-words) v l
-        go l h (yes q) =
-            let none : degreeIn w v ≡ 0 = p .ready v pop-in (omega (arith, pop-place, pop-few)) in
-            let on : c l ≡ true = due-none s c v l (sym (p .degree v pop-in) ∙ none) h q in
-            let x = p .lit l h on in
-            gave-lit s c v l w q on ∙ sym (level-own s (levelIn off-words) v l q ∙ ap (λ (z : ℕ). costOf s l + z) (pop-else (targetOf s l) (not-v (targetOf s l) (λ r. absurd (omega arith)))))
-        go l h (no q) = gave-other s c v l w q ∙ sym (level-other s (levelIn off-words) v l q)
-
-    solved-pop : (t : ℕ) → t < taskCount s → placeIn off-words t < i + 1 → Dec (t ≡ v) → getD off-words (levelsAt + t) 0 ≡ workOf s t + greatest (linkCount s) (levelBy s (levelIn off-words) t)
-    solved-pop t h g (yes e) = rw e (pop-here ∙ solved-here)
-    solved-pop t h g (no e) =
-        let x = is-v t h e (rw (pop-same t) at g) in
-        let few′ = pop-few in
-        pop-else t e ∙ p .solved t h x ∙
-        ap (λ (z : ℕ). workOf s t + z) (level-same s w off-words t (λ l q r. let a : placeIn w (sourceOf s l) ≡ placeIn w t = ap (placeIn w) r in let b = p .falls l q (omega arith) in pop-else (targetOf s l) (not-v (targetOf s l) (λ z. absurd (omega arith)))))
-
-    bounded-pop : (t : ℕ) → t < taskCount s → Dec (t ≡ v) → getD off-words (levelsAt + t) 0 ≤ 131070 * (i + 1)
-    bounded-pop t h (yes e) = rw e (omega (arith, pop-own))
-    bounded-pop t h (no e) = rw (pop-else t e) (omega (arith, p .bounded t h))
+    pub pop-queue : (j : ℕ) → taskAt off-words j ≡ taskAt w j
+    pop-queue j = pop-high (queueAt + j) (omega arith)
 
     pub peel-pop : Peel s c (i + 1) k 0 0 off-words
     peel-pop =
@@ -399,13 +253,7 @@ module _ (s : Sheet) (w : List ℕ) (declared : Declared s) (few : taskCount s �
           early = omega arith;
           lit = λ l h q. let x = p .lit l h q in rw (pop-same (targetOf s l)) (omega arith);
           degree = λ t h. pop-due t ∙ p .degree t h;
-          gathered = λ t h g.
-              let a = pop-same t in
-              pop-else t (not-v t (λ z. absurd (omega arith))) ∙ p .gathered t h (omega arith) ∙
-              greatest-cong (linkCount s) (gaveBy s c w t) (gaveBy s c off-words t) (λ l q. gave-same s c w off-words t l (λ x. let b = p .lit l q x in pop-else (targetOf s l) (not-v (targetOf s l) (λ z. absurd (omega arith)))));
           ready = λ t h g. let a = pop-same t in pop-due t ∙ p .ready t h (omega arith);
           waits = λ t h x g. rw (pop-same t) (p .waits t h x (sym (pop-due t) ∙ g));
           falls = λ l h g. let a = pop-same (sourceOf s l) in let b = pop-same (targetOf s l) in omega (arith, p .falls l h (omega arith));
-          solved = λ t h g. solved-pop t h g (ℕ-discrete t v);
-          bounded = λ t h. bounded-pop t h (ℕ-discrete t v);
         }

@@ -9,11 +9,12 @@ use borrow.Author.Tests.{lt-ltb, le-ltb}
 use lib.ListN.{length, getD, set, length-set}
 use lib.Seq.{getD-set-same, getD-set-other}
 use lib.Dec.{ltb}
-use Rattle.workspace.specs.Area.{fixed, marksAt, queueAt}
+use Rattle.workspace.specs.Area.{fixed, marksAt, openedAt, queueAt}
 use Rattle.folds.specs.Folds.{bit}
 use Rattle.folds.proofs.Tests.{bit-le}
 use Rattle.folds.proofs.Laws.{sum-le, sum-point}
-use Rattle.topological_order.specs.Words.{Outside, placeIn, degreeIn, inQueue, Queued, pushed}
+use Rattle.topological_order.specs.Words.{Outside, Grown, placeIn, degreeIn, inQueue, Queued, pushed}
+use Rattle.adjacency.proofs.Frames.{only-none, only-set}
 use Rattle.graph.proofs.Reaches.{sum-less}
 use Rattle.topological_order.proofs.Frames.{outside-none, outside-set}
 use Rattle.topological_order.proofs.Places.{place-far, degree-far, place-put, degree-none}
@@ -137,3 +138,13 @@ module _ (n k u : ℕ) (w : List ℕ) (few : n ≤ 256) (long : fixed ≤ length
   pub push-outside : Outside w (pushed w k u)
   unfolding pushed
   push-outside = let r = room in outside-set (marksAt + u) (65536 * (256 - k)) (omega arith) (omega arith) (outside-set (queueAt + k) u (omega arith) (omega arith) (outside-none w))
+
+  pub push-grown : Grown k (k + 1) w (pushed w k u)
+  unfolding pushed
+  push-grown =
+      let r = room in
+      record {
+        only = only-set (marksAt + u) (65536 * (256 - k)) (omega arith) (omega arith) (only-set (queueAt + k) u (omega arith) (omega arith) (only-none marksAt openedAt w));
+        more = omega arith;
+        queue = queue-else;
+      }

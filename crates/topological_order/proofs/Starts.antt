@@ -1,4 +1,4 @@
--- The beginning of peeling: blank tables, the links counted at their sources, and the tasks without links in the queue.
+-- The beginning of peeling: blank marks, the links counted at their sources, and the tasks without links in the queue.
 use Prim.Native.Nat.{ℕ, _+_, _≤_, _<_}
 use mathlib.Core.Bool.{Bool, false, not, true≢false}
 use mathlib.Core.Path.{_≡_, refl, ap, sym, _∙_, subst}
@@ -7,45 +7,40 @@ use mathlib.Core.List.{List}
 use native.Mathlib.Omega.{arith}
 use native.Mathlib.Decide.{ℕ-discrete}
 use borrow.Author.Tests.{le-ltb}
-use lib.ListN.{length, getD, set, length-set}
-use lib.Seq.{getD-set-same, getD-set-other}
+use lib.ListN.{length, getD, set}
 use lib.Dec.{eqb}
-use Rattle.workspace.specs.Area.{fixed, levelsAt, marksAt}
+use Rattle.workspace.specs.Area.{fixed, marksAt}
 use Rattle.folds.specs.Folds.{both, sum}
 use Rattle.folds.proofs.Tests.{bit-le}
 use Rattle.folds.proofs.Loops.{sum-zero, sum-one}
-use Rattle.folds.proofs.Laws.{sum-le, sum-cong, sum-zeros, greatest-le}
+use Rattle.folds.proofs.Laws.{sum-le, sum-cong, sum-zeros}
 use Rattle.sheet.specs.Sheet.{Sheet, taskCount, linkCount, sourceOf, targetOf}
 use Rattle.sheet.specs.Tables.{sheetIn}
 use Rattle.topological_order.specs.Words.{Held, Outside, placeIn, degreeIn, Queued, inQueue, pushed, doneBy}
-use Rattle.topological_order.specs.Peeling.{dueBy, gaveBy, never, Peeled, Counted, Filled}
+use Rattle.topological_order.specs.Peeling.{dueBy, never, Peeled, Counted, Filled}
 use Rattle.graph.proofs.Reaches.{Declared}
-use Rattle.topological_order.proofs.Frames.{outside-none, outside-trans, outside-level, outside-set, outside-held, outside-own, outside-from}
+use Rattle.topological_order.proofs.Frames.{outside-none, outside-trans, outside-set, outside-held, outside-own, outside-from}
 use Rattle.topological_order.proofs.Places.{place-far, degree-far, place-none, degree-put, word-is}
 use Rattle.topological_order.proofs.Pushes.{off-queue, queued-room, push-else, push-outside}
-use Rattle.topological_order.proofs.Lights.{due-unlit, due-other, due-cong, gave-unlit, peel-same, peel-push}
+use Rattle.topological_order.proofs.Lights.{due-unlit, due-other, due-cong, peel-same, peel-push}
 
--- blank tables
+-- blank marks
 pub blank-none : (s : Sheet) (w : List ℕ) → Counted s 0 0 w
-blank-none s w = record { level = λ t h. absurd (omega arith); degree = λ t h. absurd (omega arith); place = λ t h. absurd (omega arith) }
+blank-none s w = record { degree = λ t h. absurd (omega arith); place = λ t h. absurd (omega arith) }
 
-pub blank-more : {s : Sheet} {w : List ℕ} (t : ℕ) → t < 256 → fixed ≤ length w → Counted s t 0 w → Counted s (t + 1) 0 (set (set w (levelsAt + t) 0) (marksAt + t) 0)
-blank-more {s} {w} t h long d = record { level = λ u k. level u k (ℕ-discrete u t); degree = λ u k. degree u k (ℕ-discrete u t) ∙ sym (sum-zero (dueBy s never u)); place = λ u k. place u k (ℕ-discrete u t) }
+pub blank-more : {s : Sheet} {w : List ℕ} (t : ℕ) → t < 256 → fixed ≤ length w → Counted s t 0 w → Counted s (t + 1) 0 (set w (marksAt + t) 0)
+blank-more {s} {w} t h long d = record { degree = λ u k. degree u k (ℕ-discrete u t) ∙ sym (sum-zero (dueBy s never u)); place = λ u k. place u k (ℕ-discrete u t) }
   where
-    level : (u : ℕ) → u < t + 1 → Dec (u ≡ t) → getD (set (set w (levelsAt + t) 0) (marksAt + t) 0) (levelsAt + u) 0 ≡ 0
-    level u k (yes e) = rw e (getD-set-other (set w (levelsAt + t) 0) (marksAt + t) (levelsAt + t) 0 0 (omega arith) ∙ getD-set-same w (levelsAt + t) 0 0 (omega arith))
-    level u k (no e) = getD-set-other (set w (levelsAt + t) 0) (marksAt + t) (levelsAt + u) 0 0 (omega arith) ∙ getD-set-other w (levelsAt + t) (levelsAt + u) 0 0 (λ x. e (omega arith)) ∙ d .level u (omega arith)
+    degree : (u : ℕ) → u < t + 1 → Dec (u ≡ t) → degreeIn (set w (marksAt + t) 0) u ≡ 0
+    degree u k (yes e) = rw e (degree-put w t (omega arith) 0 (omega arith))
+    degree u k (no e) = degree-far w (marksAt + t) 0 u (λ x. e (omega arith)) ∙ d .degree u (omega arith) ∙ sum-zero (dueBy s never u)
 
-    degree : (u : ℕ) → u < t + 1 → Dec (u ≡ t) → degreeIn (set (set w (levelsAt + t) 0) (marksAt + t) 0) u ≡ 0
-    degree u k (yes e) = rw e (degree-put (set w (levelsAt + t) 0) t (simp length-set (omega arith)) 0 (omega arith))
-    degree u k (no e) = degree-far (set w (levelsAt + t) 0) (marksAt + t) 0 u (λ x. e (omega arith)) ∙ degree-far w (levelsAt + t) 0 u (omega arith) ∙ d .degree u (omega arith) ∙ sum-zero (dueBy s never u)
+    place : (u : ℕ) → u < t + 1 → Dec (u ≡ t) → placeIn (set w (marksAt + t) 0) u ≡ 256
+    place u k (yes e) = rw e (place-none w t (omega arith) 0 (omega arith))
+    place u k (no e) = place-far w (marksAt + t) 0 u (λ x. e (omega arith)) ∙ d .place u (omega arith)
 
-    place : (u : ℕ) → u < t + 1 → Dec (u ≡ t) → placeIn (set (set w (levelsAt + t) 0) (marksAt + t) 0) u ≡ 256
-    place u k (yes e) = rw e (place-none (set w (levelsAt + t) 0) t (simp length-set (omega arith)) 0 (omega arith))
-    place u k (no e) = place-far (set w (levelsAt + t) 0) (marksAt + t) 0 u (λ x. e (omega arith)) ∙ place-far w (levelsAt + t) 0 u (omega arith) ∙ d .place u (omega arith)
-
-pub blank-outside : {w₀ w : List ℕ} (t : ℕ) → t < 256 → Outside w₀ w → Outside w₀ (set (set w (levelsAt + t) 0) (marksAt + t) 0)
-blank-outside t h b = outside-set (marksAt + t) 0 (omega arith) (omega arith) (outside-level t 0 h b)
+pub blank-outside : {w₀ w : List ℕ} (t : ℕ) → t < 256 → Outside w₀ w → Outside w₀ (set w (marksAt + t) 0)
+blank-outside t h b = outside-set (marksAt + t) 0 (omega arith) (omega arith) b
 
 pub counted-at : {s : Sheet} {n n′ l l′ : ℕ} {w : List ℕ} → Counted s n l w → n ≡ n′ → l ≡ l′ → Counted s n′ l′ w
 counted-at {s} {n} {n′} {l} {l′} {w} d e f = subst (λ (x : ℕ). Counted s n′ x w) f (subst (λ (x : ℕ). Counted s x l w) e d)
@@ -76,7 +71,6 @@ module _ (s : Sheet) (w : List ℕ) (l : ℕ) (declared : Declared s) (few : tas
       subst (λ (x : List ℕ). Outside w x × Counted s (taskCount s) (l + 1) x) (sym new) (
         outside-set (marksAt + sourceOf s l) e (omega arith) (omega arith) (outside-none w),
         record {
-          level = λ t k. getD-set-other w (marksAt + sourceOf s l) (levelsAt + t) e 0 (omega arith) ∙ p .level t k;
           degree = λ t k. at t k short e-is (ℕ-discrete t (sourceOf s l));
           place = λ t k. off t k short (ℕ-discrete t (sourceOf s l));
         },
@@ -118,12 +112,9 @@ filled-none s w declared p =
               early = omega arith;
               lit = λ l h q. absurd (true≢false (sym q ∙ done-none s w l));
               degree = λ t h. p .degree t h ∙ sum-cong (linkCount s) (dueBy s never t) (dueBy s (doneBy s 0 w) t) (λ l k. due-cong s never (doneBy s 0 w) t l (never-is l ∙ sym (done-none s w l)));
-              gathered = λ t h g. omega (arith, p .level t h, greatest-le (linkCount s) (gaveBy s (doneBy s 0 w) w t) 0 (λ l k. omega (arith, gave-unlit s (doneBy s 0 w) t l w (done-none s w l))));
               ready = λ t h g. absurd (omega (arith, p .place t h));
               waits = λ t h x g. absurd (x (omega arith) h);
               falls = λ l h g. absurd (omega (arith, p .place (sourceOf s l) (declared .source l h)));
-              solved = λ t h g. absurd (omega arith);
-              bounded = λ t h. omega (arith, p .level t h);
             };
       };
       rest = λ u a h. omega (arith, p .place u h);
@@ -142,7 +133,7 @@ module _ (s : Sheet) (w : List ℕ) (k t : ℕ) (declared : Declared s) (few : t
       let q = p .peeled .peel in (
         outside-none w,
         record {
-          peeled = record { peel = record { queued = q .queued; early = q .early; lit = q .lit; degree = q .degree; gathered = q .gathered; ready = q .ready; waits = λ u h x g. wait u h x g (ℕ-discrete u t); falls = q .falls; solved = q .solved; bounded = q .bounded } };
+          peeled = record { peel = record { queued = q .queued; early = q .early; lit = q .lit; degree = q .degree; ready = q .ready; waits = λ u h x g. wait u h x g (ℕ-discrete u t); falls = q .falls } };
           rest = λ u a h. p .rest u (omega arith) h;
         },
       )
@@ -169,7 +160,7 @@ module _ (s : Sheet) (w : List ℕ) (k t : ℕ) (declared : Declared s) (few : t
 pub filled-done : {s : Sheet} {k t : ℕ} {w : List ℕ} → Filled s k t w → taskCount s ≤ t → Peeled s 0 k 0 0 w
 filled-done p h =
     let q = p .peeled .peel in
-    record { peel = record { queued = q .queued; early = q .early; lit = q .lit; degree = q .degree; gathered = q .gathered; ready = q .ready; waits = λ u a x g. q .waits u a (λ b c. absurd (omega arith)) g; falls = q .falls; solved = q .solved; bounded = q .bounded } }
+    record { peel = record { queued = q .queued; early = q .early; lit = q .lit; degree = q .degree; ready = q .ready; waits = λ u a x g. q .waits u a (λ b c. absurd (omega arith)) g; falls = q .falls } }
 
 -- the same, for the sheet that stands in a work area
 pub count-asks : {w₀ w : List ℕ} {l : ℕ} → Held w₀ → Outside w₀ w → l < linkCount (sheetIn w₀) → Counted (sheetIn w₀) (taskCount (sheetIn w₀)) l w → Held w × ((l < linkCount (sheetIn w)) × Counted (sheetIn w) (taskCount (sheetIn w)) l w)

@@ -1,5 +1,5 @@
 -- Walking the links into a task that is taken off: which links are counted off before, at and behind each of them.
-use Prim.Native.Nat.{ℕ, _+_, _*_, _-_, _≤_, _<_, max}
+use Prim.Native.Nat.{ℕ, _+_, _-_, _≤_, _<_}
 use mathlib.Core.Bool.{true, false}
 use mathlib.Core.Path.{_≡_, refl, ap, ap₂, sym, _∙_, subst}
 use mathlib.Core.Logic.{_≢_}
@@ -8,20 +8,22 @@ use native.Mathlib.Omega.{arith}
 use native.Mathlib.Decide.{decLt, ℕ-discrete}
 use borrow.Author.Tests.{eq-eqb, ne-eqb, lt-ltb, le-ltb}
 use lib.ListN.{length, getD, set, length-set}
+use lib.Seq.{getD-set-other}
 use lib.Dec.{eqb, ltb}
-use Rattle.workspace.specs.Area.{fixed, levelsAt, marksAt, queueAt}
+use Rattle.workspace.specs.Area.{fixed, levelsAt, marksAt, openedAt, queueAt}
 use Rattle.folds.specs.Folds.{both, either}
 use Rattle.folds.proofs.Tests.{both-false, either-true, either-false}
-use Rattle.sheet.specs.Sheet.{Sheet, taskCount, linkCount, workOf, sourceOf, targetOf, costOf}
+use Rattle.sheet.specs.Sheet.{Sheet, taskCount, linkCount, sourceOf, targetOf}
 use Rattle.adjacency.specs.Chains.{headOf, nextOf, Chained}
 use Rattle.adjacency.specs.declared.End.the-variants.{Target}
-use Rattle.topological_order.specs.Words.{Outside, placeIn, degreeIn, pushed, doneBy, doneUpTo}
+use Rattle.topological_order.specs.Words.{Grown, placeIn, degreeIn, taskAt, pushed, doneBy, doneUpTo}
 use Rattle.topological_order.specs.Peeling.{Peeled, Walking}
+use Rattle.adjacency.proofs.Frames.{only-none, only-set}
 use Rattle.graph.proofs.Reaches.{Declared}
-use Rattle.topological_order.proofs.Frames.{outside-none, outside-trans, outside-level, outside-set}
+use Rattle.topological_order.proofs.Frames.{grown-trans}
 use Rattle.topological_order.proofs.Places.{word-is}
-use Rattle.topological_order.proofs.Pushes.{queued-few, queued-room, push-here, push-else, push-low, push-outside}
-use Rattle.topological_order.proofs.Lights.{peel-same, light-some, light-free, light-degree, light-place, light-level, peel-light, peel-push, pop-place, pop-own, pop-same, peel-pop}
+use Rattle.topological_order.proofs.Pushes.{queued-few, queued-room, push-here, push-else, push-grown}
+use Rattle.topological_order.proofs.Lights.{peel-same, light-some, light-free, light-degree, light-place, peel-light, peel-push, pop-same, peel-pop}
 
 module _ (s : Sheet) (i v l : ℕ) where
   -- none of the links into v
@@ -77,7 +79,7 @@ pub up-else : (s : Sheet) (i v l j : ℕ) (w : List ℕ) → j ≢ l → doneUpT
 up-else s i v l j w d = sym (up-hop s i v j w l (l + 1) (omega arith) (λ a b. absurd (d (omega arith))))
 
 module _ (s : Sheet) (w : List ℕ) (declared : Declared s) (few : taskCount s ≤ 256) (long : fixed ≤ length w) where
-  module _ (i k l v : ℕ) (p : Walking s i k l v 0 0 w) (l-in : l < linkCount s) (to : targetOf s l ≡ v) (cheap : costOf s l ≤ 65535) where
+  module _ (i k l v : ℕ) (p : Walking s i k l v 0 0 w) (l-in : l < linkCount s) (to : targetOf s l ≡ v) where
     place-to : placeIn w (targetOf s l) ≡ i
     place-to = ap (placeIn w) to ∙ p .here
 
@@ -87,61 +89,58 @@ module _ (s : Sheet) (w : List ℕ) (declared : Declared s) (few : taskCount s �
     on : doneUpTo s i (l + 1) v w l ≡ true
     on = up-on s i v l w to
 
-    small : costOf s l + getD w (levelsAt + targetOf s l) 0 ≤ 131070 * (i + 1)
-    small = let e : getD w (levelsAt + targetOf s l) 0 ≡ getD w (levelsAt + v) 0 = ap (λ (z : ℕ). getD w (levelsAt + z) 0) to in omega (arith, p .own)
-
     few-i : i + 1 ≤ 256
     few-i = omega (arith, p .peel .early, queued-few (p .peel .queued))
 
-    module _ (y d : ℕ) (y-is : y ≡ max (getD w (levelsAt + sourceOf s l) 0) (costOf s l + getD w (levelsAt + targetOf s l) 0)) (d-is : d ≡ degreeIn w (sourceOf s l) - 1) where
+    module _ (d : ℕ) (d-is : d ≡ degreeIn w (sourceOf s l) - 1) where
       abbrev u : ℕ
       u = sourceOf s l
 
       abbrev lw : List ℕ
-      lw = set (set w (levelsAt + sourceOf s l) y) (marksAt + sourceOf s l) d
+      lw = set w (marksAt + sourceOf s l) d
 
       same-place : (t : ℕ) → placeIn lw t ≡ placeIn w t
-      same-place = light-place s w declared few long (doneUpTo s i l v w) (doneUpTo s i (l + 1) v w) (i + 1) k l y d (p .peel) l-in off on (λ j h q. up-else s i v l j w q) (omega (arith, place-to)) small y-is d-is
+      same-place = light-place s w declared few long (doneUpTo s i l v w) (doneUpTo s i (l + 1) v w) (i + 1) k l d (p .peel) l-in off on (λ j h q. up-else s i v l j w q) (omega (arith, place-to)) d-is
 
       some-degree : 1 ≤ degreeIn w (sourceOf s l)
-      some-degree = light-some s w declared few long (doneUpTo s i l v w) (doneUpTo s i (l + 1) v w) (i + 1) k l y d (p .peel) l-in off on (λ j h q. up-else s i v l j w q) (omega (arith, place-to)) small y-is d-is
+      some-degree = light-some s w declared few long (doneUpTo s i l v w) (doneUpTo s i (l + 1) v w) (i + 1) k l d (p .peel) l-in off on (λ j h q. up-else s i v l j w q) (omega (arith, place-to)) d-is
 
       free : 256 ≤ placeIn w (sourceOf s l)
-      free = light-free s w declared few long (doneUpTo s i l v w) (doneUpTo s i (l + 1) v w) (i + 1) k l y d (p .peel) l-in off on (λ j h q. up-else s i v l j w q) (omega (arith, place-to)) small y-is d-is
-
-      level-v : getD lw (levelsAt + v) 0 ≡ getD w (levelsAt + v) 0
-      level-v =
-          let f = few-i in
-          light-level s w declared few long (doneUpTo s i l v w) (doneUpTo s i (l + 1) v w) (i + 1) k l y d (p .peel) l-in off on (λ j h q. up-else s i v l j w q) (omega (arith, place-to)) small y-is d-is v (p .task) (omega (arith, p .here))
+      free = light-free s w declared few long (doneUpTo s i l v w) (doneUpTo s i (l + 1) v w) (i + 1) k l d (p .peel) l-in off on (λ j h q. up-else s i v l j w q) (omega (arith, place-to)) d-is
 
       lighted : Walking s i k (l + 1) v u (u + 1) lw
       lighted =
           record {
             peel = peel-same (doneUpTo s i (l + 1) v w) (doneUpTo s i (l + 1) v lw) (λ j h. up-same s i v j w lw (l + 1) (same-place (targetOf s j)))
-                (peel-light s w declared few long (doneUpTo s i l v w) (doneUpTo s i (l + 1) v w) (i + 1) k l y d (p .peel) l-in off on (λ j h q. up-else s i v l j w q) (omega (arith, place-to)) small y-is d-is);
+                (peel-light s w declared few long (doneUpTo s i l v w) (doneUpTo s i (l + 1) v w) (i + 1) k l d (p .peel) l-in off on (λ j h q. up-else s i v l j w q) (omega (arith, place-to)) d-is);
             task = p .task;
             here = same-place v ∙ p .here;
-            own = rw level-v (p .own);
           }
 
-      outside-lit : Outside w lw
-      outside-lit = let h = declared .source l l-in in outside-set (marksAt + u) d (omega arith) (omega arith) (outside-level u y (omega arith) (outside-none w))
+      grown-lit : Grown k k w lw
+      grown-lit =
+          let h = declared .source l l-in in
+          record {
+            only = only-set (marksAt + u) d (omega arith) (omega arith) (only-none marksAt openedAt w);
+            more = omega arith;
+            queue = λ j g. getD-set-other w (marksAt + u) (queueAt + j) d 0 (omega arith);
+          }
 
       degree-lit : degreeIn lw u ≡ d
-      degree-lit = light-degree s w declared few long (doneUpTo s i l v w) (doneUpTo s i (l + 1) v w) (i + 1) k l y d (p .peel) l-in off on (λ j h q. up-else s i v l j w q) (omega (arith, place-to)) small y-is d-is
+      degree-lit = light-degree s w declared few long (doneUpTo s i l v w) (doneUpTo s i (l + 1) v w) (i + 1) k l d (p .peel) l-in off on (λ j h q. up-else s i v l j w q) (omega (arith, place-to)) d-is
 
       -- the source still waits
       stays : d ≢ 0 → Walking s i k (l + 1) v 0 0 lw
       stays h =
           let q = lighted in
-          record { peel = record { queued = q .peel .queued; early = q .peel .early; lit = q .peel .lit; degree = q .peel .degree; gathered = q .peel .gathered; ready = q .peel .ready; waits = λ t a b c. wait q t a c (ℕ-discrete t u); falls = q .peel .falls; solved = q .peel .solved; bounded = q .peel .bounded }; task = q .task; here = q .here; own = q .own }
+          record { peel = record { queued = q .peel .queued; early = q .peel .early; lit = q .peel .lit; degree = q .peel .degree; ready = q .peel .ready; waits = λ t a b c. wait q t a c (ℕ-discrete t u); falls = q .peel .falls }; task = q .task; here = q .here }
         where
           wait : Walking s i k (l + 1) v u (u + 1) lw → (t : ℕ) → t < taskCount s → degreeIn lw t ≡ 0 → Dec (t ≡ u) → placeIn lw t < 256
           wait q t a c (yes e) = absurd (h (sym degree-lit ∙ ap (degreeIn lw) (sym e) ∙ c))
           wait q t a c (no e) = q .peel .waits t a (λ x y. e (omega arith)) c
 
       -- the source is ready
-      goes : d ≡ 0 → Outside lw (pushed lw k u) × Walking s i (k + 1) (l + 1) v 0 0 (pushed lw k u)
+      goes : d ≡ 0 → Grown k (k + 1) lw (pushed lw k u) × Walking s i (k + 1) (l + 1) v 0 0 (pushed lw k u)
       goes h =
           let q = lighted in
           let lw-long : fixed ≤ length lw = simp length-set long in
@@ -150,13 +149,12 @@ module _ (s : Sheet) (w : List ℕ) (declared : Declared s) (few : taskCount s �
           let f = few-i in
           let there : placeIn (pushed lw k u) u ≡ k = push-here (taskCount s) k u lw few lw-long u-in u-free (q .peel .queued) in
           let else : (t : ℕ) → t < taskCount s → t ≢ u → placeIn (pushed lw k u) t ≡ placeIn lw t = push-else (taskCount s) k u lw few lw-long u-in u-free (q .peel .queued) in (
-            push-outside (taskCount s) k u lw few lw-long u-in u-free (q .peel .queued),
+            push-grown (taskCount s) k u lw few lw-long u-in u-free (q .peel .queued),
             record {
               peel = peel-same (doneUpTo s i (l + 1) v lw) (doneUpTo s i (l + 1) v (pushed lw k u)) (λ j a. same j a (ℕ-discrete (targetOf s j) u) there else u-free (q .peel .early))
                   (peel-push s lw declared few lw-long (doneUpTo s i (l + 1) v lw) (i + 1) k u (u + 1) 0 0 u (q .peel) u-in u-free (degree-lit ∙ h) (λ t a b c d. a (omega arith)));
               task = q .task;
               here = else v (q .task) (λ e. let x : placeIn lw v ≡ placeIn lw u = ap (placeIn lw) e in absurd (omega (arith, q .here))) ∙ q .here;
-              own = rw (push-low (taskCount s) k u lw few lw-long u-in u-free (q .peel .queued) (levelsAt + v) (let g = q .task in omega arith)) (q .own);
             },
           )
         where
@@ -169,49 +167,38 @@ module _ (s : Sheet) (w : List ℕ) (declared : Declared s) (few : taskCount s �
 
     -- what a turn of the walk computes, from what its calls say
     source-free : 256 ≤ placeIn w (sourceOf s l)
-    source-free = free (max (getD w (levelsAt + sourceOf s l) 0) (costOf s l + getD w (levelsAt + targetOf s l) 0)) (degreeIn w (sourceOf s l) - 1) refl refl
+    source-free = free (degreeIn w (sourceOf s l) - 1) refl
 
     visit-word : {u d : ℕ} → u ≡ sourceOf s l → d ≡ getD w (marksAt + u) 0 → d ≡ degreeIn w (sourceOf s l)
     visit-word eu ed = ed ∙ ap (λ (z : ℕ). getD w (marksAt + z) 0) eu ∙ word-is w (sourceOf s l) source-free
 
     pub visit-degree : {u d : ℕ} → u ≡ sourceOf s l → d ≡ getD w (marksAt + u) 0 → 1 ≤ d
-    visit-degree {u} {d} eu ed =
-        omega (arith, visit-word eu ed, some-degree (max (getD w (levelsAt + sourceOf s l) 0) (costOf s l + getD w (levelsAt + targetOf s l) 0)) (degreeIn w (sourceOf s l) - 1) refl refl)
+    visit-degree {u} {d} eu ed = omega (arith, visit-word eu ed, some-degree (degreeIn w (sourceOf s l) - 1) refl)
 
     pub visit-room : k < 256
-    visit-room =
-        omega (arith, queued-room (sourceOf s l) (p .peel .queued) (declared .source l l-in) source-free)
+    visit-room = omega (arith, queued-room (sourceOf s l) (p .peel .queued) (declared .source l l-in) source-free)
 
-    most : {u c x y z : ℕ} → u ≡ sourceOf s l → c ≡ costOf s l → x ≡ getD w (levelsAt + v) 0 → y ≡ getD w (levelsAt + u) 0 → z ≡ max y (c + x) → z ≡ max (getD w (levelsAt + sourceOf s l) 0) (costOf s l + getD w (levelsAt + targetOf s l) 0)
-    most eu ec ex ey ez = ez ∙ ap₂ max (ey ∙ ap (λ (i : ℕ). getD w (levelsAt + i) 0) eu) (ap₂ _+_ ec (ex ∙ ap (λ (i : ℕ). getD w (levelsAt + i) 0) (sym to)))
-
-    pub visit-fits : {u c x y z : ℕ} → u ≡ sourceOf s l → c ≡ costOf s l → x ≡ getD w (levelsAt + v) 0 → y ≡ getD w (levelsAt + u) 0 → z ≡ max y (c + x) → z < 4294967296
-    visit-fits eu ec ex ey ez = omega (arith, most eu ec ex ey ez, small, few-i, p .peel .bounded (sourceOf s l) (declared .source l l-in))
-
-    module _ {u c x y d z z′ e : ℕ} (eu : u ≡ sourceOf s l) (ec : c ≡ costOf s l) (ex : x ≡ getD w (levelsAt + v) 0) (ey : y ≡ getD w (levelsAt + u) 0) (ed : d ≡ getD w (marksAt + u) 0) (ez : z ≡ max y (c + x)) (ez′ : z′ ≡ z) (ee : e ≡ d - 1) where
-      z-is : z′ ≡ max (getD w (levelsAt + sourceOf s l) 0) (costOf s l + getD w (levelsAt + targetOf s l) 0)
-      z-is = ez′ ∙ most eu ec ex ey ez
-
+    module _ {u d e : ℕ} (eu : u ≡ sourceOf s l) (ed : d ≡ getD w (marksAt + u) 0) (ee : e ≡ d - 1) where
       e-is : e ≡ degreeIn w (sourceOf s l) - 1
       e-is = ee ∙ ap (λ (i : ℕ). i - 1) (visit-word eu ed)
 
-      words : (w′ : List ℕ) → w′ ≡ set (set w (levelsAt + u) z′) (marksAt + u) e → w′ ≡ set (set w (levelsAt + sourceOf s l) z′) (marksAt + sourceOf s l) e
-      words w′ h = h ∙ ap (λ (i : ℕ). set (set w (levelsAt + i) z′) (marksAt + i) e) eu
+      words : (w′ : List ℕ) → w′ ≡ set w (marksAt + u) e → w′ ≡ set w (marksAt + sourceOf s l) e
+      words w′ h = h ∙ ap (λ (i : ℕ). set w (marksAt + i) e) eu
 
-      pub visit-stays : (w′ : List ℕ) → w′ ≡ set (set w (levelsAt + u) z′) (marksAt + u) e → (d ≡ 1 → ⊥) → Outside w w′ × Walking s i k (l + 1) v 0 0 w′
+      pub visit-stays : (w′ : List ℕ) → w′ ≡ set w (marksAt + u) e → (d ≡ 1 → ⊥) → Grown k k w w′ × Walking s i k (l + 1) v 0 0 w′
       visit-stays w′ h n =
           let f = visit-degree eu ed in
-          subst (λ (x : List ℕ). Outside w x × Walking s i k (l + 1) v 0 0 x) (sym (words w′ h)) (outside-lit z′ e z-is e-is, stays z′ e z-is e-is (λ q. n (omega arith)))
+          subst (λ (x : List ℕ). Grown k k w x × Walking s i k (l + 1) v 0 0 x) (sym (words w′ h)) (grown-lit e e-is, stays e e-is (λ q. n (omega arith)))
 
-      pub visit-goes : (w′ w″ : List ℕ) → w′ ≡ set (set w (levelsAt + u) z′) (marksAt + u) e → w″ ≡ pushed w′ k u → d ≡ 1 → Outside w w″ × Walking s i (k + 1) (l + 1) v 0 0 w″
+      pub visit-goes : (w′ w″ : List ℕ) → w′ ≡ set w (marksAt + u) e → w″ ≡ pushed w′ k u → d ≡ 1 → Grown k (k + 1) w w″ × Walking s i (k + 1) (l + 1) v 0 0 w″
       visit-goes w′ w″ h g n =
-          let q = goes z′ e z-is e-is (omega arith) in
-          subst (λ (x : List ℕ). Outside w x × Walking s i (k + 1) (l + 1) v 0 0 x) (sym (g ∙ ap₂ (λ (x : List ℕ) (i : ℕ). pushed x k i) (words w′ h) eu)) (outside-trans (outside-lit z′ e z-is e-is) (q .0), q .1)
+          let q = goes e e-is (omega arith) in
+          subst (λ (x : List ℕ). Grown k (k + 1) w x × Walking s i (k + 1) (l + 1) v 0 0 x) (sym (g ∙ ap₂ (λ (x : List ℕ) (i : ℕ). pushed x k i) (words w′ h) eu)) (grown-trans (grown-lit e e-is) (q .0), q .1)
 
   -- from one link into v to the next
   walking-hop : (i k j j′ v : ℕ) → Walking s i k j v 0 0 w → j ≤ j′ → ((l : ℕ) → l < linkCount s → j ≤ l → l < j′ → targetOf s l ≢ v) → Walking s i k j′ v 0 0 w
   walking-hop i k j j′ v p h none =
-      record { peel = peel-same (doneUpTo s i j v w) (doneUpTo s i j′ v w) (λ l g. up-hop s i v l w j j′ h (none l g)) (p .peel); task = p .task; here = p .here; own = p .own }
+      record { peel = peel-same (doneUpTo s i j v w) (doneUpTo s i j′ v w) (λ l g. up-hop s i v l w j j′ h (none l g)) (p .peel); task = p .task; here = p .here }
 
   pub walk-begins : (i k v h : ℕ) → Chained Target s w → Walking s i k 0 v 0 0 w → h ≡ headOf Target w v → (h ≤ linkCount s) × (h < linkCount s → targetOf s h ≡ v) × Walking s i k h v 0 0 w
   walk-begins i k v h d p e = (
@@ -241,27 +228,22 @@ module _ (s : Sheet) (w : List ℕ) (declared : Declared s) (few : taskCount s �
           let here = p .here in
           sym (p .peel .queued .back t g (omega arith)) ∙ ap (λ (z : ℕ). getD w (queueAt + z) 0) (q ∙ sym here) ∙ p .peel .queued .back v (p .task) (omega arith)
 
-  -- the next task of the queue is taken off
-  module _ (i k : ℕ) (p : Peeled s i k 0 0 w) (left : i < k) {v : ℕ} (v-is : v ≡ getD w (queueAt + i) 0) where
+  -- the next task of the queue is taken off: the walk over the links into it begins
+  module _ (i k v y : ℕ) (p : Peeled s i k 0 0 w) (left : i < k) (v-is : v ≡ taskAt w i) where
     pub take-in : v < taskCount s
     take-in = rw v-is (p .peel .queued .task i left)
 
-    pub take-fits : {b : ℕ} → b ≡ getD w (levelsAt + v) 0 → b ≤ 131070 * 256
-    take-fits e = omega (arith, p .peel .bounded v take-in, queued-few (p .peel .queued))
+    pub take-place : placeIn w v ≡ i
+    take-place = ap (placeIn w) v-is ∙ p .peel .queued .place i left
 
-    pub taken : {a b z : ℕ} (w′ : List ℕ) → a ≡ workOf s v → b ≡ getD w (levelsAt + v) 0 → z ≡ a + b → a ≤ 65535 → w′ ≡ set w (levelsAt + v) z → Outside w w′ × Walking s (placeIn w′ v) k 0 v 0 0 w′ × (placeIn w′ v ≡ i)
-    taken {a} {b} {z} w′ ea eb ez short e =
-        let z-is : z ≡ workOf s v + getD w (levelsAt + v) 0 = ez ∙ ap₂ _+_ ea eb in
-        let short′ : workOf s v ≤ 65535 = omega arith in
-        let new : List ℕ = set w (levelsAt + v) z in
-        let here : placeIn new v ≡ i = pop-same s w declared few long (doneBy s i w) i k v z (p .peel) left v-is z-is short′ v ∙ pop-place s w declared few long (doneBy s i w) i k v z (p .peel) left v-is z-is short′ in
-        let walking : Walking s i k 0 v 0 0 new =
+    pub taken : Walking s i k 0 v 0 0 (set w (levelsAt + v) y)
+    taken =
         record {
-          peel = peel-same (doneBy s i w) (doneUpTo s i 0 v new) (λ l h. up-none s i v l w ∙ up-same s i v l w new 0 (pop-same s w declared few long (doneBy s i w) i k v z (p .peel) left v-is z-is short′ (targetOf s l)))
-              (peel-pop s w declared few long (doneBy s i w) i k v z (p .peel) left v-is z-is short′);
+          peel = peel-same (doneBy s i w) (doneUpTo s i 0 v (set w (levelsAt + v) y)) (λ l h. up-none s i v l w ∙ up-same s i v l w (set w (levelsAt + v) y) 0 (same (targetOf s l)))
+              (peel-pop s w declared few long (doneBy s i w) i k v y (p .peel) left take-in);
           task = take-in;
-          here = here;
-          own = pop-own s w declared few long (doneBy s i w) i k v z (p .peel) left v-is z-is short′;
-        } in
-        subst (λ (x : List ℕ). Outside w x × Walking s (placeIn x v) k 0 v 0 0 x × (placeIn x v ≡ i)) (sym e)
-        (outside-level v z (let h = take-in in omega arith) (outside-none w), subst (λ (j : ℕ). Walking s j k 0 v 0 0 new) (sym here) walking, here)
+          here = same v ∙ take-place;
+        }
+      where
+        same : (t : ℕ) → placeIn (set w (levelsAt + v) y) t ≡ placeIn w t
+        same = pop-same s w declared few long (doneBy s i w) i k v y (p .peel) left take-in

@@ -1,4 +1,4 @@
--- Taking tasks off from the ends: what holds of the queue, the links still to be counted off, and the levels, after every step.
+-- Kahn's algorithm from the tasks without successors: what holds of the queue, the links still to be counted off, and the levels, after every step.
 use Prim.Native.Nat.{ℕ, _+_, _*_, _≤_, _<_}
 use mathlib.Core.Bool.{Bool, true, false, not}
 use mathlib.Core.Path.{_≡_}
@@ -6,19 +6,16 @@ use mathlib.Core.List.{List}
 use lib.ListN.{getD}
 use lib.Dec.{eqb}
 use Rattle.workspace.specs.Area.{levelsAt}
-use Rattle.folds.specs.Folds.{pick, bit, both, sum, greatest}
-use Rattle.sheet.specs.Sheet.{Sheet, taskCount, linkCount, workOf, sourceOf, targetOf, costOf}
+use Rattle.folds.specs.Folds.{bit, both, sum, greatest}
+use Rattle.sheet.specs.Sheet.{Sheet, taskCount, linkCount, workOf, sourceOf, targetOf}
 use Rattle.graph.specs.Graph.{levelBy, reaches}
-use Rattle.topological_order.specs.Words.{placeIn, degreeIn, Queued, doneBy, doneUpTo}
+use Rattle.topological_order.specs.Words.{placeIn, degreeIn, taskAt, Queued, doneBy, doneUpTo}
 
 -- c says which links are counted off: a link out of t that is not
 unfoldable pub dueBy : Sheet → (ℕ → Bool) → ℕ → ℕ → ℕ
 dueBy s c t l = bit (both (eqb (sourceOf s l) t) (not (c l)))
 
--- .. and what a link out of t that is counted off gives it
-unfoldable pub gaveBy : Sheet → (ℕ → Bool) → List ℕ → ℕ → ℕ → ℕ
-gaveBy s c w t l = pick (both (eqb (sourceOf s l) t) (c l)) (costOf s l + getD w (levelsAt + targetOf s l) 0) 0
-
+-- the level that stands for t
 unfoldable pub levelIn : List ℕ → ℕ → ℕ
 levelIn w t = getD w (levelsAt + t) 0
 
@@ -28,12 +25,9 @@ pub record Peel (s : Sheet) (c : ℕ → Bool) (i k e f : ℕ) (w : List ℕ) : 
   pub early : i ≤ k
   pub lit : (l : ℕ) → l < linkCount s → c l ≡ true → placeIn w (targetOf s l) < i
   pub degree : (t : ℕ) → t < taskCount s → degreeIn w t ≡ sum (linkCount s) (dueBy s c t)
-  pub gathered : (t : ℕ) → t < taskCount s → i ≤ placeIn w t → getD w (levelsAt + t) 0 ≡ greatest (linkCount s) (gaveBy s c w t)
   pub ready : (t : ℕ) → t < taskCount s → placeIn w t < 256 → degreeIn w t ≡ 0
   pub waits : (t : ℕ) → t < taskCount s → (e ≤ t → t < f → ⊥) → degreeIn w t ≡ 0 → placeIn w t < 256
   pub falls : (l : ℕ) → l < linkCount s → placeIn w (sourceOf s l) < 256 → placeIn w (targetOf s l) < placeIn w (sourceOf s l)
-  pub solved : (t : ℕ) → t < taskCount s → placeIn w t < i → getD w (levelsAt + t) 0 ≡ workOf s t + greatest (linkCount s) (levelBy s (levelIn w) t)
-  pub bounded : (t : ℕ) → t < taskCount s → getD w (levelsAt + t) 0 ≤ 131070 * i
 
 -- between two tasks
 pub record Peeled (s : Sheet) (i k e f : ℕ) (w : List ℕ) : Type 0 where
@@ -44,15 +38,22 @@ pub record Walking (s : Sheet) (i k j v e f : ℕ) (w : List ℕ) : Type 0 where
   pub peel : Peel s (doneUpTo s i j v w) (i + 1) k e f w
   pub task : v < taskCount s
   pub here : placeIn w v ≡ i
-  pub own : getD w (levelsAt + v) 0 ≤ 131070 * i + 65535
+
+-- the first i tasks of the queue have their levels
+pub record FirstLevels (s : Sheet) (i : ℕ) (w : List ℕ) : Type 0 where
+  pub level : (j : ℕ) → j < i → levelIn w (taskAt w j) ≡ workOf s (taskAt w j) + greatest (linkCount s) (levelBy s (levelIn w) (taskAt w j))
+  pub bounded : (j : ℕ) → j < i → levelIn w (taskAt w j) ≤ 131070 * i
+
+-- the levels of v's successors are below what one more may add up to
+pub record Moderate (s : Sheet) (v : ℕ) (w : List ℕ) : Type 0 where
+  pub low : (l : ℕ) → l < linkCount s → sourceOf s l ≡ v → levelIn w (targetOf s l) ≤ 131070 * 256
 
 -- no link is counted off
 unfoldable pub never : ℕ → Bool
 never l = false
 
--- before it: the tables of the tasks below n are blank, and the links below l are counted at their sources
+-- before it: the marks of the tasks below n are blank, and the links below l are counted at their sources
 pub record Counted (s : Sheet) (n l : ℕ) (w : List ℕ) : Type 0 where
-  pub level : (t : ℕ) → t < n → getD w (levelsAt + t) 0 ≡ 0
   pub degree : (t : ℕ) → t < n → degreeIn w t ≡ sum l (dueBy s never t)
   pub place : (t : ℕ) → t < n → placeIn w t ≡ 256
 

@@ -25,6 +25,16 @@ pub record Outside (w w′ : List ℕ) : Type 0 where
   pub kept : Only levelsAt openedAt w w′
   pub chains : (i : ℕ) → headsAt ≤ i → i < marksAt → getD w′ i 0 ≡ getD w i 0
 
+-- the queue's task at place j
+abbrev pub taskAt : List ℕ → ℕ → ℕ
+taskAt w j = getD w (queueAt + j) 0
+
+-- nothing but the marks and the queue was written, and of the queue of k tasks, which now has r, those stay
+pub record Grown (k r : ℕ) (w w′ : List ℕ) : Type 0 where
+  pub only : Only marksAt openedAt w w′
+  pub more : k ≤ r
+  pub queue : (j : ℕ) → j < k → taskAt w′ j ≡ taskAt w j
+
 -- how many links out of t are still to be counted off, and the place of t in the queue (256 where it is not in it)
 unfoldable pub degreeIn : List ℕ → ℕ → ℕ
 degreeIn w t = getD w (marksAt + t) 0 % 65536

@@ -1,3 +1,4 @@
-// Tasks of a sheet in the work area taken off from the ends, each with its level.
-pub mod peel; // peel.rt: taking off, and the levels
+// The tasks of a sheet in the work area in topological order, those without successors first, each with its level.
+mod level; // level.rt: the level of one task
+pub mod peel; // peel.rt: the order, and the levels in it
 pub mod queue; // queue.rt: a queue of tasks

@@ -5,7 +5,6 @@ use Prim.Native.Nat.{_-_, _≤_}
 use native.Mathlib.Omega.{arith}
 use Rattle.topological_order.proofs.Frames.{outside-none}
 use Rattle.topological_order.proofs.Starts.{blank-outside, blank-more, blank-none, counted-at}
-use lib.ListN.{length-set}
 use borrow.Author.Needs.{needs}
 use mathlib.Core.Path.{refl}
 use Rattle.sheet.specs.Tables.{sheetIn}
@@ -23,9 +22,6 @@ loop-holds c = (omega arith, outside-none _, blank-none _ _)
 
 slice-write-w : tie.Need-slice-write-w Inv-loop μ-loop
 slice-write-w c = omega (arith, c .before .loop .inv .1 .kept .long)
-
-slice-write-w-2 : tie.Need-slice-write-w-2 Inv-loop μ-loop
-slice-write-w-2 c = simp length-set (omega (arith, c .before .loop .inv .1 .kept .long))
 
 loop-less : tie.Need-loop-less Inv-loop μ-loop
 loop-less c = omega (arith, c .loop-test .taken)
@@ -50,9 +46,6 @@ blank-spec =
     (λ c. search needs)
     (λ c. search needs)
     slice-write-w
-    (λ c. search needs)
-    (λ c. search needs)
-    slice-write-w-2
     (λ c. search needs)
     loop-less
     loop-again
