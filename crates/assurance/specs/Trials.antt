@@ -24,7 +24,8 @@ use Rattle.machine.specs.Runs.{clockOf, latest, settle, settled}
 use Rattle.checker.specs.Checker.{unfinished, at29, at30, closing, checked, check}
 use Rattle.planner.specs.Schedule.{Schedule, empty, placeOf, startOf, finishOf, placed, stands}
 use Rattle.planner.specs.Placing.{comes, lacks, satisfied, ready, partlyReady, arrivalBy, arrival, priority, ahead, firstReady, firstPartlyReady, endBy, endOf, startBy, startFrom, startOn, storeBy, bytesBy, storeOn, fits, holdsBy, holdsPredecessor, startWith, bestStart, endsWith, delays, barred, followsBy, follows, spentBy, spent}
-use Rattle.planner.specs.Planner.{mayJoin, join, mayTake, idle, another, lastResort, choice, turn, turns, plannedBy, planned, brings, takesAway, receiveOf, sendOf, blockOf, blocks, programme, claimOf, bundleOf, plan}
+use Rattle.planner.specs.Planner.{mayJoin, join, mayTake, idle, opens, mayShare, share, another, lastResort, choice, turn, turns, plannedBy, planned, brings, takesAway, receiveOf, sendOf, blockOf, blocks, programme, claimOf, bundleOf, plan}
+use Rattle.planner.specs.Amended.{plannedBefore}
 use Rattle.listing.specs.Listing.{decimalWithin, decimal, planLine, taskLine, refusalLine, scheduleLines, listing}
 
 abbrev task : ℕ → ℕ → Task
@@ -164,7 +165,7 @@ pub record Trials : Type 0 where
   pub claim-first : check (sheetBytes k1) (bundleBare 0) ≡ refused 23 0
 
 pub trials : Trials
-unfolding all any sum greatest first leading least listed gather numberAt judge readFrom readAll taskCount linkCount workOf storeOf sourceOf targetOf costOf bytesOf joinsBy joins readForm sheetBytes reachesBy reaches onCircle circle levelBy levelWithin level readSheet programmeCount programmeOf readBundle bundleBytes weigh wholeOf whole is notOnce holds home before inside sendFault receiveFault orderFault messageFault overStore at26 atMessage at28 firstWith processorOf stampOf next stated stepIn step canStep clockOf latest settle settled unfinished at29 at30 closing checked check placeOf startOf finishOf placed stands comes lacks satisfied ready partlyReady arrivalBy arrival priority ahead firstReady firstPartlyReady endBy endOf startBy startFrom startOn storeBy bytesBy storeOn fits holdsBy holdsPredecessor startWith bestStart endsWith delays barred followsBy follows spentBy spent mayJoin join mayTake idle another lastResort choice turn turns plannedBy planned brings takesAway receiveOf sendOf blockOf blocks programme claimOf bundleOf plan decimalWithin decimal planLine taskLine refusalLine scheduleLines listing sheets.fault sheets.ended bundles.fault bundles.ended
+unfolding all any sum greatest first leading least listed gather numberAt judge readFrom readAll taskCount linkCount workOf storeOf sourceOf targetOf costOf bytesOf joinsBy joins readForm sheetBytes reachesBy reaches onCircle circle levelBy levelWithin level readSheet programmeCount programmeOf readBundle bundleBytes weigh wholeOf whole is notOnce holds home before inside sendFault receiveFault orderFault messageFault overStore at26 atMessage at28 firstWith processorOf stampOf next stated stepIn step canStep clockOf latest settle settled unfinished at29 at30 closing checked check placeOf startOf finishOf placed stands comes lacks satisfied ready partlyReady arrivalBy arrival priority ahead firstReady firstPartlyReady endBy endOf startBy startFrom startOn storeBy bytesBy storeOn fits holdsBy holdsPredecessor startWith bestStart endsWith delays barred followsBy follows spentBy spent mayJoin join mayTake idle opens mayShare share another lastResort choice turn turns plannedBy planned plannedBefore brings takesAway receiveOf sendOf blockOf blocks programme claimOf bundleOf plan decimalWithin decimal planLine taskLine refusalLine scheduleLines listing sheets.fault sheets.ended bundles.fault bundles.ended
 trials =
     record {
       k1-read = refl;
@@ -183,6 +184,14 @@ trials =
       k4-23-claim = refl;
       k5-refused = refl;
       k5-accepted = refl;
+      k1-same = refl;
+      k2-same = refl;
+      k3-same = refl;
+      k4-24-same = refl;
+      k4-23-same = refl;
+      k5-same = refl;
+      free-before = refl;
+      free-now = refl;
       k6-stuck = refl;
       k7-claim = refl;
       k8-self = refl;

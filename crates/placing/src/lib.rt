@@ -410,7 +410,15 @@ fn may_open(w: &[u32], kept: &[u32], t: usize) -> bool
 }
 
 // The open processor k may be taken where step 3 would open one; a is t's arrival, x its start on k, and the guard bars one processor.
-fn may_share_on(w: &[u32], kept: &[u32], t: usize, bars: usize, a: usize, k: usize, x: usize) -> bool
+fn may_share_on(
+    w: &[u32],
+    kept: &[u32],
+    t: usize,
+    bars: usize,
+    a: usize,
+    k: usize,
+    x: usize,
+) -> bool
     requires { ⌜ Choosing (now w) (now kept) t ⌝ }
     requires { ⌜ (a ≡ arrival (sheetIn (now w)) (scheduleIn (now w)) t) × (k < 16) ⌝ }
     requires { ⌜ Bars (sheetIn (now w)) (scheduleIn (now w)) t bars × (x ≡ startOn (sheetIn (now w)) (scheduleIn (now w)) t k) ⌝ }

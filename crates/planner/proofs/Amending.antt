@@ -39,7 +39,7 @@ module _ (s : Sheet) (guard : Schedule → ℕ → ℕ → Bool) where
     apart : (j i : Option ℕ) (b : Bool) (f : Option ℕ)
         → both (both (not (isSome j)) (both (not (isSome i)) (isSome (pick {X = Option ℕ} b (some (σ .opened)) none)))) (isSome f) ≡ true
         → (orElse j (orElse i (orElse (pick b (some (σ .opened)) none) (lastResort s guard σ t))) ≡ some (σ .opened))
-          × (orElse j (orElse i (orElse (pick b f none) (orElse (pick b (some (σ .opened)) none) (lastResort s guard σ t)))) ≡ f) × (isSome f ≡ true)
+        × (orElse j (orElse i (orElse (pick b f none) (orElse (pick b (some (σ .opened)) none) (lastResort s guard σ t)))) ≡ f) × (isSome f ≡ true)
     apart (some j) i b f e = absurd (true≢false (sym e))
     apart none (some i) b f e = absurd (true≢false (sym e))
     apart none none false f e = absurd (true≢false (sym e))
