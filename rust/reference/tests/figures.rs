@@ -22,7 +22,7 @@ fn planned(name: &str) -> Plan {
 fn steps(name: &str) -> (Vec<Step>, usize) {
     let mut turns = Vec::new();
     plan_with(&figure(name).sheet(), |turn| turns.push(turn)).expect("nothing needs store");
-    let barred = turns.iter().filter(|turn| turn.barred).count();
+    let barred = turns.iter().filter(|turn| turn.join_barred).count();
     (turns.into_iter().map(|turn| turn.step).collect(), barred)
 }
 

@@ -1,6 +1,7 @@
 //! The rewrite held against the literal rules on made-up inputs.
 
 use inputs::{bundles, damage, sheets, Random};
+use literal::placing::Rules;
 use reference::graph;
 use reference::machine::Machine;
 use reference::planner::plan;
@@ -38,7 +39,7 @@ fn literal_plan(bytes: &[u8]) -> (Result<Vec<u8>, literal::Refusal>, Vec<u8>) {
     let levels = graph::levels(&Sheet::read(bytes).unwrap());
     let levels: Vec<u64> = levels.into_iter().map(u64::from).collect();
     let sheet = literal::sheet::Sheet::read(bytes).unwrap();
-    let placed = literal::placing::place_by(&sheet, &levels, true);
+    let placed = literal::placing::place_by(&sheet, &levels, Rules::WHOLE);
     let lines = literal::listing::lines(&placed).into_bytes();
     (placed.map(|placed| literal::bundle::Bundle::of_plan(&sheet, &placed)), lines)
 }
