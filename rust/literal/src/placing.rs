@@ -280,8 +280,10 @@ impl<'a> Board<'a> {
 
     /// The placing of t by the first step that gives a processor.
     fn choose(&self, t: usize) -> Option<Placed> {
-        let steps = Self::STEPS.iter().filter(|(step, _)| self.rules.amended || *step != Step::Share);
-        let (step, k) = steps.map(|(step, give)| (*step, give(self, t))).find(|(_, k)| k.is_some())?;
+        let steps =
+            Self::STEPS.iter().filter(|(step, _)| self.rules.amended || *step != Step::Share);
+        let (step, k) =
+            steps.map(|(step, give)| (*step, give(self, t))).find(|(_, k)| k.is_some())?;
         let unguarded = Board { rules: Rules { guard: false, ..self.rules }, ..self.clone() };
         let shares = self.rules.amended && matches!(step, Step::Share | Step::Open);
         self.with(t, k?).placed.last().map(|&placed| Placed {
