@@ -48,10 +48,16 @@ fn literal_plan(bytes: &[u8]) -> (Result<Vec<u8>, literal::Refusal>, Vec<u8>) {
 fn plans() {
     let mut random = Random::new(1);
     let mut refusals = 0;
-    for round in 0..8000 {
-        let sheet = match round % 4 {
+    for round in 0..12_000 {
+        let sheet = match round % 6 {
             0 => sheets::guarded(&mut random),
             1 => sheets::telling(&mut random, 24),
+            2 => sheets::sharing(&mut random, 24),
+            3 => {
+                let mut sheet = sheets::guarded(&mut random);
+                sheets::free_links(&mut random, &mut sheet);
+                sheet
+            }
             _ => sheets::telling(&mut random, 12),
         };
         let sheet = sheet.encode();
@@ -63,7 +69,7 @@ fn plans() {
             Err(_) => refusals += 1,
         }
     }
-    assert!((100..4000).contains(&refusals));
+    assert!((100..6000).contains(&refusals));
 }
 
 #[test]
