@@ -48,7 +48,7 @@ fn literal_plan(bytes: &[u8]) -> (Result<Vec<u8>, literal::Refusal>, Vec<u8>) {
 fn plans() {
     let mut random = Random::new(1);
     let mut refusals = 0;
-    for round in 0..12_000 {
+    for round in 0..9000 {
         let sheet = match round % 6 {
             0 => sheets::guarded(&mut random),
             1 => sheets::telling(&mut random, 24),
