@@ -171,7 +171,8 @@ impl<'a> Board<'a> {
         times.max().unwrap_or(0).max(self.end(k))
     }
 
-    /// The board with t put on k: "Tasks go after k's last task, never into a gap."
+    /// The board with t put on k: "Tasks go after k's last task, never into a gap." Which step gave k,
+    /// `choose` tells.
     fn with(&self, t: usize, k: usize) -> Self {
         let start = self.start(t, k);
         let finish = start + self.sheet.tasks[t].work;
