@@ -16,9 +16,9 @@ returns c =
 
 returns-2 : tie.Need-returns-2
 returns-2 c =
-    let a = c .before .before .before .before .before in
+    let entry = c .before .before .before .before .before in
     let found = c .last-on .ensures in
-    (last-left _ _ (a .args .t) (sym (c .before .if1 .left) ∙ c .before .before .may-open .ensures) (found .0), found .1)
+    (last-left _ _ (entry .args .t) (sym (c .before .if1 .left) ∙ c .before .before .may-open .ensures) (found .0), found .1)
 
 pub without-idle-spec : {M : Type 1} → statement M
 without-idle-spec =
