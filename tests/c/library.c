@@ -1,5 +1,5 @@
-/* The library from C: each of its functions on the trial sheet K1 and on a bare board, and refusals with number
- * and place. */
+/* The library from C: each of its functions on the trial sheet K1 and on a bare board, the plan of a free link,
+ * and refusals with number and place. */
 
 #include <stdio.h>
 #include <string.h>
@@ -164,6 +164,21 @@ static void bare_board(void)
     EXPECT(processor[0] == 0 && processor[1] == 0 && processor[2] == 0);
 }
 
+/* Two tasks joined by a link of cost 0 are on one processor, though the board has two. */
+static void free_link(const char *folder)
+{
+    static const char lines[] = "PLAN 1 2\n0 0 0 1\n1 0 1 2\n";
+    uint8_t two_tasks[64], together[64], out[64];
+    size_t length = read_file(folder, "free-link.sheet", two_tasks, sizeof two_tasks);
+    size_t planned = read_file(folder, "free-link.bundle", together, sizeof together);
+    ANSWERS(zeldrupa_plan(two_tasks, length, WORK, LENT(out), &place), 0, planned);
+    EXPECT(planned == 11 && memcmp(out, together, planned) == 0);
+    ANSWERS(zeldrupa_check(two_tasks, length, together, planned, WORK, &place), 0, 0);
+    ANSWERS(zeldrupa_listing(two_tasks, length, WORK, LENT(out), &place), 0, sizeof lines - 1);
+    EXPECT(memcmp(out, lines, sizeof lines - 1) == 0);
+    ANSWERS(zeldrupa_plan(two_tasks, length, WORK, out, planned - 1, &place), ZELDRUPA_SHORT_OUTPUT, planned);
+}
+
 int main(int count, char **arguments)
 {
     const char *folder = count > 1 ? arguments[1] : "examples";
@@ -177,6 +192,7 @@ int main(int count, char **arguments)
         never_started();
         refusals();
         bare_board();
+        free_link(folder);
     }
     printf("C: %d failures\n", failures);
     return failures != 0;

@@ -106,14 +106,14 @@ module _ (s : Sheet) (guard : Schedule → ℕ → ℕ → Bool) where
   numbered-place σ t none = numbered-refused 11 t (omega arith)
   numbered-place σ t (some k) = numbered-value _
 
-  numbered-turn : (σ : Schedule) (o : Option ℕ) → Numbered (placeTask s guard σ o)
+  numbered-turn : (σ : Schedule) (o : Option ℕ) → Numbered (placeTask s guard true σ o)
   numbered-turn σ none = numbered-value σ
-  numbered-turn σ (some t) = numbered-place σ t (choice s guard σ t)
+  numbered-turn σ (some t) = numbered-place σ t (choice s guard true σ t)
 
-  numbered-turns : (n : ℕ) (σ : Schedule) → Numbered (turns s guard n σ)
+  numbered-turns : (n : ℕ) (σ : Schedule) → Numbered (turns s guard true n σ)
   unfolding turns turn
   numbered-turns zero σ = numbered-value σ
-  numbered-turns (suc n) σ = numbered-then (turn s guard σ) (turns s guard n) (numbered-turn σ (firstReady s σ)) (numbered-turns n)
+  numbered-turns (suc n) σ = numbered-then (turn s guard true σ) (turns s guard true n) (numbered-turn σ (firstReady s σ)) (numbered-turns n)
 
 pub numbered-plan : (b : List ℕ) → Numbered (plan b)
 unfolding plan planned plannedBy

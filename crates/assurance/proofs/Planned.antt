@@ -178,6 +178,6 @@ module _ (s : Sheet) (proper : Proper s) {φ : Schedule} {ts : List ℕ} (how : 
       accepted s b (record { published = published s proper how complete; within = within s proper how complete; end = r .0; leads = r .1; over = over (r .0) (r .2); claimed = claimed (r .0) (r .2) })
 
 -- a bundle that the planner writes is accepted, and its bytes can hold it
-pub plan-accepted : (s : Sheet) → Proper s → Sized s → (guard : Schedule → ℕ → ℕ → Bool) (φ : Schedule) → plannedBy s guard ≡ value φ
+pub plan-accepted : (s : Sheet) → Proper s → Sized s → (guard : Schedule → ℕ → ℕ → Bool) (amended : Bool) (φ : Schedule) → plannedBy s guard amended ≡ value φ
     → (checked s (bundleOf s φ) ≡ value (bundleOf s φ)) × Fits s (bundleOf s φ)
-plan-accepted s proper sized guard φ e = let r = planned-build s proper guard φ e in (accept s proper (r .1) (r .2), fits s proper (r .1) (r .2) sized)
+plan-accepted s proper sized guard amended φ e = let r = planned-build s proper guard amended φ e in (accept s proper (r .1) (r .2), fits s proper (r .1) (r .2) sized)

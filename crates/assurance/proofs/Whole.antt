@@ -1,6 +1,7 @@
 -- Demand 3, of the functions of the interface.
 use Prim.Native.Nat.{ℕ, _≤_}
 use native.Mathlib.Omega.{arith}
+use mathlib.Core.Bool.{true}
 use mathlib.Core.Path.{_≡_, refl, sym, ap, ap₂, _∙_, subst}
 use mathlib.Core.List.{List, [], _++_}
 use lib.ListN.{length, take}
@@ -56,7 +57,7 @@ plan-checked sheet out y e =
     let q = andThen-value (planned s) (λ σ. value (bundleBytes (bundleOf s σ))) out (r .2) in
     let b = bundleOf s (q .0) in
     let p = proper sheet s (r .1) in
-    let a = plan-accepted s p (proper-sized sheet s y (r .1)) (barred s) (q .0) (q .1) in
+    let a = plan-accepted s p (proper-sized sheet s y (r .1)) (barred s) true (q .0) (q .1) in
     let w : bundleBytes b ≡ out = cc (q .2) in
     (b, check-is sheet out s b (r .1) (subst (λ o. readBundle s o ≡ value b) w (read-back s b (omega (arith, p .form .links)) (a .1))) ∙ a .0)
 

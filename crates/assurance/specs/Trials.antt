@@ -24,7 +24,8 @@ use Rattle.machine.specs.Runs.{clockOf, latest, settle, settled}
 use Rattle.checker.specs.Checker.{unfinished, at29, at30, closing, checked, check}
 use Rattle.planner.specs.Schedule.{Schedule, empty, placeOf, startOf, finishOf, placed, stands}
 use Rattle.planner.specs.Placing.{comes, lacks, satisfied, ready, partlyReady, arrivalBy, arrival, priority, ahead, firstReady, firstPartlyReady, endBy, endOf, startBy, startFrom, startOn, storeBy, bytesBy, storeOn, fits, holdsBy, holdsPredecessor, startWith, bestStart, endsWith, delays, barred, followsBy, follows, spentBy, spent}
-use Rattle.planner.specs.Planner.{mayJoin, join, mayTake, idle, another, lastResort, choice, turn, turns, plannedBy, planned, brings, takesAway, receiveOf, sendOf, blockOf, blocks, programme, claimOf, bundleOf, plan}
+use Rattle.planner.specs.Planner.{mayJoin, join, mayTake, idle, opens, mayShare, share, another, lastResort, choice, turn, turns, plannedBy, planned, brings, takesAway, receiveOf, sendOf, blockOf, blocks, programme, claimOf, bundleOf, plan}
+use Rattle.planner.specs.Amended.{plannedBefore}
 use Rattle.listing.specs.Listing.{decimalWithin, decimal, planLine, taskLine, refusalLine, scheduleLines, listing}
 
 abbrev task : ℕ → ℕ → Task
@@ -61,15 +62,18 @@ listingK =
 abbrev pub bytesK : ℕ → ℕ → ℕ → List ℕ
 bytesK p m w = sheetBytes (sheetK p m w)
 
--- from the bytes of a sheet: its levels, its schedule, and the claim of that schedule; the schedule is made with a guard
+-- from the bytes of a sheet: its levels, its schedule, and the claim of that schedule; the schedule is made with a guard, and one by the steps of document 01
 abbrev levels : List ℕ → Answer (List ℕ)
 levels b = andThen (readSheet b) (λ s. value (listed (taskCount s) (level s)))
 
 abbrev scheduleBy : (Sheet → Schedule → ℕ → ℕ → Bool) → List ℕ → Answer Schedule
-scheduleBy guard b = andThen (readSheet b) (λ s. plannedBy s (guard s))
+scheduleBy guard b = andThen (readSheet b) (λ s. plannedBy s (guard s) true)
 
 abbrev claimBy : (Sheet → Schedule → ℕ → ℕ → Bool) → List ℕ → Answer ℕ
-claimBy guard b = andThen (readSheet b) (λ s. andThen (plannedBy s (guard s)) (λ σ. value (claimOf s σ)))
+claimBy guard b = andThen (readSheet b) (λ s. andThen (plannedBy s (guard s) true) (λ σ. value (claimOf s σ)))
+
+abbrev scheduleBefore : List ℕ → Answer Schedule
+scheduleBefore b = andThen (readSheet b) (λ s. plannedBefore s)
 
 abbrev barredNext : Sheet → Schedule → Option ℕ → ℕ → Bool
 barredNext s σ none k = false
@@ -77,7 +81,7 @@ barredNext s σ (some t) k = barred s σ t k
 
 -- after the first turn: the task of the second, and whether the guard bars it from processor k
 abbrev second : List ℕ → ℕ → Answer (Option ℕ × Bool)
-second b k = andThen (readSheet b) (λ s. andThen (turn s (barred s) (empty s)) (λ σ. value (firstReady s σ, barredNext s σ (firstReady s σ) k)))
+second b k = andThen (readSheet b) (λ s. andThen (turn s (barred s) true (empty s)) (λ σ. value (firstReady s σ, barredNext s σ (firstReady s σ) k)))
 
 abbrev unguarded : Sheet → Schedule → ℕ → ℕ → Bool
 unguarded s σ t k = false
@@ -97,6 +101,10 @@ bundleK6 =
 
 abbrev pub k8 : List Link → Sheet
 k8 ls = record { processors = 2; limit = 0; tasks = task 1 0 ∷ task 1 0 ∷ task 1 0 ∷ []; links = ls }
+
+-- the smallest sheet that C-17 changes: "two tasks joined by a link of cost 0"
+abbrev pub freeLink : Sheet
+freeLink = record { processors = 2; limit = 0; tasks = task 1 0 ∷ task 1 0 ∷ []; links = link 0 1 0 0 ∷ [] }
 
 -- a board with no jobs yet, its plan, and "PLAN 0 0"
 abbrev pub bare : Sheet
@@ -128,6 +136,16 @@ pub record Trials : Type 0 where
   pub k4-23-claim : claimBy barred (bytesK 3 23 2) ≡ value 7
   pub k5-refused : plan (sheetBytes k5) ≡ refused 11 4
   pub k5-accepted : check (sheetBytes k5) (bundleBytes bundleK5) ≡ value bundleK5
+  -- "K1 to K5 don't change": the steps of document 01 give the same
+  pub k1-same : scheduleBefore (sheetBytes k1) ≡ scheduleBy barred (sheetBytes k1)
+  pub k2-same : scheduleBefore (bytesK 1 100 2) ≡ scheduleBy barred (bytesK 1 100 2)
+  pub k3-same : scheduleBefore (bytesK 3 100 3) ≡ scheduleBy barred (bytesK 3 100 3)
+  pub k4-24-same : scheduleBefore (bytesK 3 24 2) ≡ scheduleBy barred (bytesK 3 24 2)
+  pub k4-23-same : scheduleBefore (bytesK 3 23 2) ≡ scheduleBy barred (bytesK 3 23 2)
+  pub k5-same : scheduleBefore (sheetBytes k5) ≡ scheduleBy barred (sheetBytes k5)
+  -- "formerly on two processors, now on one with the same claim"
+  pub free-before : scheduleBefore (sheetBytes freeLink) ≡ value (record { on = 0 ∷ 1 ∷ []; start = 0 ∷ 1 ∷ []; finish = 1 ∷ 2 ∷ []; order = 0 ∷ 1 ∷ []; opened = 2 })
+  pub free-now : scheduleBy barred (sheetBytes freeLink) ≡ value (record { on = 0 ∷ 0 ∷ []; start = 0 ∷ 1 ∷ []; finish = 1 ∷ 2 ∷ []; order = 0 ∷ 1 ∷ []; opened = 1 })
   pub k6-stuck : check (sheetBytes k6) (bundleBytes bundleK6) ≡ refused 29 0
   pub k7-claim : check (sheetBytes k1) (bundleK 6) ≡ refused 30 5
   pub k8-self : readSheet (sheetBytes (k8 (link 0 0 0 0 ∷ []))) ≡ refused 10 0
@@ -147,7 +165,7 @@ pub record Trials : Type 0 where
   pub claim-first : check (sheetBytes k1) (bundleBare 0) ≡ refused 23 0
 
 pub trials : Trials
-unfolding all any sum greatest first leading least listed gather numberAt judge readFrom readAll taskCount linkCount workOf storeOf sourceOf targetOf costOf bytesOf joinsBy joins readForm sheetBytes reachesBy reaches onCircle circle levelBy levelWithin level readSheet programmeCount programmeOf readBundle bundleBytes weigh wholeOf whole is notOnce holds home before inside sendFault receiveFault orderFault messageFault overStore at26 atMessage at28 firstWith processorOf stampOf next stated stepIn step canStep clockOf latest settle settled unfinished at29 at30 closing checked check placeOf startOf finishOf placed stands comes lacks satisfied ready partlyReady arrivalBy arrival priority ahead firstReady firstPartlyReady endBy endOf startBy startFrom startOn storeBy bytesBy storeOn fits holdsBy holdsPredecessor startWith bestStart endsWith delays barred followsBy follows spentBy spent mayJoin join mayTake idle another lastResort choice turn turns plannedBy planned brings takesAway receiveOf sendOf blockOf blocks programme claimOf bundleOf plan decimalWithin decimal planLine taskLine refusalLine scheduleLines listing sheets.fault sheets.ended bundles.fault bundles.ended
+unfolding all any sum greatest first leading least listed gather numberAt judge readFrom readAll taskCount linkCount workOf storeOf sourceOf targetOf costOf bytesOf joinsBy joins readForm sheetBytes reachesBy reaches onCircle circle levelBy levelWithin level readSheet programmeCount programmeOf readBundle bundleBytes weigh wholeOf whole is notOnce holds home before inside sendFault receiveFault orderFault messageFault overStore at26 atMessage at28 firstWith processorOf stampOf next stated stepIn step canStep clockOf latest settle settled unfinished at29 at30 closing checked check placeOf startOf finishOf placed stands comes lacks satisfied ready partlyReady arrivalBy arrival priority ahead firstReady firstPartlyReady endBy endOf startBy startFrom startOn storeBy bytesBy storeOn fits holdsBy holdsPredecessor startWith bestStart endsWith delays barred followsBy follows spentBy spent mayJoin join mayTake idle opens mayShare share another lastResort choice turn turns plannedBy planned plannedBefore brings takesAway receiveOf sendOf blockOf blocks programme claimOf bundleOf plan decimalWithin decimal planLine taskLine refusalLine scheduleLines listing sheets.fault sheets.ended bundles.fault bundles.ended
 trials =
     record {
       k1-read = refl;
@@ -166,6 +184,14 @@ trials =
       k4-23-claim = refl;
       k5-refused = refl;
       k5-accepted = refl;
+      k1-same = refl;
+      k2-same = refl;
+      k3-same = refl;
+      k4-24-same = refl;
+      k4-23-same = refl;
+      k5-same = refl;
+      free-before = refl;
+      free-now = refl;
       k6-stuck = refl;
       k7-claim = refl;
       k8-self = refl;

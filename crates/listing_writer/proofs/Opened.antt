@@ -1,5 +1,6 @@
 -- From an opened sheet to its listing.
 use Prim.Native.Nat.{ℕ}
+use mathlib.Core.Bool.{true}
 use mathlib.Core.Path.{_≡_, sym, ap, subst, _∙_}
 use mathlib.Core.List.{List}
 use native.Mathlib.Omega.{arith}
@@ -37,7 +38,7 @@ planned-as s a e = ap (λ (x : Answer Schedule). linesOf (andThen x (λ σ. valu
 planned-standing : {s : Sheet} → Proper s → Stands s
 unfolding planned placed
 planned-standing {s} p σ e =
-    let m = planned-build s p (barred s) σ e in
+    let m = planned-build s p (barred s) true σ e in
     record {
       few-opened = omega (arith, plan-of s p (empty-fair s p) (m .1) .fair .opened, p .form .board-few);
       places = λ t h. ltb-true (placeOf σ t) 16 (m .2 t h);

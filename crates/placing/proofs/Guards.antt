@@ -26,7 +26,7 @@ use Rattle.workspace.specs.Found.{foundOf}
 use Rattle.workspace.specs.declared.total.Found.{Found}
 use Rattle.workspace.specs.declared.total.Found.the-variants.{At, Nothing}
 use Rattle.readiness.proofs.Counts.{arrival-kept}
-use Rattle.placing.specs.Guards.{BarsFor, Bars}
+use Rattle.placing.specs.Guards.{delaysFor, Rival, BarsFor, Bars, JoinBarsFor, JoinBars}
 
 pub end-le-start : (s : Sheet) (σ : Schedule) (t k : ℕ) → endOf s σ k ≤ startOn s σ t k
 unfolding startOn startFrom
@@ -56,9 +56,13 @@ module _ (p : ℕ → Bool) (f : ℕ → ℕ) where
   least-is zero = λ j h. absurd (omega arith)
   least-is (suc n) = least-step n (leading n p lower) (least-is n) (p n) refl
 
--- no processor that holds a predecessor of t is barred
-bars-none : {s : Sheet} {σ : Schedule} {t u : ℕ} → ((k : ℕ) → k < 16 → holdsPredecessor s σ t k ≡ true → delays s σ t u k ≡ false) → BarsFor s σ t u 16
-bars-none f = record { is = λ k l m. ne-eqb k 16 (omega arith) ∙ sym (f k l m) }
+-- no processor is barred
+bars-none : {s : Sheet} {σ : Schedule} {t u : ℕ} → ((k : ℕ) → delays s σ t u k ≡ false) → BarsFor s σ t u 16
+bars-none f = record { is = λ k l. ne-eqb k 16 (omega arith) ∙ sym (f k) }
+
+-- step 1 asks of some only
+pub join-bars : {s : Sheet} {σ : Schedule} {t u bars : ℕ} → BarsFor s σ t u bars → JoinBarsFor s σ t u bars
+join-bars b = record { is = λ k l m. b .is k l }
 
 module _ (w own : List ℕ) (kept : Kept w own) (u : ℕ) (h : u < taskCount (sheetIn w)) where
   abbrev s : Sheet
@@ -215,25 +219,27 @@ module _ (w own : List ℕ) (kept : Kept w own) (u : ℕ) (h : u < taskCount (sh
   module _ (t : ℕ) where
     pub bars-never : {a : ℕ} → a ≡ arrival s σ u → a ≡ 0 → BarsFor s σ t u 16
     unfolding delays
-    bars-never {a} ea e = bars-none (λ k l m. rw (le-ltb (bestStart s σ (endOf s σ) u) (arrival s σ u) (omega arith)))
+    bars-never {a} ea e = bars-none (λ k. rw (le-ltb (bestStart s σ (endOf s σ) u) (arrival s σ u) (omega arith)))
 
     module _ {a k : ℕ} (ea : a ≡ arrival s σ u) (some-late : a ≢ 0) (ek : k ≡ main) where
       late : 0 < latest
       late = omega (arith, latest-is)
 
       -- where u is not delayed on the processor that its latest message comes from
-      not-here : ((j : ℕ) → holdsPredecessor s σ t j ≡ true → main ≡ j → delays s σ t u j ≡ false) → BarsFor s σ t u 16
-      not-here f = bars-none (λ j l m. go j m (ℕ-discrete main j))
+      not-here : ((j : ℕ) → main ≡ j → delays s σ t u j ≡ false) → BarsFor s σ t u 16
+      not-here f = bars-none (λ j. go j (ℕ-discrete main j))
         where
-          go : (j : ℕ) → holdsPredecessor s σ t j ≡ true → Dec (main ≡ j) → delays s σ t u j ≡ false
-          go j m (yes e) = f j m e
-          go j m (no e) = delays-else late t j e
+          go : (j : ℕ) → Dec (main ≡ j) → delays s σ t u j ≡ false
+          go j (yes e) = f j e
+          go j (no e) = delays-else late t j e
 
-      pub bars-apart : holdsPredecessor s σ t k ≡ false → BarsFor s σ t u 16
-      bars-apart e = not-here (λ j m q. absurd (true≢false (sym m ∙ ap (holdsPredecessor s σ t) (sym q ∙ sym ek) ∙ e)))
+      -- .. or where that processor holds no predecessor of t
+      pub bars-apart : holdsPredecessor s σ t k ≡ false → JoinBarsFor s σ t u 16
+      bars-apart e =
+          record { is = λ j l m. ne-eqb j 16 (omega arith) ∙ sym (delays-else late t j (λ q. true≢false (sym m ∙ ap (holdsPredecessor s σ t) (sym q ∙ sym ek) ∙ e))) }
 
       pub bars-busy : {x : ℕ} → x ≡ endOf s σ k → a ≤ x → BarsFor s σ t u 16
-      bars-busy ex l = not-here (λ j m q. delays-late late t j (omega (arith, latest-is, end-le-start s σ u main, ap (endOf s σ) ek)))
+      bars-busy ex l = not-here (λ j q. delays-late late t j (omega (arith, latest-is, end-le-start s σ u main, ap (endOf s σ) ek)))
 
       module _ {finish limit : ℕ} {test : Bool} (ef : finish ≡ startOn s σ t k + workOf s t) (el : limit ≡ min a finish) (et : test ≡ ltb (startOn s σ u k) limit) where
         best-main : startOn s σ u k ≡ startOn s σ u main
@@ -244,14 +250,14 @@ module _ (w own : List ℕ) (kept : Kept w own) (u : ℕ) (h : u < taskCount (sh
 
         -- u starts there by its arrival, or by t's finish
         pub bars-past : test ≡ false → BarsFor s σ t u 16
-        bars-past e = not-here (λ j m q. go j q (ltb-false (startOn s σ u k) limit (sym et ∙ e)) (decLt (startOn s σ u main) latest))
+        bars-past e = not-here (λ j q. go j q (ltb-false (startOn s σ u k) limit (sym et ∙ e)) (decLt (startOn s σ u main) latest))
           where
             go : (j : ℕ) → main ≡ j → limit ≤ startOn s σ u k → Dec (startOn s σ u main < latest) → delays s σ t u j ≡ false
             go j q l (yes d) = delays-done late t j d (omega (arith, latest-is, best-main, finish-main)) q
             go j q l (no d) = delays-late late t j (omega arith)
 
         pub bars-here : test ≡ true → BarsFor s σ t u k
-        bars-here e = record { is = λ j n p. go j (ltb-true (startOn s σ u k) limit (sym et ∙ e)) (ℕ-discrete main j) }
+        bars-here e = record { is = λ j n. go j (ltb-true (startOn s σ u k) limit (sym et ∙ e)) (ℕ-discrete main j) }
           where
             go : (j : ℕ) → startOn s σ u k < limit → Dec (main ≡ j) → eqb j k ≡ delays s σ t u j
             go j l (yes q) =
@@ -259,19 +265,39 @@ module _ (w own : List ℕ) (kept : Kept w own) (u : ℕ) (h : u < taskCount (sh
                 ∙ sym (delays-here late t j (omega (arith, latest-is, best-main)) (omega (arith, best-main, finish-main)) q)
             go j l (no q) = ne-eqb j k (λ x. q (sym ek ∙ sym x)) ∙ sym (delays-else late t j q)
 
--- the guard of a turn, by the first partly ready task
+-- for whose sake the guard applies, by the first partly ready task
 module _ (s : Sheet) (σ : Schedule) (t : ℕ) {g : Found} (first : foundOf g ≡ firstPartlyReady s σ) where
-  pub guard-none : g ≡ Nothing → Bars s σ t 16
+  pub rival-none : g ≡ Nothing → Rival s σ t none
   unfolding barred
-  guard-none e = record { is = λ k l h. ne-eqb k 16 (omega arith) ∙ sym (ap (barredFor s σ t k) (sym first ∙ ap foundOf e)) }
+  rival-none e = record { is = λ k. sym (ap (barredFor s σ t k) (sym first ∙ ap foundOf e)) }
 
   module _ {u : ℕ} (e : g ≡ At u) {p q : ℕ} (ep : p ≡ priority s σ t) (eq : q ≡ priority s σ u) where
     barred-at : (k : ℕ) → barred s σ t k ≡ both (ltb p q) (delays s σ t u k)
     unfolding barred
     barred-at k = ap (barredFor s σ t k) (sym first ∙ ap foundOf e) ∙ rw (← ep, ← eq)
 
-    pub guard-behind : q ≤ p → Bars s σ t 16
-    guard-behind l = record { is = λ k m h. ne-eqb k 16 (omega arith) ∙ sym (barred-at k ∙ rw (le-ltb p q l)) }
+    pub rival-behind : q ≤ p → Rival s σ t none
+    rival-behind l = record { is = λ k. sym (barred-at k ∙ rw (le-ltb p q l)) }
 
-    pub guard-ahead : {bars : ℕ} → p < q → BarsFor s σ t u bars → Bars s σ t bars
-    guard-ahead l b = record { is = λ k m h. b .is k m h ∙ sym (barred-at k ∙ rw (lt-ltb p q l)) }
+    pub rival-ahead : p < q → Rival s σ t (some u)
+    rival-ahead l = record { is = λ k. sym (barred-at k ∙ rw (lt-ltb p q l)) }
+
+-- the guard of a turn, by the task for whose sake it applies
+module _ (s : Sheet) (σ : Schedule) (t : ℕ) {g : Found} (rival : Rival s σ t (foundOf g)) where
+  nobody : g ≡ Nothing → (k : ℕ) → barred s σ t k ≡ false
+  nobody e k = sym (rival .is k) ∙ ap (λ (x : Found). delaysFor s σ t k (foundOf x)) e
+
+  somebody : {u : ℕ} → g ≡ At u → (k : ℕ) → delays s σ t u k ≡ barred s σ t k
+  somebody e k = sym (ap (λ (x : Found). delaysFor s σ t k (foundOf x)) e) ∙ rival .is k
+
+  pub guard-none : g ≡ Nothing → Bars s σ t 16
+  guard-none e = record { is = λ k l. ne-eqb k 16 (omega arith) ∙ sym (nobody e k) }
+
+  pub guard-some : {u bars : ℕ} → g ≡ At u → BarsFor s σ t u bars → Bars s σ t bars
+  guard-some e b = record { is = λ k l. b .is k l ∙ somebody e k }
+
+  pub join-guard-none : g ≡ Nothing → JoinBars s σ t 16
+  join-guard-none e = record { is = λ k l h. ne-eqb k 16 (omega arith) ∙ sym (nobody e k) }
+
+  pub join-guard-some : {u bars : ℕ} → g ≡ At u → JoinBarsFor s σ t u bars → JoinBars s σ t bars
+  join-guard-some e b = record { is = λ k l h. b .is k l h ∙ somebody e k }

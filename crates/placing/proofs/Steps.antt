@@ -7,19 +7,19 @@ use native.Mathlib.Omega.{arith}
 use native.Mathlib.Decide.{decLt}
 use lib.ListN.{getD}
 use mathlib.Core.Option.{Option, none, some}
-use borrow.Author.Tests.{le-leb, lt-leb}
+use borrow.Author.Tests.{le-leb, lt-leb, lt-ltb, le-ltb, ltb-true}
 use lib.Dec.{eqb, ltb, leb}
-use Rattle.folds.specs.Folds.{pick, both, greatest, any, sum}
-use Rattle.folds.proofs.Tests.{both-false, parts-both}
+use Rattle.folds.specs.Folds.{pick, both, greatest, any, sum, first, orElse}
+use Rattle.folds.proofs.Tests.{both-false, both-parts, parts-both}
 use Rattle.folds.proofs.Laws.{any-each, greatest-le}
 use Rattle.sheet.specs.Sheet.{Sheet, linkCount}
 use Rattle.sheet.specs.Tables.{sheetIn}
 use Rattle.schedule.specs.Layout.{scheduleIn}
 use Rattle.planner.specs.Schedule.{Schedule}
 use Rattle.planner.specs.Placing.{arrival, endOf, startOn, fits, holdsPredecessor, barred, spent}
-use Rattle.planner.specs.Planner.{mayJoin, join, mayTake, idle, another, lastResort, choice}
+use Rattle.planner.specs.Planner.{mayJoin, join, mayTake, idle, opens, mayShare, share, another, lastResort, choice}
 use Rattle.placing.specs.Ranks.{lowKey, highKey, processorOf, joinKey, idleKey, lastKey, mayBeIdle}
-use Rattle.placing.specs.Guards.{Bars}
+use Rattle.placing.specs.Guards.{Bars, JoinBars}
 use Rattle.placing.specs.Choosing.{Choosing, dueBy}
 use Rattle.placing.specs.declared.Senders.the-variants.{All}
 use Rattle.placing.proofs.Spent.{spent-more}
@@ -31,7 +31,7 @@ module _ (s : Sheet) (σ : Schedule) (t : ℕ) where
   guard = barred s
 
   module _ (k : ℕ) where
-    pub join-key-is : {x a bars r : ℕ} {fit early may : Bool} → k < 16 → Bars s σ t bars → holdsPredecessor s σ t k ≡ true → x ≡ startOn s σ t k → a ≡ arrival s σ t → fit ≡ fits s σ t k → early ≡ both (not (eqb k bars)) (ltb x a)
+    pub join-key-is : {x a bars r : ℕ} {fit early may : Bool} → k < 16 → JoinBars s σ t bars → holdsPredecessor s σ t k ≡ true → x ≡ startOn s σ t k → a ≡ arrival s σ t → fit ≡ fits s σ t k → early ≡ both (not (eqb k bars)) (ltb x a)
         → may ≡ both fit early → r ≡ pick may (lowKey x k) 0 → r ≡ joinKey s σ t k
     unfolding mayJoin joinKey
     join-key-is {x} {a} {bars} h b held ex ea ef ee em er =
@@ -81,21 +81,66 @@ module _ (s : Sheet) (σ : Schedule) (t : ℕ) where
     unfolding lastResort lastKey
     last-is small e = least-by-key (σ .opened) few (fits s σ t) (startOn s σ t) small e
 
-  pub choice-join : {k : ℕ} → some k ≡ join s guard σ t → some k ≡ choice s guard σ t
+  -- the amended step
+  pub share-is : (k : ℕ) {x a bars : ℕ} {fit early may : Bool} → k < 16 → Bars s σ t bars → x ≡ startOn s σ t k → a ≡ arrival s σ t → fit ≡ fits s σ t k → early ≡ both (not (eqb k bars)) (leb x a)
+      → may ≡ both fit early → may ≡ mayShare s guard σ t k
+  unfolding mayShare
+  share-is k h b ex ea ef ee em = em ∙ ap₂ both ef (ee ∙ ap₂ both (ap not (b .is k h)) (ap₂ leb ex ea))
+
+  pub opens-left : {n p : ℕ} {fit : Bool} → n ≡ σ .opened → p ≡ s .processors → n < p → fit ≡ fits s σ t n → fit ≡ opens s guard σ t
+  unfolding opens
+  opens-left {n} {p} en ep l ef = ef ∙ rw (← en, ← ep, lt-ltb n p l)
+
+  pub opens-none : {n p : ℕ} → n ≡ σ .opened → p ≡ s .processors → p ≤ n → false ≡ opens s guard σ t
+  unfolding opens
+  opens-none {n} {p} en ep l = rw (← en, ← ep, le-ltb n p l)
+
+  -- where step 3 would open a processor, and where it would not
+  module _ (o : true ≡ opens s guard σ t) where
+    share-first : share s guard σ t ≡ first (σ .opened) (mayShare s guard σ t)
+    unfolding share
+    share-first = rw (← o)
+
+    another-next : another s guard σ t ≡ some (σ .opened)
+    unfolding another
+    another-next = rw (← o)
+
+    pub shared : {k : ℕ} → some k ≡ first (σ .opened) (mayShare s guard σ t) → some k ≡ orElse (share s guard σ t) (another s guard σ t)
+    shared e = rw (share-first, ← e)
+
+    pub opened-next : {n : ℕ} → none ≡ first (σ .opened) (mayShare s guard σ t) → n ≡ σ .opened → some n ≡ orElse (share s guard σ t) (another s guard σ t)
+    opened-next e en = rw (share-first, ← e, another-next, en)
+
+    opens-room : σ .opened < s .processors
+    unfolding opens
+    opens-room = ltb-true (σ .opened) (s .processors) (both-parts (ltb (σ .opened) (s .processors)) (fits s σ t (σ .opened)) (sym o) .0)
+
+    pub next-few : {n : ℕ} → n ≡ σ .opened → s .processors ≤ 16 → n < 16
+    next-few en h = omega (arith, opens-room)
+
+    -- step 4 is not tried
+    pub before-last : {c : Option ℕ} → c ≡ orElse (share s guard σ t) (another s guard σ t) → c ≡ orElse (share s guard σ t) (orElse (another s guard σ t) (lastResort s guard σ t))
+    before-last e = e ∙ rw another-next (go (share s guard σ t))
+      where
+        go : (c : Option ℕ) → orElse c (some (σ .opened)) ≡ orElse c (orElse (some (σ .opened)) (lastResort s guard σ t))
+        go none = refl
+        go (some k) = refl
+
+  pub last-left : {c : Option ℕ} → false ≡ opens s guard σ t → c ≡ lastResort s guard σ t → c ≡ orElse (share s guard σ t) (orElse (another s guard σ t) (lastResort s guard σ t))
+  unfolding share another
+  last-left o e = rw (← o) e
+
+  pub choice-join : {k : ℕ} → some k ≡ join s guard σ t → some k ≡ choice s guard true σ t
   unfolding choice
   choice-join a = rw (← a)
 
-  pub choice-idle : {k : ℕ} → none ≡ join s guard σ t → some k ≡ idle s guard σ t → some k ≡ choice s guard σ t
+  pub choice-idle : {k : ℕ} → none ≡ join s guard σ t → some k ≡ idle s guard σ t → some k ≡ choice s guard true σ t
   unfolding choice
   choice-idle a b = rw (← a, ← b)
 
-  pub choice-another : {k : ℕ} → none ≡ join s guard σ t → none ≡ idle s guard σ t → some k ≡ another s guard σ t → some k ≡ choice s guard σ t
+  pub choice-rest : {c : Option ℕ} → none ≡ join s guard σ t → none ≡ idle s guard σ t → c ≡ orElse (share s guard σ t) (orElse (another s guard σ t) (lastResort s guard σ t)) → c ≡ choice s guard true σ t
   unfolding choice
-  choice-another a b d = rw (← a, ← b, ← d)
-
-  pub choice-last : {o : Option ℕ} → none ≡ join s guard σ t → none ≡ idle s guard σ t → none ≡ another s guard σ t → o ≡ lastResort s guard σ t → o ≡ choice s guard σ t
-  unfolding choice
-  choice-last a b d e = rw (← a, ← b, ← d) e
+  choice-rest a b e = rw (← a, ← b) e
 
 -- where no processor may be idle, step 2 gives none
 module _ (w own : List ℕ) (t : ℕ) (c : Choosing w own t) {a d : ℕ} (ea : a ≡ arrival (sheetIn w) (scheduleIn w) t) (ed : d ≡ sum (linkCount (sheetIn w)) (dueBy (sheetIn w) (scheduleIn w) t All)) where

@@ -1,16 +1,16 @@
-// Where a task goes: starts, fits and the guard, and the four placing steps.
+// Where a task goes: starts, fits and the guard, and the placing steps.
 ghost use mathlib.Core.Path.{_≡_};
 ghost use mathlib.Core.Bool.{true, false};
 ghost use mathlib.Core.Option.{none};
 ghost use mathlib.Core.Logic.{_≢_};
 ghost use Prim.Native.Nat.{_+_, _*_, _<_, _≤_};
 ghost use lib.ListN.{getD, length};
-ghost use Rattle.folds.specs.Folds.{pick, both, either, any, sum};
+ghost use Rattle.folds.specs.Folds.{pick, both, either, any, sum, first, orElse};
 ghost use Rattle.sheet.specs.Sheet.{taskCount, linkCount};
 ghost use Rattle.sheet.specs.Tables.{sheetIn};
 ghost use Rattle.planner.specs.Schedule.{placed};
 ghost use Rattle.planner.specs.Placing.{arrival, endOf, startOn, fits, holdsPredecessor, barred, spent};
-ghost use Rattle.planner.specs.Planner.{join, idle, another, lastResort, choice};
+ghost use Rattle.planner.specs.Planner.{join, idle, opens, mayShare, share, another, lastResort, choice};
 ghost use Rattle.schedule.specs.Layout.{scheduleIn};
 ghost use Rattle.arrivals.specs.Layout.{sendersFrom, waitingFrom, keptLength};
 ghost use Rattle.arrivals.specs.Lanes.{Started};
@@ -19,7 +19,7 @@ ghost use Rattle.workspace.specs.Found.{foundOf, Below};
 ghost use Rattle.readiness.specs.Keyed.{Keyed};
 ghost use Rattle.placing.specs.Choosing.{Choosing, knownInto, dueBy, fourIn, Small, MoreDue, DuesTo, Dues, OnBoard};
 ghost use Rattle.placing.specs.Ranks.{lowKey, highKey, processorOf, joinKey, idleKey, mayBeIdle};
-ghost use Rattle.placing.specs.Guards.{BarsFor, Bars};
+ghost use Rattle.placing.specs.Guards.{Rival, BarsFor, Bars, JoinBarsFor, JoinBars};
 use adjacency::End;
 use arrivals::Starts;
 use sheet::tables;
@@ -217,7 +217,7 @@ fn bars_on(w: &[u32], kept: &[u32], t: usize, starts: Starts, u: usize, a: usize
     16
 }
 
-// .. asked only of a processor that holds a predecessor of t and ends before u's arrival: elsewhere nothing is barred.
+// .. asked only of a processor that ends before u's arrival: elsewhere nothing is barred.
 fn bars_for(w: &[u32], kept: &[u32], t: usize, starts: Starts, u: usize) -> usize
     requires { ⌜ Choosing (now w) (now kept) t × Started (now w) t starts ⌝ }
     requires { ⌜ u < taskCount (sheetIn (now w)) ⌝ }
@@ -228,29 +228,67 @@ fn bars_for(w: &[u32], kept: &[u32], t: usize, starts: Starts, u: usize) -> usiz
         return 16;
     }
     let k = workspace::word(kept, arrivals::SENDERS + u);
-    if workspace::word(kept, arrivals::TURN_LINKS + k) == 0 {
-        return 16;
-    }
     if a <= end_of(w, kept, k) {
         return 16;
     }
     bars_on(w, kept, t, starts, u, a, k)
 }
 
-// The processor that the guard bars in this turn, or 16; q holds the keys.
-fn guard_of(w: &[u32], kept: &[u32], q: &[u64], t: usize, starts: Starts) -> usize
+// The same for step 1, which asks only of processors that hold a predecessor of t: mostly u's latest message comes from none of them.
+fn join_bars_for(w: &[u32], kept: &[u32], t: usize, starts: Starts, u: usize) -> usize
     requires { ⌜ Choosing (now w) (now kept) t × Started (now w) t starts ⌝ }
+    requires { ⌜ u < taskCount (sheetIn (now w)) ⌝ }
+    ensures { λ r. ⌜ JoinBarsFor (sheetIn (now (w .entry))) (scheduleIn (now (w .entry))) t u r ⌝ }
+{
+    let a = readiness::arrival_of(w, kept, u);
+    if a == 0 {
+        return 16;
+    }
+    let k = workspace::word(kept, arrivals::SENDERS + u);
+    if workspace::word(kept, arrivals::TURN_LINKS + k) == 0 {
+        return 16;
+    }
+    bars_for(w, kept, t, starts, u)
+}
+
+// The task for whose sake the guard applies: the first partly ready one, if its priority is higher than t's; q holds the keys.
+fn rival_of(w: &[u32], kept: &[u32], q: &[u64], t: usize) -> Found
+    requires { ⌜ Choosing (now w) (now kept) t ⌝ }
     requires { ⌜ Keyed (sheetIn (now w)) (scheduleIn (now w)) (now q) ⌝ }
-    ensures { λ r. ⌜ Bars (sheetIn (now (w .entry))) (scheduleIn (now (w .entry))) t r ⌝ }
+    ensures { λ r. ⌜ Rival (sheetIn (now (w .entry))) (scheduleIn (now (w .entry))) t (foundOf r) × Below (taskCount (sheetIn (now (w .entry)))) r ⌝ }
 {
     match readiness::first_partly(w, kept, q) {
-        Found::Nothing => 16,
+        Found::Nothing => Found::Nothing,
         Found::At(u) => {
             if readiness::priority_of(w, kept, t) < readiness::priority_of(w, kept, u) {
-                return bars_for(w, kept, t, starts, u);
+                return Found::At(u);
             }
-            16
+            Found::Nothing
         }
+    }
+}
+
+// The processor that the guard bars in this turn, or 16.
+fn bars_of(w: &[u32], kept: &[u32], t: usize, starts: Starts, rival: Found) -> usize
+    requires { ⌜ Choosing (now w) (now kept) t × Started (now w) t starts ⌝ }
+    requires { ⌜ Rival (sheetIn (now w)) (scheduleIn (now w)) t (foundOf rival) × Below (taskCount (sheetIn (now w))) rival ⌝ }
+    ensures { λ r. ⌜ Bars (sheetIn (now (w .entry))) (scheduleIn (now (w .entry))) t r ⌝ }
+{
+    match rival {
+        Found::Nothing => 16,
+        Found::At(u) => bars_for(w, kept, t, starts, u),
+    }
+}
+
+// The same for step 1.
+fn join_bars_of(w: &[u32], kept: &[u32], t: usize, starts: Starts, rival: Found) -> usize
+    requires { ⌜ Choosing (now w) (now kept) t × Started (now w) t starts ⌝ }
+    requires { ⌜ Rival (sheetIn (now w)) (scheduleIn (now w)) t (foundOf rival) × Below (taskCount (sheetIn (now w))) rival ⌝ }
+    ensures { λ r. ⌜ JoinBars (sheetIn (now (w .entry))) (scheduleIn (now (w .entry))) t r ⌝ }
+{
+    match rival {
+        Found::Nothing => 16,
+        Found::At(u) => join_bars_for(w, kept, t, starts, u),
     }
 }
 
@@ -258,7 +296,7 @@ fn guard_of(w: &[u32], kept: &[u32], q: &[u64], t: usize, starts: Starts) -> usi
 fn join_key(w: &[u32], kept: &[u32], t: usize, bars: usize, a: usize, k: usize, x: usize) -> usize
     requires { ⌜ Choosing (now w) (now kept) t ⌝ }
     requires { ⌜ (a ≡ arrival (sheetIn (now w)) (scheduleIn (now w)) t) × (k < 16) × (holdsPredecessor (sheetIn (now w)) (scheduleIn (now w)) t k ≡ true) ⌝ }
-    requires { ⌜ Bars (sheetIn (now w)) (scheduleIn (now w)) t bars × (x ≡ startOn (sheetIn (now w)) (scheduleIn (now w)) t k) × (x < 4294967296) ⌝ }
+    requires { ⌜ JoinBars (sheetIn (now w)) (scheduleIn (now w)) t bars × (x ≡ startOn (sheetIn (now w)) (scheduleIn (now w)) t k) × (x < 4294967296) ⌝ }
     ensures { λ r. ⌜ r ≡ joinKey (sheetIn (now (w .entry))) (scheduleIn (now (w .entry))) t k ⌝ }
 {
     let early = are_both(k != bars, x < a);
@@ -269,7 +307,7 @@ fn join_key(w: &[u32], kept: &[u32], t: usize, bars: usize, a: usize, k: usize, 
 fn join_on(w: &[u32], kept: &[u32], t: usize, starts: Starts, bars: usize, a: usize) -> Found
     requires { ⌜ Choosing (now w) (now kept) t × Started (now w) t starts ⌝ }
     requires { ⌜ a ≡ arrival (sheetIn (now w)) (scheduleIn (now w)) t ⌝ }
-    requires { ⌜ Bars (sheetIn (now w)) (scheduleIn (now w)) t bars ⌝ }
+    requires { ⌜ JoinBars (sheetIn (now w)) (scheduleIn (now w)) t bars ⌝ }
     ensures { λ r. ⌜ (foundOf r ≡ join (sheetIn (now (w .entry))) (barred (sheetIn (now (w .entry)))) (scheduleIn (now (w .entry))) t) × Below 16 r ⌝ }
 {
     let n = workspace::word(kept, t);
@@ -359,16 +397,51 @@ fn idle_on(w: &[u32], kept: &[u32], t: usize, a: usize) -> Found
     Found::Nothing
 }
 
-// Step 3: the next processor.
-fn another_one(w: &[u32], kept: &[u32], t: usize) -> Found
+// Step 3 would open a processor.
+fn may_open(w: &[u32], kept: &[u32], t: usize) -> bool
     requires { ⌜ Choosing (now w) (now kept) t ⌝ }
-    ensures { λ r. ⌜ (foundOf r ≡ another (sheetIn (now (w .entry))) (barred (sheetIn (now (w .entry)))) (scheduleIn (now (w .entry))) t) × Below 16 r ⌝ }
+    ensures { λ r. ⌜ r ≡ opens (sheetIn (now (w .entry))) (barred (sheetIn (now (w .entry)))) (scheduleIn (now (w .entry))) t ⌝ }
 {
     let n = schedule::opened(w);
     if n < tables::processors(w) {
-        if fits_on(w, kept, t, n) {
-            return Found::At(n);
+        return fits_on(w, kept, t, n);
+    }
+    false
+}
+
+// The open processor k may be taken where step 3 would open one; a is t's arrival, x its start on k, and the guard bars one processor.
+fn may_share_on(
+    w: &[u32],
+    kept: &[u32],
+    t: usize,
+    bars: usize,
+    a: usize,
+    k: usize,
+    x: usize,
+) -> bool
+    requires { ⌜ Choosing (now w) (now kept) t ⌝ }
+    requires { ⌜ (a ≡ arrival (sheetIn (now w)) (scheduleIn (now w)) t) × (k < 16) ⌝ }
+    requires { ⌜ Bars (sheetIn (now w)) (scheduleIn (now w)) t bars × (x ≡ startOn (sheetIn (now w)) (scheduleIn (now w)) t k) ⌝ }
+    ensures { λ r. ⌜ r ≡ mayShare (sheetIn (now (w .entry))) (barred (sheetIn (now (w .entry)))) (scheduleIn (now (w .entry))) t k ⌝ }
+{
+    let early = are_both(k != bars, x <= a);
+    are_both(fits_on(w, kept, t, k), early)
+}
+
+// Between steps 2 and 3: the lowest numbered open processor that starts t by its arrival.
+fn share_on(w: &[u32], kept: &[u32], t: usize, starts: Starts, bars: usize, a: usize) -> Found
+    requires { ⌜ Choosing (now w) (now kept) t × Started (now w) t starts ⌝ }
+    requires { ⌜ a ≡ arrival (sheetIn (now w)) (scheduleIn (now w)) t ⌝ }
+    requires { ⌜ Bars (sheetIn (now w)) (scheduleIn (now w)) t bars ⌝ }
+    ensures { λ r. ⌜ (foundOf r ≡ first (scheduleIn (now (w .entry)) .opened) (mayShare (sheetIn (now (w .entry))) (barred (sheetIn (now (w .entry)))) (scheduleIn (now (w .entry))) t)) × Below 16 r ⌝ }
+{
+    let n = schedule::opened(w);
+    let mut k: usize = 0;
+    while k < n {
+        if may_share_on(w, kept, t, bars, a, k, workspace::wide(starts.at[k])) {
+            return Found::At(k);
         }
+        k += 1;
     }
     Found::Nothing
 }
@@ -389,19 +462,45 @@ fn last_on(w: &[u32], kept: &[u32], t: usize, starts: Starts) -> Found
     processor_of(best)
 }
 
-// Steps 2 to 4, where nothing is joined.
-fn without_join(w: &[u32], kept: &[u32], t: usize, starts: Starts, a: usize) -> Found
+// Where step 3 would open a processor: an open one that starts t as early, or else the next.
+fn share_or_open(w: &[u32], kept: &[u32], t: usize, starts: Starts, rival: Found, a: usize) -> Found
     requires { ⌜ Choosing (now w) (now kept) t × Started (now w) t starts ⌝ }
     requires { ⌜ a ≡ arrival (sheetIn (now w)) (scheduleIn (now w)) t ⌝ }
+    requires { ⌜ Rival (sheetIn (now w)) (scheduleIn (now w)) t (foundOf rival) × Below (taskCount (sheetIn (now w))) rival ⌝ }
+    requires { ⌜ true ≡ opens (sheetIn (now w)) (barred (sheetIn (now w))) (scheduleIn (now w)) t ⌝ }
+    ensures { λ r. ⌜ (foundOf r ≡ orElse (share (sheetIn (now (w .entry))) (barred (sheetIn (now (w .entry)))) (scheduleIn (now (w .entry))) t) (another (sheetIn (now (w .entry))) (barred (sheetIn (now (w .entry)))) (scheduleIn (now (w .entry))) t)) × Below 16 r ⌝ }
+{
+    let bars = bars_of(w, kept, t, starts, rival);
+    match share_on(w, kept, t, starts, bars, a) {
+        Found::At(k) => Found::At(k),
+        Found::Nothing => Found::At(schedule::opened(w)),
+    }
+}
+
+// Steps 3 and 4, and the one before them, where steps 1 and 2 give none.
+fn without_idle(w: &[u32], kept: &[u32], t: usize, starts: Starts, rival: Found, a: usize) -> Found
+    requires { ⌜ Choosing (now w) (now kept) t × Started (now w) t starts ⌝ }
+    requires { ⌜ a ≡ arrival (sheetIn (now w)) (scheduleIn (now w)) t ⌝ }
+    requires { ⌜ Rival (sheetIn (now w)) (scheduleIn (now w)) t (foundOf rival) × Below (taskCount (sheetIn (now w))) rival ⌝ }
+    ensures { λ r. ⌜ (foundOf r ≡ orElse (share (sheetIn (now (w .entry))) (barred (sheetIn (now (w .entry)))) (scheduleIn (now (w .entry))) t) (orElse (another (sheetIn (now (w .entry))) (barred (sheetIn (now (w .entry)))) (scheduleIn (now (w .entry))) t) (lastResort (sheetIn (now (w .entry))) (barred (sheetIn (now (w .entry)))) (scheduleIn (now (w .entry))) t))) × Below 16 r ⌝ }
+{
+    if may_open(w, kept, t) {
+        return share_or_open(w, kept, t, starts, rival, a);
+    }
+    last_on(w, kept, t, starts)
+}
+
+// Steps 2 to 4, where nothing is joined.
+fn without_join(w: &[u32], kept: &[u32], t: usize, starts: Starts, rival: Found, a: usize) -> Found
+    requires { ⌜ Choosing (now w) (now kept) t × Started (now w) t starts ⌝ }
+    requires { ⌜ a ≡ arrival (sheetIn (now w)) (scheduleIn (now w)) t ⌝ }
+    requires { ⌜ Rival (sheetIn (now w)) (scheduleIn (now w)) t (foundOf rival) × Below (taskCount (sheetIn (now w))) rival ⌝ }
     requires { ⌜ none ≡ join (sheetIn (now w)) (barred (sheetIn (now w))) (scheduleIn (now w)) t ⌝ }
-    ensures { λ r. ⌜ (foundOf r ≡ choice (sheetIn (now (w .entry))) (barred (sheetIn (now (w .entry)))) (scheduleIn (now (w .entry))) t) × Below 16 r ⌝ }
+    ensures { λ r. ⌜ (foundOf r ≡ choice (sheetIn (now (w .entry))) (barred (sheetIn (now (w .entry)))) true (scheduleIn (now (w .entry))) t) × Below 16 r ⌝ }
 {
     match idle_on(w, kept, t, a) {
         Found::At(k) => Found::At(k),
-        Found::Nothing => match another_one(w, kept, t) {
-            Found::At(k) => Found::At(k),
-            Found::Nothing => last_on(w, kept, t, starts),
-        },
+        Found::Nothing => without_idle(w, kept, t, starts, rival, a),
     }
 }
 
@@ -409,12 +508,13 @@ fn without_join(w: &[u32], kept: &[u32], t: usize, starts: Starts, a: usize) -> 
 pub fn choice_of(w: &[u32], kept: &[u32], q: &[u64], t: usize, starts: Starts) -> Found
     requires { ⌜ Choosing (now w) (now kept) t × Started (now w) t starts ⌝ }
     requires { ⌜ Keyed (sheetIn (now w)) (scheduleIn (now w)) (now q) ⌝ }
-    ensures { λ r. ⌜ (foundOf r ≡ choice (sheetIn (now (w .entry))) (barred (sheetIn (now (w .entry)))) (scheduleIn (now (w .entry))) t) × Below 16 r ⌝ }
+    ensures { λ r. ⌜ (foundOf r ≡ choice (sheetIn (now (w .entry))) (barred (sheetIn (now (w .entry)))) true (scheduleIn (now (w .entry))) t) × Below 16 r ⌝ }
 {
     let a = readiness::arrival_of(w, kept, t);
-    let bars = guard_of(w, kept, q, t, starts);
+    let rival = rival_of(w, kept, q, t);
+    let bars = join_bars_of(w, kept, t, starts, rival);
     match join_on(w, kept, t, starts, bars, a) {
         Found::At(k) => Found::At(k),
-        Found::Nothing => without_join(w, kept, t, starts, a),
+        Found::Nothing => without_join(w, kept, t, starts, rival, a),
     }
 }

@@ -1,5 +1,6 @@
 -- From the bytes of a sheet to its plan: refused, without a schedule, or written.
 use Prim.Native.Nat.{ℕ, zero, suc, _<_}
+use mathlib.Core.Bool.{true}
 use mathlib.Core.Path.{_≡_, refl, sym, ap, subst, _∙_}
 use mathlib.Core.List.{List, [], _∷_}
 use native.Mathlib.Omega.{arith}
@@ -58,7 +59,7 @@ tally-sum u (t ∷ ts) = omega (arith, tally-sum u ts, sum-front (length ts) (λ
 module _ (s : Sheet) (p : Proper s) (φ : Schedule) (e : planned s ≡ value φ) where
   whole : Completed s (empty s) φ
   unfolding planned
-  whole = planned-build s p (barred s) φ e
+  whole = planned-build s p (barred s) true φ e
 
   done : Plan s (empty s) φ (whole .0)
   done = plan-of s p (empty-fair s p) (whole .1)

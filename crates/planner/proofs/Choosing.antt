@@ -7,12 +7,13 @@ use mathlib.Core.Path.{_≡_, refl, sym, ap, _∙_}
 use mathlib.Core.Logic.{_⊎_, inl, inr, ⊎-elim}
 use lib.Dec.{ltb}
 use borrow.Author.Tests.{ltb-true}
-use Rattle.folds.specs.Folds.{pick, both, leading, least, prefer, orElse}
+use Rattle.folds.specs.Folds.{pick, both, first, leading, least, prefer, orElse}
 use Rattle.folds.proofs.Tests.{below-suc, both-parts, not-some}
+use Rattle.folds.proofs.Laws.{first-some}
 use Rattle.sheet.specs.Sheet.{Sheet}
 use Rattle.planner.specs.Schedule.{Schedule}
 use Rattle.planner.specs.Placing.{fits, holdsPredecessor}
-use Rattle.planner.specs.Planner.{mayJoin, join, mayTake, idle, another, lastResort, choice}
+use Rattle.planner.specs.Planner.{mayJoin, join, mayTake, idle, opens, mayShare, share, another, lastResort, choice}
 
 pick-or : {A : Type 0} (b : Bool) (x y z : A) → pick b x y ≡ z → (x ≡ z) ⊎ (y ≡ z)
 pick-or true x y z e = inl e
@@ -57,23 +58,37 @@ module _ (s : Sheet) (guard : Schedule → ℕ → ℕ → Bool) (σ : Schedule)
   an-open : (p : ℕ → Bool) (a : ℕ → ℕ → Bool) → σ .opened ≤ s .processors → (p k ≡ true → fits s σ t k ≡ true) → leading (σ .opened) p a ≡ some k → Room s σ t k
   an-open p a h f e = let m = leading-some (σ .opened) p a k e in record { next = omega arith; board = omega arith; fit = f (m .1) }
 
+  opens-room : opens s guard σ t ≡ true → Room s σ t (σ .opened)
+  unfolding opens
+  opens-room q =
+      let m = both-parts (ltb (σ .opened) (s .processors)) _ q in
+      record { next = omega arith; board = ltb-true (σ .opened) (s .processors) (m .0); fit = m .1 }
+
   next-open : another s guard σ t ≡ some k → Room s σ t k
   unfolding another
-  next-open e = go (both (ltb (σ .opened) (s .processors)) (fits s σ t (σ .opened))) refl e
+  next-open e = go (opens s guard σ t) refl e
     where
-      go : (b : Bool) → both (ltb (σ .opened) (s .processors)) (fits s σ t (σ .opened)) ≡ b → pick b (some (σ .opened)) none ≡ some k → Room s σ t k
-      go true q f =
-          let z : σ .opened ≡ k = cc in
-          let m = both-parts (ltb (σ .opened) (s .processors)) _ q in
-          rw (← z) record { next = omega arith; board = ltb-true (σ .opened) (s .processors) (m .0); fit = m .1 }
+      go : (b : Bool) → opens s guard σ t ≡ b → pick b (some (σ .opened)) none ≡ some k → Room s σ t k
+      go true q f = let z : σ .opened ≡ k = cc in rw (← z) (opens-room q)
       go false q f = not-some f
 
-  pub chosen : σ .opened ≤ s .processors → choice s guard σ t ≡ some k → Room s σ t k
+  shared-open : (amended : Bool) → σ .opened ≤ s .processors → pick amended (share s guard σ t) none ≡ some k → Room s σ t k
+  unfolding share mayShare
+  shared-open false h e = not-some e
+  shared-open true h e = go (opens s guard σ t) e
+    where
+      go : (b : Bool) → pick b (first (σ .opened) (mayShare s guard σ t)) none ≡ some k → Room s σ t k
+      go true f = let m = first-some (σ .opened) (mayShare s guard σ t) k f in record { next = omega arith; board = omega arith; fit = both-parts (fits s σ t k) _ (m .1) .0 }
+      go false f = not-some f
+
+  pub chosen : (amended : Bool) → σ .opened ≤ s .processors → choice s guard amended σ t ≡ some k → Room s σ t k
   unfolding choice join idle lastResort least mayJoin mayTake
-  chosen h e =
+  chosen amended h e =
       ⊎-elim (an-open (mayJoin s guard σ t) _ h (λ m. both-parts (holdsPredecessor s σ t k) _ (both-parts (both (holdsPredecessor s σ t k) (fits s σ t k)) _ m .0) .1))
       (λ q. ⊎-elim (an-open (mayTake s guard σ t) _ h (λ m. both-parts (fits s σ t k) _ m .0))
+      (λ q. ⊎-elim (shared-open amended h)
       (λ q. ⊎-elim next-open (an-open (fits s σ t) _ h (λ m. m))
       (orElse-some (another s guard σ t) (lastResort s guard σ t) k q))
-      (orElse-some (idle s guard σ t) (orElse (another s guard σ t) (lastResort s guard σ t)) k q))
-      (orElse-some (join s guard σ t) (orElse (idle s guard σ t) (orElse (another s guard σ t) (lastResort s guard σ t))) k e)
+      (orElse-some (pick amended (share s guard σ t) none) (orElse (another s guard σ t) (lastResort s guard σ t)) k q))
+      (orElse-some (idle s guard σ t) (orElse (pick amended (share s guard σ t) none) (orElse (another s guard σ t) (lastResort s guard σ t))) k q))
+      (orElse-some (join s guard σ t) (orElse (idle s guard σ t) (orElse (pick amended (share s guard σ t) none) (orElse (another s guard σ t) (lastResort s guard σ t)))) k e)

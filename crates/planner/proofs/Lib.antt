@@ -4,3 +4,4 @@ pub mod Choosing
 pub mod Schedules
 pub mod Times
 pub mod Finishes
+pub mod Amending

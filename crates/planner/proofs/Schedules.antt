@@ -150,10 +150,10 @@ module _ (s : Sheet) (proper : Proper s) where
       }
 
   -- the turns place every task
-  abbrev missing : Schedule → ℕ → ℕ
+  abbrev pub missing : Schedule → ℕ → ℕ
   missing σ u = pick (placed σ u) 0 1
 
-  abbrev unplaced : Schedule → ℕ
+  abbrev pub unplaced : Schedule → ℕ
   unplaced σ = sum (taskCount s) (missing σ)
 
   none-missing : (σ : Schedule) → unplaced σ ≡ 0 → Whole s σ
@@ -163,7 +163,7 @@ module _ (s : Sheet) (proper : Proper s) where
       go true q = q
       go false q = absurd (omega (arith, term-le-sum (taskCount s) (missing σ) u l, ap (λ x. pick {X = ℕ} x 0 1) q))
 
-  one-less : {σ : Schedule} {t k : ℕ} → Fair s σ → Placing s σ t k → unplaced (place s σ t k) + 1 ≡ unplaced σ
+  pub one-less : {σ : Schedule} {t k : ℕ} → Fair s σ → Placing s σ t k → unplaced (place s σ t k) + 1 ≡ unplaced σ
   one-less {σ} {t} {k} f p =
       omega (
         arith,
@@ -172,24 +172,24 @@ module _ (s : Sheet) (proper : Proper s) where
         ap (λ x. pick {X = ℕ} x 0 1) (placed-same s proper f p),
       )
 
-  module _ (guard : Schedule → ℕ → ℕ → Bool) where
-    turns-build : (n : ℕ) (σ φ : Schedule) → Fair s σ → unplaced σ ≤ n → turns s guard n σ ≡ value φ → Completed s σ φ
+  module _ (guard : Schedule → ℕ → ℕ → Bool) (amended : Bool) where
+    pub turns-build : (n : ℕ) (σ φ : Schedule) → Fair s σ → unplaced σ ≤ n → turns s guard amended n σ ≡ value φ → Completed s σ φ
     unfolding turns turn firstReady
     turns-build zero σ φ f h e = let z : σ ≡ φ = cc in subst (Completed s σ) z ([], built, none-missing σ (omega arith))
     turns-build (suc n) σ φ f h e = go (firstReady s σ) refl e (turns-build n)
       where
-        go : (o : Option ℕ) → firstReady s σ ≡ o → andThen (placeTask s guard σ o) (turns s guard n) ≡ value φ
-            → ((τ ψ : Schedule) → Fair s τ → unplaced τ ≤ n → turns s guard n τ ≡ value ψ → Completed s τ ψ) → Completed s σ φ
+        go : (o : Option ℕ) → firstReady s σ ≡ o → andThen (placeTask s guard amended σ o) (turns s guard amended n) ≡ value φ
+            → ((τ ψ : Schedule) → Fair s τ → unplaced τ ≤ n → turns s guard amended n τ ≡ value ψ → Completed s τ ψ) → Completed s σ φ
         go none q g r =
             let all = all-placed s proper σ (leading-none (taskCount s) (ready s σ) (ahead s σ) q) in
             r σ φ f (omega (arith, sum-zeros (taskCount s) (missing σ) (λ u l. rw (all u l)))) g
-        go (some t) q g r = on (choice s guard σ t) refl g
+        go (some t) q g r = on (choice s guard amended σ t) refl g
           where
-            on : (o : Option ℕ) → choice s guard σ t ≡ o → andThen (placeOn s guard σ t o) (turns s guard n) ≡ value φ → Completed s σ φ
+            on : (o : Option ℕ) → choice s guard amended σ t ≡ o → andThen (placeOn s guard σ t o) (turns s guard amended n) ≡ value φ → Completed s σ φ
             on none c g = not-value g
             on (some k) c g =
                 let m = leading-some (taskCount s) (ready s σ) (ahead s σ) t q in
-                let p : Placing s σ t k = record { below = m .0; isReady = m .1; room = chosen s guard σ t k (f .opened) c } in
+                let p : Placing s σ t k = record { below = m .0; isReady = m .1; room = chosen s guard σ t k amended (f .opened) c } in
                 let i = r (place s σ t k) φ (fair-place s proper f p) (omega (arith, one-less f p)) g in
                 (t ∷ i .0, placing p (i .1), i .2)
 
@@ -221,8 +221,8 @@ module _ (s : Sheet) (proper : Proper s) where
             );
       }
 
-  -- what the planner gives, whatever the guard
-  pub planned-build : (guard : Schedule → ℕ → ℕ → Bool) (φ : Schedule) → plannedBy s guard ≡ value φ → Completed s (empty s) φ
+  -- what the planner gives, whatever the guard, with C-17 and without
+  pub planned-build : (guard : Schedule → ℕ → ℕ → Bool) (amended : Bool) (φ : Schedule) → plannedBy s guard amended ≡ value φ → Completed s (empty s) φ
   unfolding plannedBy
-  planned-build guard φ e =
-      turns-build guard (taskCount s) (empty s) φ empty-fair (omega (arith, sum-le (taskCount s) 1 (missing (empty s)) (λ u l. rw (empty-free u) (omega arith)))) e
+  planned-build guard amended φ e =
+      turns-build guard amended (taskCount s) (empty s) φ empty-fair (omega (arith, sum-le (taskCount s) 1 (missing (empty s)) (λ u l. rw (empty-free u) (omega arith)))) e

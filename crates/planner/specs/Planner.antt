@@ -1,10 +1,10 @@
--- The four placing steps, the turns, and the bundle of a schedule.
+-- The placing steps, the turns, and the bundle of a schedule.
 use Prim.Native.Nat.{ℕ, zero, suc, _+_}
-use mathlib.Core.Bool.{Bool, not}
+use mathlib.Core.Bool.{Bool, true, not}
 use mathlib.Core.Option.{Option, none, some}
 use mathlib.Core.List.{List, [], _∷_, _++_}
 use lib.Dec.{ltb, leb, eqb}
-use Rattle.folds.specs.Folds.{pick, both, greatest, leading, least, listed, gather, orElse}
+use Rattle.folds.specs.Folds.{pick, both, greatest, first, leading, least, listed, gather, orElse}
 use Rattle.folds.specs.Answers.{Answer, value, refused, andThen}
 use Rattle.sheet.specs.Sheet.{Sheet, taskCount, linkCount, workOf, sourceOf, targetOf}
 use Rattle.graph.specs.Graph.{readSheet}
@@ -30,16 +30,25 @@ module _ (s : Sheet) (guard : Schedule → ℕ → ℕ → Bool) where
   unfoldable pub idle : Schedule → ℕ → Option ℕ
   idle σ t = leading (σ .opened) (mayTake σ t) (λ a b. ltb (endOf s σ b) (endOf s σ a))
 
+  -- step 3 would open a processor: "if one is left and t fits it alone"
+  unfoldable pub opens : Schedule → ℕ → Bool
+  opens σ t = both (ltb (σ .opened) (s .processors)) (fits s σ t (σ .opened))
+
+  -- C-17 of document 02: "Where step 3 would open a processor, the lowest numbered open one that fits, isn't barred and starts the task not later than A is
+  -- taken instead"
+  unfoldable pub mayShare : Schedule → ℕ → ℕ → Bool
+  mayShare σ t k = both (fits s σ t k) (both (not (guard σ t k)) (leb (startOn s σ t k) (arrival s σ t)))
+
+  unfoldable pub share : Schedule → ℕ → Option ℕ
+  share σ t = pick (opens σ t) (first (σ .opened) (mayShare σ t)) none
+
   -- 3. "Open the next processor, if one is left and t fits it alone"
   unfoldable pub another : Schedule → ℕ → Option ℕ
-  another σ t = pick (both (ltb (σ .opened) (s .processors)) (fits s σ t (σ .opened))) (some (σ .opened)) none
+  another σ t = pick (opens σ t) (some (σ .opened)) none
 
   -- 4. "Last resort: open k that fit. Least start, then lowest number"
   unfoldable pub lastResort : Schedule → ℕ → Option ℕ
   lastResort σ t = least (σ .opened) (fits s σ t) (startOn s σ t)
-
-  unfoldable pub choice : Schedule → ℕ → Option ℕ
-  choice σ t = orElse (join σ t) (orElse (idle σ t) (orElse (another σ t) (lastResort σ t)))
 
   abbrev pub placedFrom : Schedule → ℕ → ℕ → ℕ → Schedule
   placedFrom σ t k start = put σ t k start (start + workOf s t)
@@ -49,24 +58,29 @@ module _ (s : Sheet) (guard : Schedule → ℕ → ℕ → Bool) where
   placeOn σ t none = refused 11 t
   placeOn σ t (some k) = value (placedFrom σ t k (startOn s σ t k))
 
-  abbrev pub placeTask : Schedule → Option ℕ → Answer Schedule
-  placeTask σ none = value σ
-  placeTask σ (some t) = placeOn σ t (choice σ t)
+  -- Whether C-17 amends the steps is a parameter too: without it they are those of document 01.
+  module _ (amended : Bool) where
+    unfoldable pub choice : Schedule → ℕ → Option ℕ
+    choice σ t = orElse (join σ t) (orElse (idle σ t) (orElse (pick amended (share σ t) none) (orElse (another σ t) (lastResort σ t))))
 
-  -- "Each turn takes the first ready task"
-  unfoldable pub turn : Schedule → Answer Schedule
-  turn σ = placeTask σ (firstReady s σ)
+    abbrev pub placeTask : Schedule → Option ℕ → Answer Schedule
+    placeTask σ none = value σ
+    placeTask σ (some t) = placeOn σ t (choice σ t)
 
-  unfoldable pub turns : ℕ → Schedule → Answer Schedule
-  turns zero σ = value σ
-  turns (suc n) σ = andThen (turn σ) (turns n)
+    -- "Each turn takes the first ready task"
+    unfoldable pub turn : Schedule → Answer Schedule
+    turn σ = placeTask σ (firstReady s σ)
 
-  unfoldable pub plannedBy : Answer Schedule
-  plannedBy = turns (taskCount s) (empty s)
+    unfoldable pub turns : ℕ → Schedule → Answer Schedule
+    turns zero σ = value σ
+    turns (suc n) σ = andThen (turn σ) (turns n)
+
+    unfoldable pub plannedBy : Answer Schedule
+    plannedBy = turns (taskCount s) (empty s)
 
 -- the schedule of a sheet, or 11
 unfoldable pub planned : Sheet → Answer Schedule
-planned s = plannedBy s (barred s)
+planned s = plannedBy s (barred s) true
 
 module _ (s : Sheet) where
   -- link l brings a message to t on k, and takes one from t on k

@@ -6,6 +6,7 @@ use crate::LASTS;
 use crate::LINKS;
 use crate::STAMPS;
 use crate::STORES;
+use workspace::total;
 
 // The commands still to do.
 pub fn left(w: &[u32]) -> usize
@@ -14,10 +15,7 @@ pub fn left(w: &[u32]) -> usize
     let mut n = 0;
     let mut k = 0;
     while k < 16 {
-        n += numbers::minus(
-            workspace::total::word(w, LASTS + k),
-            workspace::total::word(w, k),
-        );
+        n += numbers::minus(total::word(w, LASTS + k), total::word(w, k));
         k += 1;
     }
     n
@@ -28,7 +26,7 @@ pub fn clock(w: &[u32], k: usize) -> usize
     ensures { λ r. ⌜ ClockIs (now (w .entry)) k r ⌝ }
 {
     if k < 16 {
-        return workspace::total::word(w, CLOCKS + k);
+        return total::word(w, CLOCKS + k);
     }
     0
 }
@@ -38,10 +36,7 @@ pub fn position(w: &[u32], k: usize) -> usize
     ensures { λ r. ⌜ PositionIs (now (w .entry)) k r ⌝ }
 {
     if k < 16 {
-        return numbers::minus(
-            workspace::total::word(w, k),
-            workspace::total::word(w, FIRSTS + k),
-        );
+        return numbers::minus(total::word(w, k), total::word(w, FIRSTS + k));
     }
     0
 }
@@ -51,7 +46,7 @@ pub fn store(w: &[u32], k: usize) -> usize
     ensures { λ r. ⌜ StoreIs (now (w .entry)) k r ⌝ }
 {
     if k < 16 {
-        return workspace::total::word(w, STORES + k);
+        return total::word(w, STORES + k);
     }
     0
 }
@@ -60,8 +55,8 @@ pub fn store(w: &[u32], k: usize) -> usize
 pub fn stamp(w: &[u32], l: usize) -> usize
     ensures { λ r. ⌜ StampIs (now (w .entry)) l r ⌝ }
 {
-    if l < workspace::total::word(w, LINKS) {
-        return workspace::total::word(w, STAMPS + l);
+    if l < total::word(w, LINKS) {
+        return total::word(w, STAMPS + l);
     }
     0
 }

@@ -122,9 +122,9 @@ module _ {w w₁ : List ℕ} (loaded : Loaded w) (levelled : Levelled (sheetIn w
               placed = omega (arith, r₂ .only .high placedAt (omega arith), e₁ .placed);
             }
 
-    planned-by : {a : Answer Schedule} → a ≡ turns (sheetIn w₂) (barred (sheetIn w₂)) (taskCount (sheetIn w₂)) (scheduleIn w₂) → a ≡ planned s
+    planned-by : {a : Answer Schedule} → a ≡ turns (sheetIn w₂) (barred (sheetIn w₂)) true (taskCount (sheetIn w₂)) (scheduleIn w₂) → a ≡ planned s
     unfolding planned plannedBy
-    planned-by e = e ∙ ap₂ (λ (x : Sheet) (σ : Schedule). turns x (barred x) (taskCount x) σ) sheet₂ schedule₂
+    planned-by e = e ∙ ap₂ (λ (x : Sheet) (σ : Schedule). turns x (barred x) true (taskCount x) σ) sheet₂ schedule₂
 
     -- and after the last
     module _ {w₃ own : List ℕ} {j : ℕ} (g : Going w₂ j w₃ own) (few : j ≤ 256) where
@@ -143,5 +143,5 @@ module _ {w w₁ : List ℕ} (loaded : Loaded w) (levelled : Levelled (sheetIn w
             early = λ t. omega (arith, g .timely .early t);
           }
 
-      pub scheduled : {a : Answer Schedule} → a ≡ turns (sheetIn w₂) (barred (sheetIn w₂)) (taskCount (sheetIn w₂)) (scheduleIn w₂) → (a ≡ planned s) × Afterwards w w₃
+      pub scheduled : {a : Answer Schedule} → a ≡ turns (sheetIn w₂) (barred (sheetIn w₂)) true (taskCount (sheetIn w₂)) (scheduleIn w₂) → (a ≡ planned s) × Afterwards w w₃
       scheduled e = (planned-by e, afterwards)

@@ -65,7 +65,7 @@ fn place_surveyed(
     requires { ⌜ (j < 256) × (t < taskCount (sheetIn (now w))) ⌝ }
     requires { ⌜ (ready (sheetIn (now w)) (scheduleIn (now w)) t ≡ true) × Surveyed (sheetIn (now w)) (scheduleIn (now w)) t (now kept) × Started (now w) t starts ⌝ }
     requires { ⌜ Keyed (sheetIn (now w)) (scheduleIn (now w)) (now q) ⌝ }
-    ensures { λ r. ⌜ (answerOf r (scheduleIn (now (w .exit))) ≡ placeOn (sheetIn (now (w .entry))) (barred (sheetIn (now (w .entry)))) (scheduleIn (now (w .entry))) t (choice (sheetIn (now (w .entry))) (barred (sheetIn (now (w .entry)))) (scheduleIn (now (w .entry))) t)) × Going (now (w .entry)) (j + 1) (now (w .exit)) (now (kept .exit)) × Keyed (sheetIn (now (w .exit))) (scheduleIn (now (w .exit))) (now (q .exit)) ⌝ }
+    ensures { λ r. ⌜ (answerOf r (scheduleIn (now (w .exit))) ≡ placeOn (sheetIn (now (w .entry))) (barred (sheetIn (now (w .entry)))) (scheduleIn (now (w .entry))) t (choice (sheetIn (now (w .entry))) (barred (sheetIn (now (w .entry)))) true (scheduleIn (now (w .entry))) t)) × Going (now (w .entry)) (j + 1) (now (w .exit)) (now (kept .exit)) × Keyed (sheetIn (now (w .exit))) (scheduleIn (now (w .exit))) (now (q .exit)) ⌝ }
 {
     match placing::choice_of(w, kept, q, t, starts) {
         Found::Nothing => Planned::Refused(t),
@@ -83,7 +83,7 @@ fn place_task(w: &mut [u32], kept: &mut [u32], q: &mut [u64], j: usize, t: usize
     requires { ⌜ (j < 256) × (t < taskCount (sheetIn (now w))) ⌝ }
     requires { ⌜ ready (sheetIn (now w)) (scheduleIn (now w)) t ≡ true ⌝ }
     requires { ⌜ Keyed (sheetIn (now w)) (scheduleIn (now w)) (now q) ⌝ }
-    ensures { λ r. ⌜ (answerOf r (scheduleIn (now (w .exit))) ≡ placeOn (sheetIn (now (w .entry))) (barred (sheetIn (now (w .entry)))) (scheduleIn (now (w .entry))) t (choice (sheetIn (now (w .entry))) (barred (sheetIn (now (w .entry)))) (scheduleIn (now (w .entry))) t)) × Going (now (w .entry)) (j + 1) (now (w .exit)) (now (kept .exit)) × Keyed (sheetIn (now (w .exit))) (scheduleIn (now (w .exit))) (now (q .exit)) ⌝ }
+    ensures { λ r. ⌜ (answerOf r (scheduleIn (now (w .exit))) ≡ placeOn (sheetIn (now (w .entry))) (barred (sheetIn (now (w .entry)))) (scheduleIn (now (w .entry))) t (choice (sheetIn (now (w .entry))) (barred (sheetIn (now (w .entry)))) true (scheduleIn (now (w .entry))) t)) × Going (now (w .entry)) (j + 1) (now (w .exit)) (now (kept .exit)) × Keyed (sheetIn (now (w .exit))) (scheduleIn (now (w .exit))) (now (q .exit)) ⌝ }
 {
     let starts = arrivals::survey(w, kept, t);
     place_surveyed(w, kept, q, j, t, starts)
@@ -94,7 +94,7 @@ fn take_turn(w: &mut [u32], kept: &mut [u32], q: &mut [u64], j: usize) -> Planne
     requires { ⌜ Going (now w) j (now w) (now kept) ⌝ }
     requires { ⌜ j < 256 ⌝ }
     requires { ⌜ Keyed (sheetIn (now w)) (scheduleIn (now w)) (now q) ⌝ }
-    ensures { λ r. ⌜ (answerOf r (scheduleIn (now (w .exit))) ≡ turn (sheetIn (now (w .entry))) (barred (sheetIn (now (w .entry)))) (scheduleIn (now (w .entry)))) × Going (now (w .entry)) (j + 1) (now (w .exit)) (now (kept .exit)) × Keyed (sheetIn (now (w .exit))) (scheduleIn (now (w .exit))) (now (q .exit)) ⌝ }
+    ensures { λ r. ⌜ (answerOf r (scheduleIn (now (w .exit))) ≡ turn (sheetIn (now (w .entry))) (barred (sheetIn (now (w .entry)))) true (scheduleIn (now (w .entry)))) × Going (now (w .entry)) (j + 1) (now (w .exit)) (now (kept .exit)) × Keyed (sheetIn (now (w .exit))) (scheduleIn (now (w .exit))) (now (q .exit)) ⌝ }
 {
     match readiness::first_ready(w, kept, q) {
         Found::Nothing => Planned::Done,
@@ -106,7 +106,7 @@ fn take_turn(w: &mut [u32], kept: &mut [u32], q: &mut [u64], j: usize) -> Planne
 fn take_each(w: &mut [u32], kept: &mut [u32], q: &mut [u64]) -> Planned
     requires { ⌜ Going (now w) 0 (now w) (now kept) ⌝ }
     requires { ⌜ Keyed (sheetIn (now w)) (scheduleIn (now w)) (now q) ⌝ }
-    ensures { λ r. ⌜ (answerOf r (scheduleIn (now (w .exit))) ≡ turns (sheetIn (now (w .entry))) (barred (sheetIn (now (w .entry)))) (taskCount (sheetIn (now (w .entry)))) (scheduleIn (now (w .entry)))) × Going (now (w .entry)) 256 (now (w .exit)) (now (kept .exit)) ⌝ }
+    ensures { λ r. ⌜ (answerOf r (scheduleIn (now (w .exit))) ≡ turns (sheetIn (now (w .entry))) (barred (sheetIn (now (w .entry)))) true (taskCount (sheetIn (now (w .entry)))) (scheduleIn (now (w .entry)))) × Going (now (w .entry)) 256 (now (w .exit)) (now (kept .exit)) ⌝ }
 {
     let n = tables::tasks(w);
     let mut j: usize = 0;
@@ -126,7 +126,7 @@ fn take_each(w: &mut [u32], kept: &mut [u32], q: &mut [u64]) -> Planned
 // All turns, by the keys of who goes first.
 fn take_turns(w: &mut [u32], kept: &mut [u32]) -> Planned
     requires { ⌜ Going (now w) 0 (now w) (now kept) ⌝ }
-    ensures { λ r. ⌜ (answerOf r (scheduleIn (now (w .exit))) ≡ turns (sheetIn (now (w .entry))) (barred (sheetIn (now (w .entry)))) (taskCount (sheetIn (now (w .entry)))) (scheduleIn (now (w .entry)))) × Going (now (w .entry)) 256 (now (w .exit)) (now (kept .exit)) ⌝ }
+    ensures { λ r. ⌜ (answerOf r (scheduleIn (now (w .exit))) ≡ turns (sheetIn (now (w .entry))) (barred (sheetIn (now (w .entry)))) true (taskCount (sheetIn (now (w .entry)))) (scheduleIn (now (w .entry)))) × Going (now (w .entry)) 256 (now (w .exit)) (now (kept .exit)) ⌝ }
 {
     let mut keys = [0u64; 544];
     readiness::begin(w, kept, &mut keys);

@@ -104,8 +104,8 @@ impl Rules for Fast {
     fn plan(sheet: &[u8], tally: &mut Tally) -> (Answered<Vec<u8>>, Vec<u8>) {
         let sheet = Sheet::read(sheet);
         let plan = match &sheet {
-            Ok(sheet) => plan_with(sheet, |Turn { step, barred, .. }| {
-                tally.count_turn(step as usize, barred)
+            Ok(sheet) => plan_with(sheet, |Turn { step, join_barred, share_barred, .. }| {
+                tally.count_turn(step as usize, [join_barred, share_barred])
             }),
             Err(refusal) => Err(*refusal),
         };
@@ -204,7 +204,7 @@ impl Rules for Literal {
 
     fn plan(sheet: &[u8], tally: &mut Tally) -> (Answered<Vec<u8>>, Vec<u8>) {
         for placed in literal::interface::placed(sheet).iter().flatten() {
-            tally.count_turn(placed.step - 1, placed.guarded);
+            tally.count_turn(placed.step as usize, [placed.join_guarded, placed.share_guarded]);
         }
         (literal::interface::plan(sheet), literal::interface::listing(sheet))
     }

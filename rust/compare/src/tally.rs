@@ -86,9 +86,11 @@ impl Function {
 const GREATEST: u8 = 33;
 const NUMBERS: std::ops::RangeInclusive<u8> = 0..=GREATEST;
 
-/// The rules that give a task its processor: the four steps, and the guard where it bars the
-/// processor that the task would have joined.
-const RULES: [&str; 5] = ["join", "idle", "open", "last resort", "the guard"];
+/// The rules that give a task its processor: the steps, and the guard where it bars the processor that
+/// the task would have joined or shared.
+const STEPS: usize = 5;
+const RULES: [&str; STEPS + 2] =
+    ["join", "idle", "share", "open", "last resort", "the guard at join", "the guard at share"];
 
 /// The counts of answers, by function and number, and of turns by the rule that decided.
 #[derive(Clone)]
@@ -109,10 +111,12 @@ impl Tally {
         self.counts[function as usize][usize::from(number)] += 1;
     }
 
-    /// Counts a turn of the planner by the step that decided, from 0, and whether the guard did.
-    pub fn count_turn(&mut self, step: usize, barred: bool) {
+    /// Counts a turn of the planner by the step that decided, from 0, and whether the guard did at join
+    /// and at share.
+    pub fn count_turn(&mut self, step: usize, guarded: [bool; 2]) {
         self.rules[step] += 1;
-        self.rules[4] += usize::from(barred);
+        let guard = self.rules[STEPS..].iter_mut();
+        guard.zip(guarded).for_each(|(count, guarded)| *count += usize::from(guarded));
     }
 
     /// Adds another tally's counts.

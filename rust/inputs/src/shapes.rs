@@ -22,16 +22,19 @@ pub enum Largest {
     NearNeighbours,
     /// As random, with little more store than all tasks need, evenly spread.
     TightStore,
+    /// As near neighbours, with three links of four free: half of the tasks share a processor.
+    FreeLinks,
 }
 
 /// Every shape of the largest sheet.
-pub const LARGEST: [Largest; 6] = [
+pub const LARGEST: [Largest; 7] = [
     Largest::Random,
     Largest::Layered,
     Largest::ForkAndJoin,
     Largest::Chains,
     Largest::NearNeighbours,
     Largest::TightStore,
+    Largest::FreeLinks,
 ];
 
 impl Largest {
@@ -44,6 +47,7 @@ impl Largest {
             Largest::Chains => "chains",
             Largest::NearNeighbours => "near neighbours",
             Largest::TightStore => "tight store",
+            Largest::FreeLinks => "free links",
         }
     }
 
@@ -52,6 +56,7 @@ impl Largest {
         let pairs = match self {
             Largest::Random => return any_links(random, MOST_TASKS, MOST_LINKS, 16),
             Largest::TightStore => return tight_store(random),
+            Largest::FreeLinks => return free_links(random),
             Largest::Layered => up_to(random, MOST_LINKS, Vec::new(), next_layer),
             Largest::ForkAndJoin => up_to(random, MOST_LINKS, forks_and_joins(), next_stage),
             Largest::Chains => up_to(random, MOST_LINKS, chains(), later_in_another),
@@ -68,6 +73,14 @@ fn tight_store(random: &mut Random) -> Sheet {
         values.iter().skip(first).step_by(width).map(|&value| u32::from(value)).sum()
     };
     sheet.limit = (sum(&sheet.tasks, 1, 2) + sum(&sheet.links, 3, 4)) / 16 * 21 / 20;
+    sheet
+}
+
+/// A sheet with links to near neighbours, of which three in four cost nothing.
+fn free_links(random: &mut Random) -> Sheet {
+    let mut sheet = weighed(random, 16, MOST_TASKS, &near_neighbours());
+    let costs = sheet.links.iter_mut().skip(2).step_by(4);
+    costs.for_each(|cost| *cost *= u16::from(random.once_in(4)));
     sheet
 }
 

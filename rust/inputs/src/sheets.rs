@@ -157,10 +157,39 @@ fn guarded_of(random: &mut Random, tasks: usize) -> Sheet {
     sheet
 }
 
+/// A valid sheet of at most this many tasks, in which many links are free, so that a task often starts
+/// on an open processor just when its messages are there: with ties, with the guard, with store enough
+/// or hardly enough, and with processors left or none.
+pub fn sharing(random: &mut Random, most: usize) -> Sheet {
+    let tasks = random.within(2..=most);
+    let mut sheet = match random.below(3) {
+        0 => guarded_of(random, tasks),
+        1 => with_shape(random, tasks, Shape::Layers),
+        _ => with_shape(random, tasks, Shape::Sparse),
+    };
+    let (works, costs) = random.pick(&[(1, 2), (2, 4), (4, 3), (8, 60)]);
+    weigh(random, &mut sheet, works, costs);
+    free_links(random, &mut sheet);
+    sheet.processors = random.within(1..=6) as u8;
+    match random.once_in(3) {
+        true => tighten(random, &mut sheet),
+        false => sheet.limit = u32::MAX,
+    }
+    sheet
+}
+
+/// Makes all links free, or all but about one in two, four or eight.
+pub fn free_links(random: &mut Random, sheet: &mut Sheet) {
+    let paid = random.pick(&[0, 2, 4, 8]);
+    let costs = sheet.links.iter_mut().skip(2).step_by(4);
+    costs.for_each(|cost| *cost *= u16::from(paid > 0 && random.once_in(paid)));
+}
+
 /// A valid sheet of at most eight tasks on at most four processors, with ties, free and dear
 /// messages, and store enough or hardly enough.
 pub fn small_board(random: &mut Random) -> Sheet {
-    let mut sheet = match random.below(4) {
+    let mut sheet = match random.below(5) {
+        4 => sharing(random, 8),
         0 => small(random),
         1 => {
             let tasks = random.within(4..=8);

@@ -7,7 +7,7 @@ use crate::checker;
 use crate::levels;
 use crate::listing::lines;
 use crate::machine::Machine;
-use crate::placing::{place, Placed};
+use crate::placing::{place, Placed, Rules};
 use crate::refusal::{output, Refusal};
 use crate::sheet::Sheet;
 
@@ -86,7 +86,7 @@ pub fn check(sheet: &[u8], bundle: &[u8]) -> Result<(), Refusal> {
 
 /// Where and when each task runs, in placing order.
 pub fn placed(sheet: &[u8]) -> Result<Vec<Placed>, Refusal> {
-    place(&Sheet::read(sheet)?, true)
+    place(&Sheet::read(sheet)?, Rules::WHOLE)
 }
 
 /// The bytes of a plan's bundle.

@@ -1,9 +1,37 @@
-//! Whose turn it is (the second half of "Levels"), and which processor a task gets ("Placing").
+//! Whose turn it is (the second half of "Levels"), and which processor a task gets ("Placing", and C-17
+//! of document 02).
 
 use crate::levels::levels;
 use crate::refusal::Refusal;
 use crate::sheet::Sheet;
 use std::cmp::Reverse;
+
+/// The steps that can give a task its processor, in their order; `Share` is the one that C-17 puts
+/// before step 3.
+#[derive(Clone, Copy, Debug, PartialEq, Eq)]
+pub enum Step {
+    Join,
+    Idle,
+    Share,
+    Open,
+    LastResort,
+}
+
+/// What can be left out of the rules, to see what it changes.
+#[derive(Clone, Copy, Debug, PartialEq, Eq)]
+pub struct Rules {
+    /// Whether the guard may apply: K3 also tells what comes of it without.
+    pub guard: bool,
+    /// Whether C-17 amends the steps: without it they are those of document 01.
+    pub amended: bool,
+}
+
+impl Rules {
+    /// All of them.
+    pub const WHOLE: Rules = Rules { guard: true, amended: true };
+    /// The four steps of document 01.
+    pub const BEFORE: Rules = Rules { guard: true, amended: false };
+}
 
 /// A placed task.
 #[derive(Clone, Copy, Debug, PartialEq, Eq)]
@@ -12,24 +40,37 @@ pub struct Placed {
     pub processor: usize,
     pub start: u64,
     pub finish: u64,
-    /// The step that gave the processor, from 1, and whether the guard changed what step 1 gives.
-    pub step: usize,
-    pub guarded: bool,
+    /// The step that gave the processor.
+    pub step: Step,
+    /// Whether the guard changed what step 1 gives, and what the amended step gives where it was tried.
+    pub join_guarded: bool,
+    pub share_guarded: bool,
+    /// "step 3 was used [..] while such a processor existed".
+    pub opened_in_vain: bool,
 }
 
 /// All tasks in placing order, or the task that gets no processor.
-pub fn place(sheet: &Sheet, guard: bool) -> Result<Vec<Placed>, Refusal> {
-    place_by(sheet, &levels(sheet), guard)
+pub fn place(sheet: &Sheet, rules: Rules) -> Result<Vec<Placed>, Refusal> {
+    place_by(sheet, &levels(sheet), rules)
 }
 
-/// The same by levels that are known: "Each turn takes the first ready task t." "With none, the
-/// plan is refused (11)", with "that task". K3 also tells what comes of it without the guard.
-pub fn place_by(sheet: &Sheet, levels: &[u64], guard: bool) -> Result<Vec<Placed>, Refusal> {
-    let mut board = Board { sheet, levels, guard, placed: Vec::new() };
+/// The same by levels that are known.
+pub fn place_by(sheet: &Sheet, levels: &[u64], rules: Rules) -> Result<Vec<Placed>, Refusal> {
+    let (placed, outcome) = turns(sheet, levels, rules);
+    outcome.map(|()| placed)
+}
+
+/// The tasks that got a processor, in placing order, and the refusal behind them if there is one:
+/// "Each turn takes the first ready task t." "With none, the plan is refused (11)", with "that task".
+pub fn turns(sheet: &Sheet, levels: &[u64], rules: Rules) -> (Vec<Placed>, Result<(), Refusal>) {
+    let mut board = Board { sheet, levels, rules, placed: Vec::new() };
     while let Some(t) = board.first(|task| board.ready(task)) {
-        board.placed.push(board.choose(t).ok_or(Refusal::new(11, t))?);
+        match board.choose(t) {
+            Some(placed) => board.placed.push(placed),
+            None => return (board.placed, Err(Refusal::new(11, t))),
+        }
     }
-    Ok(board.placed)
+    (board.placed, Ok(()))
 }
 
 /// The placed tasks, and nothing that can be found out from them.
@@ -37,15 +78,22 @@ pub fn place_by(sheet: &Sheet, levels: &[u64], guard: bool) -> Result<Vec<Placed
 struct Board<'a> {
     sheet: &'a Sheet,
     levels: &'a [u64],
-    /// Whether the guard may apply.
-    guard: bool,
+    rules: Rules,
     placed: Vec<Placed>,
 }
 
-impl Board<'_> {
-    /// The four steps, in their order: the processor for t, if the step has one.
-    const STEPS: [fn(&Self, usize) -> Option<usize>; 4] =
-        [Self::join, Self::idle, Self::open_next, Self::last_resort];
+/// A step: the processor that it has for t, if any.
+type Giving<'a> = fn(&Board<'a>, usize) -> Option<usize>;
+
+impl<'a> Board<'a> {
+    /// The steps, in their order.
+    const STEPS: [(Step, Giving<'a>); 5] = [
+        (Step::Join, Self::join),
+        (Step::Idle, Self::idle),
+        (Step::Share, Self::share),
+        (Step::Open, Self::open_next),
+        (Step::LastResort, Self::last_resort),
+    ];
 
     fn find(&self, task: usize) -> Option<&Placed> {
         self.placed.iter().find(|placed| placed.task == task)
@@ -123,13 +171,22 @@ impl Board<'_> {
         times.max().unwrap_or(0).max(self.end(k))
     }
 
-    /// The board with t put on k: "Tasks go after k's last task, never into a gap."
+    /// The board with t put on k: "Tasks go after k's last task, never into a gap." Which step gave k,
+    /// `choose` tells.
     fn with(&self, t: usize, k: usize) -> Self {
         let start = self.start(t, k);
         let finish = start + self.sheet.tasks[t].work;
-        let placed = Placed { task: t, processor: k, start, finish, step: 0, guarded: false };
         let mut board = self.clone();
-        board.placed.push(placed);
+        board.placed.push(Placed {
+            task: t,
+            processor: k,
+            start,
+            finish,
+            step: Step::Join,
+            join_guarded: false,
+            share_guarded: false,
+            opened_in_vain: false,
+        });
         board
     }
 
@@ -158,6 +215,9 @@ impl Board<'_> {
     /// "The guard applies if the first partly ready task u has a strictly higher priority than t."
     /// "k is barred if that best is below u's arrival, and putting t on k would raise that best".
     fn barred(&self, t: usize, k: usize) -> bool {
+        if !self.rules.guard {
+            return false;
+        }
         let Some(u) = self.first(|task| self.partly_ready(task)) else { return false };
         if self.priority(u) <= self.priority(t) {
             return false;
@@ -177,8 +237,8 @@ impl Board<'_> {
         let admissible = self.open().filter(|&k| {
             self.holds_predecessor(t, k)
                 && self.fits(t, k)
+                && !self.barred(t, k)
                 && self.start(t, k) < self.arrival(t)
-                && !(self.guard && self.barred(t, k))
         });
         self.least_start(t, admissible)
     }
@@ -198,6 +258,16 @@ impl Board<'_> {
         idle.max_by_key(|&k| (self.end(k), Reverse(k)))
     }
 
+    /// C-17: "Where step 3 would open a processor, the lowest numbered open one that fits, isn't barred
+    /// and starts the task not later than A is taken instead."
+    fn share(&self, t: usize) -> Option<usize> {
+        self.open_next(t)?;
+        let shared = self.open().filter(|&k| {
+            self.fits(t, k) && !self.barred(t, k) && self.start(t, k) <= self.arrival(t)
+        });
+        shared.min()
+    }
+
     /// "3. Open the next processor, if one is left and t fits it alone."
     fn open_next(&self, t: usize) -> Option<usize> {
         let next = self.open().count();
@@ -211,10 +281,18 @@ impl Board<'_> {
 
     /// The placing of t by the first step that gives a processor.
     fn choose(&self, t: usize) -> Option<Placed> {
-        let steps = Self::STEPS.iter().enumerate();
-        let (step, k) = steps.map(|(i, step)| (i + 1, step(self, t))).find(|(_, k)| k.is_some())?;
-        let unguarded = Board { guard: false, ..self.clone() };
-        let guarded = self.guard && unguarded.join(t) != self.join(t);
-        self.with(t, k?).placed.last().map(|&placed| Placed { step, guarded, ..placed })
+        let steps =
+            Self::STEPS.iter().filter(|(step, _)| self.rules.amended || *step != Step::Share);
+        let (step, k) =
+            steps.map(|(step, give)| (*step, give(self, t))).find(|(_, k)| k.is_some())?;
+        let unguarded = Board { rules: Rules { guard: false, ..self.rules }, ..self.clone() };
+        let shares = self.rules.amended && matches!(step, Step::Share | Step::Open);
+        self.with(t, k?).placed.last().map(|&placed| Placed {
+            step,
+            join_guarded: unguarded.join(t) != self.join(t),
+            share_guarded: shares && unguarded.share(t) != self.share(t),
+            opened_in_vain: step == Step::Open && self.share(t).is_some(),
+            ..placed
+        })
     }
 }

@@ -2,7 +2,7 @@
 
 use literal::interface::{check, levels, listing, placed, plan, read_bundle, read_sheet};
 use literal::interface::{start, write_bundle, write_sheet};
-use literal::placing::place;
+use literal::placing::{place, Rules};
 use literal::sheet::Sheet;
 use literal::Refusal;
 use std::fs;
@@ -46,9 +46,9 @@ fn k2_to_k4() {
     assert_eq!(rows(&example("k2.sheet")), [(3, 0, 0), (0, 0, 2), (1, 0, 3), (2, 0, 6)]);
     let k3 = example("k3.sheet");
     assert!(rows(&k3).contains(&(2, 1, 3)) && rows(&k3).contains(&(0, 2, 0)));
-    assert!(placed(&k3).unwrap().iter().any(|row| row.guarded));
+    assert!(placed(&k3).unwrap().iter().any(|row| row.join_guarded));
     let claim = |guard| {
-        let placed = place(&Sheet::read(&k3).unwrap(), guard).unwrap();
+        let placed = place(&Sheet::read(&k3).unwrap(), Rules { guard, ..Rules::WHOLE }).unwrap();
         placed.iter().map(|row| row.finish).max()
     };
     assert_eq!([claim(true), claim(false)], [Some(6), Some(7)]);

@@ -1,4 +1,4 @@
-//! The planner: places the tasks turn by turn, by the guard and the four steps (11), and writes the bundle.
+//! The planner: places the tasks turn by turn, by the guard and the steps (11), and writes the bundle.
 
 use crate::bundle::write_claim;
 use crate::command_bytes::{CLAIM_LENGTH, OPEN, RECEIVE, RUN, SEND};
@@ -30,11 +30,13 @@ pub struct Plan {
     pub claim: u32,
 }
 
-/// The four steps that can give a task its processor.
+/// The steps that can give a task its processor: the four of document 01, and before `Open` the one
+/// that document 02 puts there (C-17).
 #[derive(Clone, Copy, Debug, PartialEq, Eq)]
 pub enum Step {
     Join,
     Idle,
+    Share,
     Open,
     LastResort,
 }
@@ -44,8 +46,10 @@ pub enum Step {
 pub struct Turn {
     pub step: Step,
     pub processor: usize,
-    /// Whether the guard barred the processor that the task would have joined.
-    pub barred: bool,
+    /// Whether the guard barred the processor that the task would have joined, and the one that it
+    /// would have shared.
+    pub join_barred: bool,
+    pub share_barred: bool,
 }
 
 /// Plans a sheet (11).
@@ -201,13 +205,13 @@ impl<'a> Board<'a> {
         Ok(Plan { placements: self.placements, programmes, claim })
     }
 
-    /// The processor for a ready task, by the four steps, from its start and the need of store on
-    /// each; the next number stands for a fresh one.
+    /// The processor for a ready task, by the steps, from its start and the need of store on each;
+    /// the next number stands for a fresh one.
     fn choose(&self, task: usize, starts: &Row, needs: &Row) -> Option<Turn> {
         let fits = ProcessorSet::with(|k| needs[k] <= self.sheet.limit);
         let open = fits & ProcessorSet::below(self.open);
-        let (join, barred) = self.join(task, starts, open);
-        let turn = |step, processor| Turn { step, processor, barred };
+        let (join, join_barred) = self.join(task, starts, open);
+        let turn = |step, processor| Turn { step, processor, join_barred, share_barred: false };
         if let Some(k) = join {
             return Some(turn(Step::Join, k));
         }
@@ -215,7 +219,9 @@ impl<'a> Board<'a> {
             return Some(turn(Step::Idle, k));
         }
         if self.open < self.sheet.processors.into() && fits.holds(self.open) {
-            return Some(turn(Step::Open, self.open));
+            let (share, share_barred) = self.share(task, starts, open);
+            let (step, k) = share.map_or((Step::Open, self.open), |k| (Step::Share, k));
+            return Some(Turn { share_barred, ..turn(step, k) });
         }
         Some(turn(Step::LastResort, least(open, starts)?))
     }
@@ -239,6 +245,19 @@ impl<'a> Board<'a> {
         let ended = open & ProcessorSet::with(|k| self.ends[k] <= arrival);
         let idle = ended.iter().filter(|&k| self.successors[k].within(&self.unplaced, reached));
         idle.min_by_key(|&k| Reverse(self.ends[k]))
+    }
+
+    /// The processor on which a task starts no later than on a fresh one, and whether the guard barred
+    /// a lower one.
+    fn share(&self, task: usize, starts: &Row, open: ProcessorSet) -> (Option<usize>, bool) {
+        let arrival = self.inputs[task].arrival;
+        let in_time = open & ProcessorSet::with(|k| starts[k] <= arrival);
+        let mut in_time = in_time.iter();
+        let Some(first) = in_time.next() else { return (None, false) };
+        if self.barred(task, starts) != Some(first) {
+            return (Some(first), false);
+        }
+        (in_time.next(), true)
     }
 
     /// The processor, if any, that the guard bars for a task with these starts.

@@ -85,6 +85,11 @@ pub fn bare_sheet() -> Vec<u8> {
 /// The bundle of a bare board's plan: no programme, and the claim 0.
 pub const BARE_BUNDLE: [u8; 5] = [0x5A, 0, 0, 0, 0];
 
+/// The smallest sheet with a free link: two tasks, joined by a link of cost 0.
+pub fn free_link_sheet() -> Vec<u8> {
+    valid_sheet(2, 0, &[1, 0, 1, 0], &[0, 1, 0, 0])
+}
+
 /// K9 and K10 by name: K1's sheet a byte shorter and longer, with other processors, and no bytes.
 pub fn k9_and_k10() -> Vec<(String, Vec<u8>)> {
     let whole = k1_sheet();
@@ -101,12 +106,13 @@ pub fn k9_and_k10() -> Vec<(String, Vec<u8>)> {
     sheets
 }
 
-/// The sheets of the program `trials` by name: K9, K10, a bare board and each figure.
+/// The sheets of the program `trials` by name: K9, K10, a bare board, a free link and each figure.
 pub fn named() -> Vec<(String, Vec<u8>)> {
     let figures = figures::all().into_iter();
     let figures = figures.map(|figure| (figure.name.to_string(), figure.sheet().to_bytes()));
-    let bare = [("bare".to_string(), bare_sheet())];
-    k9_and_k10().into_iter().chain(bare).chain(figures).collect()
+    let own = [("bare", bare_sheet()), ("free-link", free_link_sheet())];
+    let own = own.map(|(name, sheet)| (name.to_string(), sheet));
+    k9_and_k10().into_iter().chain(own).chain(figures).collect()
 }
 
 /// What the program `trials` reads: for each sheet the name's length (u8), the name, the sheet's
@@ -157,6 +163,8 @@ pub fn files() -> Vec<(String, Vec<u8>)> {
         ("k8-circle.sheet", k8_circle_sheet()),
         ("bare.sheet", bare_sheet()),
         ("bare.bundle", BARE_BUNDLE.to_vec()),
+        ("free-link.sheet", free_link_sheet()),
+        ("free-link.bundle", planned(&free_link_sheet())),
         ("figures/001-F6.1.bundle", figures::gauss_jordan_bundle()),
     ]
     .into_iter()

@@ -2,13 +2,14 @@
 //! Tasks count from 0 here, from 1 in the sources; numbers are the printed ones times the factor
 //! that makes them whole.
 
+use literal::placing::{place, Rules};
 use reference::checker::check;
 use reference::figures::{all, bundle, gauss_jordan_bundle, Figure};
 use reference::graph::levels;
 use reference::planner::{plan, plan_with, Plan, Step};
 use reference::sheet::Sheet;
 use reference::Refusal;
-use Step::{Idle, Join, Open};
+use Step::{Idle, Join, Open, Share};
 
 fn figure(name: &str) -> Figure {
     all().into_iter().find(|figure| figure.name == name).expect(name)
@@ -22,7 +23,7 @@ fn planned(name: &str) -> Plan {
 fn steps(name: &str) -> (Vec<Step>, usize) {
     let mut turns = Vec::new();
     plan_with(&figure(name).sheet(), |turn| turns.push(turn)).expect("nothing needs store");
-    let barred = turns.iter().filter(|turn| turn.barred).count();
+    let barred = turns.iter().filter(|turn| turn.join_barred).count();
     (turns.into_iter().map(|turn| turn.step).collect(), barred)
 }
 
@@ -160,6 +161,39 @@ fn fourier() {
     assert_eq!(levels(&sheet)[0], 4 * 14);
     assert_eq!(sheet.tasks.iter().map(|task| u32::from(task.work)).sum::<u32>(), 4 * 24);
     assert_eq!(planned("001-F7.14").claim, 4 * 14);
+}
+
+/// Processors and claim of a figure on so many processors, by the steps without C-17 and with it.
+fn without_and_with(name: &str, processors: u8) -> [(usize, u64); 2] {
+    let bytes = figure(name).sheet_on(processors).to_bytes();
+    let sheet = literal::sheet::Sheet::read(&bytes).unwrap();
+    [Rules::BEFORE, Rules::WHOLE].map(|rules| {
+        let placed = place(&sheet, rules).expect("nothing needs store");
+        let opened = placed.iter().map(|row| row.processor + 1).max().unwrap();
+        (opened, placed.iter().map(|row| row.finish).max().unwrap())
+    })
+}
+
+/// C-17 takes back a processor that was opened in vain, but promises no shorter plan: with appendix A.5
+/// on sixteen processors the claim rises, and two more are opened. On its own four it stays.
+#[test]
+fn free_links() {
+    for (name, processors, before, now) in [
+        ("001-F5.5", 4, (4, 6), (3, 6)),
+        ("001-F5.7", 3, (3, 6), (2, 6)),
+        ("001-F6.1", 16, (5, 7), (4, 7)),
+        ("001-F7.14", 16, (5, 56), (4, 56)),
+        ("001-A5", 4, (4, 74_400), (4, 74_400)),
+        ("001-A5", 16, (11, 71_584), (13, 73_144)),
+    ] {
+        assert_eq!(without_and_with(name, processors), [before, now], "{name} on {processors}");
+        let plan = plan(&figure(name).sheet_on(processors)).unwrap();
+        assert_eq!((plan.programmes.len(), u64::from(plan.claim)), now, "{name} on {processors}");
+    }
+    // Every link of 001-F7.14 is free, so that nothing joins.
+    let (steps, _) = steps("001-F7.14");
+    assert_eq!(steps[..3], [Open, Share, Open]);
+    assert!(!steps.contains(&Join));
 }
 
 /// 001, appendices A.3 to A.5: nothing is published for these sizes but the tasks and links.

@@ -1,6 +1,7 @@
 //! The rewrite held against the literal rules on made-up inputs.
 
 use inputs::{bundles, damage, sheets, Random};
+use literal::placing::Rules;
 use reference::graph;
 use reference::machine::Machine;
 use reference::planner::plan;
@@ -38,7 +39,7 @@ fn literal_plan(bytes: &[u8]) -> (Result<Vec<u8>, literal::Refusal>, Vec<u8>) {
     let levels = graph::levels(&Sheet::read(bytes).unwrap());
     let levels: Vec<u64> = levels.into_iter().map(u64::from).collect();
     let sheet = literal::sheet::Sheet::read(bytes).unwrap();
-    let placed = literal::placing::place_by(&sheet, &levels, true);
+    let placed = literal::placing::place_by(&sheet, &levels, Rules::WHOLE);
     let lines = literal::listing::lines(&placed).into_bytes();
     (placed.map(|placed| literal::bundle::Bundle::of_plan(&sheet, &placed)), lines)
 }
@@ -47,10 +48,16 @@ fn literal_plan(bytes: &[u8]) -> (Result<Vec<u8>, literal::Refusal>, Vec<u8>) {
 fn plans() {
     let mut random = Random::new(1);
     let mut refusals = 0;
-    for round in 0..8000 {
-        let sheet = match round % 4 {
+    for round in 0..9000 {
+        let sheet = match round % 6 {
             0 => sheets::guarded(&mut random),
             1 => sheets::telling(&mut random, 24),
+            2 => sheets::sharing(&mut random, 24),
+            3 => {
+                let mut sheet = sheets::guarded(&mut random);
+                sheets::free_links(&mut random, &mut sheet);
+                sheet
+            }
             _ => sheets::telling(&mut random, 12),
         };
         let sheet = sheet.encode();
@@ -62,7 +69,7 @@ fn plans() {
             Err(_) => refusals += 1,
         }
     }
-    assert!((100..4000).contains(&refusals));
+    assert!((100..6000).contains(&refusals));
 }
 
 #[test]

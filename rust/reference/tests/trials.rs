@@ -147,6 +147,16 @@ fn bare_board() {
     assert_eq!(check(&read(&k1_sheet()), &[&[0x50, 0], &BARE_BUNDLE[..]].concat()), refused(26, 0));
 }
 
+/// C-17: two tasks joined by a link of cost 0 are on one processor.
+#[test]
+fn free_link() {
+    let plan = planned(&free_link_sheet());
+    assert_eq!(rows(&plan), [(0, 0, 1), (0, 1, 2)]);
+    assert_eq!((plan.programmes.len(), plan.claim), (1, 2));
+    assert_eq!(listing::print(&free_link_sheet()), b"PLAN 1 2\n0 0 0 1\n1 0 1 2\n");
+    accepted(&free_link_sheet());
+}
+
 #[test]
 fn starts_are_those_of_the_runs() {
     let plan = planned(&k1_sheet());

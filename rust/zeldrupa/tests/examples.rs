@@ -49,7 +49,8 @@ fn plans_are_accepted_and_run_to_their_claims() {
             continue;
         };
         // The bundles of K5, K6 and the figure are by hand.
-        if ["k1", "k2", "k3", "k4", "bare"].iter().any(|trial| name.starts_with(trial)) {
+        if ["k1", "k2", "k3", "k4", "bare", "free-link"].iter().any(|trial| name.starts_with(trial))
+        {
             assert_eq!(bundle.bytes(), files[&name.replace(".sheet", ".bundle")], "{name}");
         }
         assert_eq!(work.check(&sheet, &bundle), Ok(()), "{name}");

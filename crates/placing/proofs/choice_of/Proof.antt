@@ -12,16 +12,22 @@ arrival-of-requires : tie.Need-arrival-of-requires
 arrival-of-requires c κs = let a = c .before .before .before in kept-arrived (a .pre .0 .0 .kept) (a .args .t) (a .pre .0 .0 .task)
 
 without-join-requires : tie.Need-without-join-requires
-without-join-requires c κs = (c .before .before .before .before .before .before .before .before .pre .0, (c .before .before .before .before .arrival-of .ensures .0, sym (ap foundOf (c .enum-told .given .1)) ∙ c .before .before .join-on .ensures .0))
+without-join-requires c κs =
+    let a = c .before .before .before .before .before .before .before .before .before in
+    (a .pre .0, (c .before .before .before .before .before .arrival-of .ensures .0, (c .before .before .before .before .rival-of .ensures, sym (ap foundOf (c .enum-told .given .1)) ∙ c .before .before .join-on .ensures .0)))
 
 returns : tie.Need-returns
-returns c = (choice-join _ _ _ (sym (ap foundOf (c .before .k .given .1)) ∙ c .before .before .before .join-on .ensures .0), below-at 16 (c .before .k .given .1) (c .before .before .before .join-on .ensures .1))
+returns c =
+    let found = c .before .before .before .join-on .ensures in
+    let here = c .before .k .given .1 in
+    (choice-join _ _ _ (sym (ap foundOf here) ∙ found .0), below-at 16 here (found .1))
 
 pub choice-of-spec : {M : Type 1} → statement M
 choice-of-spec =
     tie.close
     (tie.spec
     arrival-of-requires
+    (λ c κs. search needs)
     (λ c κs. search needs)
     (λ c κs. search needs)
     (λ c. search needs)

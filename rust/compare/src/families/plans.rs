@@ -73,9 +73,24 @@ pub fn free_messages(c: &mut Comparison) -> Outcome {
     made(c, 5000, |c, round| {
         let mut values = seldom_largest(c, round);
         values.limit = u32::MAX;
-        let all = c.random.once_in(2);
-        let costs = values.links.iter_mut().skip(2).step_by(4);
-        costs.for_each(|cost| *cost *= u16::from(!all && c.random.once_in(4)));
+        sheets::free_links(&mut c.random, &mut values);
+        values
+    })
+}
+
+/// Sheets on which a task often starts on an open processor just when its messages are there: one that
+/// fits or does not, that the guard bars or does not, and with a processor left or none.
+pub fn shared_processors(c: &mut Comparison) -> Outcome {
+    made(c, 15_000, |c, round| {
+        let mut values = match round % 4 {
+            0 => sheets::guarded(&mut c.random),
+            1 if round % 64 == 1 => return sheets::sharing(&mut c.random, sheets::MOST_TASKS),
+            _ => return sheets::sharing(&mut c.random, 32),
+        };
+        sheets::free_links(&mut c.random, &mut values);
+        if c.random.once_in(4) {
+            sheets::tighten(&mut c.random, &mut values);
+        }
         values
     })
 }

@@ -1,7 +1,7 @@
 //! The families for the literal rules: small sheets and bundles, with every function.
 
 use super::{
-    claim_wrongly, damage_bundle, damage_sheet, faulty_sheet, limit_as_needed, over_full,
+    claim_wrongly, damage_bundle, damage_sheet, faulty_sheet, limit_as_needed, over_full, planned,
     right_bundle,
 };
 use crate::comparison::{Comparison, Outcome};
@@ -37,6 +37,23 @@ pub fn boards(c: &mut Small) -> Outcome {
     for _ in 0..35_000 {
         let values = sheets::small_board(&mut c.random);
         sheet_functions(c, &values.encode(), &values)?;
+    }
+    Ok(())
+}
+
+/// Valid sheets on which a task often starts on an open processor just when its messages are there, with
+/// their plans' bundles; and the same sheets damaged.
+pub fn shared_processors(c: &mut Small) -> Outcome {
+    for round in 0..10_000 {
+        let values = sheets::sharing(&mut c.random, 8);
+        let sheet = values.encode();
+        sheet_functions(c, &sheet, &values)?;
+        if round % 4 == 0 {
+            let bundle = planned(&mut c.random, &values);
+            bundle_functions(c, &sheet, &bundle.encode(), &bundle)?;
+            let damaged = damage::few(&mut c.random, sheet, damage::sheet_command);
+            c.plan(&damaged)?;
+        }
     }
     Ok(())
 }
