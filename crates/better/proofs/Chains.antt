@@ -9,7 +9,7 @@ use lib.Dec.{ltb}
 use borrow.Author.Tests.{lt-ltb, le-ltb, ltb-true, ltb-false}
 use Rattle.folds.specs.Folds.{pick}
 use Rattle.better.specs.Orders.{byNumber, thenBy, byBytes, Rank, byRank}
-use Rattle.better.specs.Choices.{ofSide, ahead, chosen}
+use Rattle.better.specs.Choices.{ofSide, ahead, chosenBy, chosen}
 use Rattle.better.specs.declared.order.Order.{Order}
 use Rattle.better.specs.declared.order.Order.the-variants.{Less, Equal, Greater}
 
@@ -147,37 +147,55 @@ ranks =
     (in-turn Rank (λ a b. byNumber (a .runners) (b .runners)) (λ a b. byBytes (a .bytes) (b .bytes)) (numbers Rank (λ a. a .runners)) (bytes Rank (λ a. a .bytes)))
 
 -- any two can be compared, and are alike only if they are equal
-pub comparable : (a b : Rank) → (byRank a b ≡ Less) ⊎ ((byRank b a ≡ Less) ⊎ (a ≡ b))
+pub rank-same : (a b : Rank) → byRank a b ≡ Equal → a ≡ b
 unfolding byRank
+rank-same a b e =
+    let s = then-same _ _ e in
+    let t = then-same _ _ (s .1) in
+    let x = number-same (a .claim) (b .claim) (s .0) in
+    let y = number-same (a .runners) (b .runners) (t .0) in
+    let z = bytes-same (a .bytes) (b .bytes) (t .1) in
+    λ i. record { claim = x i; runners = y i; bytes = z i }
+
+pub comparable : (a b : Rank) → (byRank a b ≡ Less) ⊎ ((byRank b a ≡ Less) ⊎ (a ≡ b))
 comparable a b = go (byRank a b) refl
   where
     go : (o : Order) → byRank a b ≡ o → (byRank a b ≡ Less) ⊎ ((byRank b a ≡ Less) ⊎ (a ≡ b))
     go Less e = inl e
     go Greater e = inr (inl (ranks .turns a b ∙ ap turned e))
-    go Equal e =
-        let s = then-same _ _ e in
-        let t = then-same _ _ (s .1) in
-        let x = number-same (a .claim) (b .claim) (s .0) in
-        let y = number-same (a .runners) (b .runners) (t .0) in
-        let z = bytes-same (a .bytes) (b .bytes) (t .1) in
-        inr (inr (λ i. record { claim = x i; runners = y i; bytes = z i }))
+    go Equal e = inr (inr (rank-same a b e))
 
 pub transitive : (a b c : Rank) → byRank a b ≡ Less → byRank b c ≡ Less → byRank a c ≡ Less
 transitive = ranks .chain
 
 -- choices chain: of three, it does not matter which two are looked at first
+module _ {A : Type 0} {f : A → A → Order} (F : Ordered A f) where
+  pub by-order-chain : (a b c : A) → chosenBy f (chosenBy f a b) c ≡ chosenBy f a (chosenBy f b c)
+  by-order-chain a b c = go (f a b) (f b c) refl refl
+    where
+      go : (x y : Order) → f a b ≡ x → f b c ≡ y → chosenBy f (ofSide a b (ahead x)) c ≡ chosenBy f a (ofSide b c (ahead y))
+      go Less Less i j = rw (F .chain a b c i j, i)
+      go Less Equal i j = rw (← alike-right F a b c j, i)
+      go Less Greater i j = refl
+      go Equal Less i j = rw (F .alike a b c i, j, i)
+      go Equal Equal i j = rw (F .alike a b c i, j, i)
+      go Equal Greater i j = refl
+      go Greater Less i j = rw (j, i)
+      go Greater Equal i j = rw (j, i)
+      go Greater Greater i j = let back = F .chain c b a (F .turns b c ∙ ap turned j) (F .turns a b ∙ ap turned i) in rw (j, F .turns c a, back)
+
 pub choices-chain : (a b c : Rank) → chosen (chosen a b) c ≡ chosen a (chosen b c)
-choices-chain a b c = go (byRank a b) (byRank b c) refl refl
-  where
-    go : (x y : Order) → byRank a b ≡ x → byRank b c ≡ y → chosen (ofSide a b (ahead x)) c ≡ chosen a (ofSide b c (ahead y))
-    go Less Less i j = rw (ranks .chain a b c i j, i)
-    go Less Equal i j = rw (← alike-right ranks a b c j, i)
-    go Less Greater i j = refl
-    go Equal Less i j = rw (ranks .alike a b c i, j, i)
-    go Equal Equal i j = rw (ranks .alike a b c i, j, i)
-    go Equal Greater i j = refl
-    go Greater Less i j = rw (j, i)
-    go Greater Equal i j = rw (j, i)
-    go Greater Greater i j =
-        let back = ranks .chain c b a (ranks .turns b c ∙ ap turned j) (ranks .turns a b ∙ ap turned i) in
-        rw (j, ranks .turns c a, back)
+choices-chain = by-order-chain ranks
+
+-- things ordered by a rank that each of them has
+pub ranked-by : (A : Type 0) (key : A → Rank) → Ordered A (λ a b. byRank (key a) (key b))
+ranked-by A key =
+    record {
+      turns = λ a b. ranks .turns (key a) (key b);
+      chain = λ a b c. ranks .chain (key a) (key b) (key c);
+      alike = λ a b c. ranks .alike (key a) (key b) (key c);
+    }
+
+pub strict : (a : Rank) → byRank a a ≡ Less → ⊥
+unfolding rank
+strict a e = let z : Less ≡ Greater = sym e ∙ ranks .turns a a ∙ ap turned e in differ rank Less Greater z (omega arith)

@@ -27,9 +27,12 @@ ahead Less = firstLent
 ahead Equal = firstLent
 ahead Greater = secondLent
 
--- the better of two ranks
+-- the better of two things, by an order of them; and of two ranks
+abbrev pub chosenBy : {A : Type 0} → (A → A → Order) → A → A → A
+chosenBy order a b = ofSide a b (ahead (order a b))
+
 abbrev pub chosen : Rank → Rank → Rank
-chosen a b = ofSide a b (ahead (byRank a b))
+chosen = chosenBy byRank
 
 -- "accepted before refused", and 34 "when both are refused, place 0"
 abbrev pub choice : Option Rank → Option Rank → Answer Side
