@@ -24,11 +24,9 @@ pub fn by_number(a: usize, b: usize) -> Order
 pub fn by_bytes(a: &[u8], b: &[u8]) -> Order
     ensures { λ r. ⌜ r ≡ byBytes (now (a .entry)) (now (b .entry)) ⌝ }
 {
+    let shared = words::smaller(a.len(), b.len());
     let mut i = 0;
-    while i < a.len() {
-        if b.len() <= i {
-            return Order::Greater;
-        }
+    while i < shared {
         if a[i] < b[i] {
             return Order::Less;
         }
@@ -37,10 +35,7 @@ pub fn by_bytes(a: &[u8], b: &[u8]) -> Order
         }
         i += 1;
     }
-    if i < b.len() {
-        return Order::Less;
-    }
-    Order::Equal
+    by_number(a.len(), b.len())
 }
 
 // The first of two orders that tells two things apart.
