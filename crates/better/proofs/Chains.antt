@@ -1,35 +1,38 @@
 -- The order of accepted bundles is total, and choices chain.
 use Prim.Native.Nat.{ℕ}
 use native.Mathlib.Omega.{arith}
-use mathlib.Core.Path.{_≡_, refl, sym, ap, ap₂, subst, _∙_}
+use mathlib.Core.Path.{_≡_, refl, sym, ap, ap₂, _∙_}
 use mathlib.Core.Bool.{Bool, true, false}
 use mathlib.Core.Logic.{_⊎_, inl, inr}
 use mathlib.Core.List.{List, [], _∷_}
 use lib.Dec.{ltb}
-use borrow.Author.Tests.{lt-ltb, le-ltb, ltb-true, ltb-false}
+use borrow.Author.Tests.{lt-ltb, ltb-true, ltb-false}
 use Rattle.folds.specs.Folds.{pick}
 use Rattle.better.specs.Orders.{byNumber, thenBy, byBytes, Rank, byRank}
 use Rattle.better.specs.Choices.{ofSide, ahead, chosenBy, chosen}
 use Rattle.better.specs.declared.order.Order.{Order}
 use Rattle.better.specs.declared.order.Order.the-variants.{Less, Equal, Greater}
 
+-- seen from the other side
 abbrev pub turned : Order → Order
 turned Less = Greater
 turned Equal = Equal
 turned Greater = Less
 
+-- f orders the things of A: both sides see the same, less than less is less, and what is equal is alike to every third
 pub record Ordered (A : Type 0) (f : A → A → Order) : Type 0 where
   pub turns : (a b : A) → f b a ≡ turned (f a b)
   pub chain : (a b c : A) → f a b ≡ Less → f b c ≡ Less → f a c ≡ Less
   pub alike : (a b c : A) → f a b ≡ Equal → f a c ≡ f b c
 
+-- two orders with different codes are not equal
 differ : {X : Type 0} (n : Order → ℕ) (a b : Order) → a ≡ b → (n a ≡ n b → ⊥) → X
 differ n a b e h = absurd (h (ap n e))
 
-rank : Order → ℕ
-rank Less = 0
-rank Equal = 1
-rank Greater = 2
+code : Order → ℕ
+code Less = 0
+code Equal = 1
+code Greater = 2
 
 -- numbers
 pub record Number (a b : ℕ) (o : Order) : Type 0 where
@@ -38,16 +41,16 @@ pub record Number (a b : ℕ) (o : Order) : Type 0 where
   pub more : o ≡ Greater → ltb b a ≡ true
 
 number : (a b : ℕ) → Number a b (byNumber a b)
-unfolding rank
+unfolding code
 number a b = go (ltb a b) (ltb b a) refl refl
   where
     go : (s t : Bool) → ltb a b ≡ s → ltb b a ≡ t → Number a b (pick s Less (pick t Greater Equal))
-    go true t p q = record { less = λ _. p; same = λ e. differ rank Less Equal e (omega arith); more = λ e. differ rank Less Greater e (omega arith) }
-    go false true p q = record { less = λ e. differ rank Greater Less e (omega arith); same = λ e. differ rank Greater Equal e (omega arith); more = λ _. q }
+    go true t p q = record { less = λ _. p; same = λ e. differ code Less Equal e (omega arith); more = λ e. differ code Less Greater e (omega arith) }
+    go false true p q = record { less = λ e. differ code Greater Less e (omega arith); same = λ e. differ code Greater Equal e (omega arith); more = λ _. q }
     go false false p q =
         let l = ltb-false a b p in
         let m = ltb-false b a q in
-        record { less = λ e. differ rank Equal Less e (omega arith); same = λ _. omega arith; more = λ e. differ rank Equal Greater e (omega arith) }
+        record { less = λ e. differ code Equal Less e (omega arith); same = λ _. omega arith; more = λ e. differ code Equal Greater e (omega arith) }
 
 number-turns : (a b : ℕ) → byNumber b a ≡ turned (byNumber a b)
 number-turns a b = go (ltb a b) (ltb b a) refl refl
@@ -89,6 +92,7 @@ then-same Less p e = (e, cc)
 then-same Equal p e = (refl, e)
 then-same Greater p e = (e, cc)
 
+-- what is equal is alike from the other side too
 alike-right : {A : Type 0} {f : A → A → Order} → Ordered A f → (a b c : A) → f b c ≡ Equal → f a b ≡ f a c
 alike-right F a b c e = F .turns b a ∙ ap turned (F .alike b c a e) ∙ sym (F .turns c a)
 
@@ -197,5 +201,5 @@ ranked-by A key =
     }
 
 pub strict : (a : Rank) → byRank a a ≡ Less → ⊥
-unfolding rank
-strict a e = let z : Less ≡ Greater = sym e ∙ ranks .turns a a ∙ ap turned e in differ rank Less Greater z (omega arith)
+unfolding code
+strict a e = let z : Less ≡ Greater = sym e ∙ ranks .turns a a ∙ ap turned e in differ code Less Greater z (omega arith)

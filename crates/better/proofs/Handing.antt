@@ -1,6 +1,5 @@
 -- From two standings to what is handed back.
 use Prim.Native.Nat.{ℕ, _-_, _<_, _≤_}
-use native.Mathlib.Omega.{arith}
 use mathlib.Core.Path.{_≡_, refl, sym, ap, ap₂, subst, _∙_}
 use mathlib.Core.Option.{Option}
 use mathlib.Core.List.{List, []}
@@ -8,7 +7,7 @@ use lib.ListN.{length, replicate}
 use denote.Ref.{RefT, ptr, now}
 use borrow.Author.Tests.{lt-ltb, le-ltb}
 use borrow.Rule.Slice.PartMut.{midOf}
-use Rattle.folds.specs.Answers.{Answer, value, refused, andThen, longEnough, number, placeOr, cleared}
+use Rattle.folds.specs.Answers.{Answer, value, refused, andThen, number, placeOr, cleared}
 use Rattle.workspace.specs.Area.{fixed}
 use Rattle.sheet.specs.Sheet.{Sheet}
 use Rattle.sheet.specs.Tables.{sheetIn}

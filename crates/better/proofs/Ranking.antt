@@ -2,10 +2,9 @@
 use Prim.Native.Nat.{ℕ}
 use native.Mathlib.Omega.{arith}
 use mathlib.Core.Path.{_≡_, refl, sym, ap, ap₂, _∙_}
-use mathlib.Core.Option.{Option, none, some}
+use mathlib.Core.Option.{none}
 use mathlib.Core.List.{List}
-use lib.ListN.{length}
-use Rattle.folds.specs.Answers.{Answer, value, refused, andThen}
+use Rattle.folds.specs.Answers.{Answer, value, refused}
 use Rattle.folds.proofs.Tests.{andThen-value}
 use Rattle.sheet.specs.Sheet.{Sheet}
 use Rattle.bundle.specs.Bundle.{Bundle, programmeCount}
@@ -28,8 +27,8 @@ use Rattle.checker.specs.declared.Verdict.{Verdict}
 use Rattle.checker.specs.declared.Verdict.the-variants as verdicts
 use Rattle.checker.proofs.Accepted.{passes}
 use Rattle.checker.proofs.Closing.{judged-refused, judged-ends}
-use Rattle.better.specs.Orders.{byNumber, thenBy, byBytes, Rank, byRank}
-use Rattle.better.specs.Ranks.{runners, rankBy}
+use Rattle.better.specs.Orders.{byNumber, thenBy, byBytes, byRank}
+use Rattle.better.specs.Ranks.{rankBy}
 use Rattle.better.specs.Choices.{ahead, choice}
 use Rattle.better.specs.Parts.{RunnersIs, rankIn, StandingIs, choiceOf}
 use Rattle.better.specs.declared.order.Order.{Order}

@@ -9,7 +9,6 @@ use mathlib.Core.List.{List, [], _∷_}
 use lib.ListN.{length, getD}
 use Rattle.folds.specs.Folds.{bit, either, sum}
 use Rattle.folds.proofs.Tests.{below-suc, either-true}
-use Rattle.folds.proofs.Laws.{sum-cong}
 use Rattle.sheet.specs.Sheet.{Sheet}
 use Rattle.bundle.specs.Bundle.{Command, run, send, receive, Bundle, programmeCount, programmeOf}
 use Rattle.machine.specs.Machine.{State}

@@ -1,5 +1,5 @@
 -- What the parts of the choice promise.
-use Prim.Native.Nat.{ℕ, _<_, _≤_}
+use Prim.Native.Nat.{ℕ, _<_}
 use mathlib.Core.Path.{_≡_}
 use mathlib.Core.Bool.{Bool}
 use mathlib.Core.Option.{Option, none, some}
@@ -13,10 +13,9 @@ use Rattle.messages.specs.declared.view.View.{View}
 use Rattle.machine.specs.Machine.{State}
 use Rattle.stepping_machine.specs.Represents.{Represents}
 use Rattle.checker.specs.Verdicts.{checkedBytes}
-use Rattle.workspace.specs.Area.{fixed}
 use Rattle.better.specs.Orders.{Rank}
 use Rattle.better.specs.Ranks.{runsTask, runners, rankBy}
-use Rattle.better.specs.Choices.{Side, firstLent, secondLent, choice, better, betterAnswer}
+use Rattle.better.specs.Choices.{Side, firstLent, secondLent, choice, better}
 use Rattle.better.specs.declared.standings.Standing.{Standing}
 use Rattle.better.specs.declared.standings.Standing.the-variants as standings
 use Rattle.better.specs.declared.choosing.Choice.{Choice}

@@ -1,7 +1,6 @@
 -- `opened` (src/choosing.rt) keeps its contract.
 use native.Mathlib.Omega.{arith}
 use mathlib.Core.Path.{_∙_}
-use denote.Ref.{now}
 use Rattle.levelling.proofs.Opens.{open-loaded}
 use Rattle.messages.proofs.Areas.{seen-in}
 use Rattle.stepping_machine.proofs.Starting.{part-extent, shown}

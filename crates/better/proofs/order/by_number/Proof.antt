@@ -1,6 +1,5 @@
 -- `by_number` (src/order.rt) keeps its contract.
 use borrow.Author.Tests.{lt-ltb, le-ltb}
-use borrow.Author.Needs.{needs}
 use Rattle.better.proofs.order.by_number.Statement.{statement}
 use Rattle.better.proofs.order.by_number.Tie as tie
 

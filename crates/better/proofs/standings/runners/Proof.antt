@@ -2,7 +2,6 @@
 use Rattle.folds.proofs.Tests.{bit-le}
 use Prim.Native.Nat.{_-_, _≤_}
 use native.Mathlib.Omega.{arith}
-use mathlib.Core.Path.{sym, _∙_}
 use Rattle.better.proofs.Running.{Counted, counted-none, counted-more, counted-all}
 use borrow.Author.Needs.{needs}
 use Rattle.better.proofs.standings.runners.Statement.{statement}
