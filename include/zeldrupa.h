@@ -5,8 +5,8 @@
  *   overlap, and no pointer may be null. Any bytes, values and lengths are safe.
  * - A work area, and the area of a machine's state, has at least ZELDRUPA_WORK_LENGTH words. What a work area
  *   holds before does not matter; it is all zero afterwards, except under 13, where it is untouched.
- * - The result is 0, or the number of a refusal, which changes no output and no state. *place receives the
- *   refusal's place, or with 0 what is said at each function.
+ * - The result is 0, or the number of a refusal, which changes no output and no state, but for `kept` of
+ *   zeldrupa_better. *place receives the refusal's place, or with 0 what is said at each function.
  */
 #ifndef ZELDRUPA_H
 #define ZELDRUPA_H
@@ -52,7 +52,14 @@ enum zeldrupa_refusal {
     ZELDRUPA_WRONG_CLAIM = 30,     /* the latest clock */
     ZELDRUPA_SEND = 31,            /* the lowest link with a wrong message: its send is wrong */
     ZELDRUPA_RECEIVE = 32,         /* that link: its send is right, its receive is wrong */
-    ZELDRUPA_LOCAL_ORDER = 33      /* that link, inside one processor: its source runs behind its target */
+    ZELDRUPA_LOCAL_ORDER = 33,     /* that link, inside one processor: its source runs behind its target */
+    ZELDRUPA_BOTH_REFUSED = 34     /* 0 */
+};
+
+/* Lent bytes: the first of them, and their number. */
+struct zeldrupa_bytes {
+    const uint8_t *at;
+    size_t length;
 };
 
 /* Reads a sheet: two values a task (work, store), four a link (source, target, cost, bytes), and the board
@@ -84,6 +91,15 @@ uint8_t zeldrupa_write_bundle(const uint8_t *sheet, size_t sheet_length, const u
 /* Checks a bundle for a sheet: 0 if it is accepted. *place is then 0. */
 uint8_t zeldrupa_check(const uint8_t *sheet, size_t sheet_length, const uint8_t *bundle, size_t bundle_length,
                        uint32_t *work, size_t work_length, uint64_t *place);
+
+/* Checks two bundles for a sheet: *kept becomes the better one, the very bytes that were lent and no copy. An
+ * accepted bundle is better than a refused one, then the smaller claim, then fewer processors that run a task,
+ * then the first differing byte lower; of equal bundles the first is kept. *place is the length of what is kept.
+ * A refusal, ZELDRUPA_BOTH_REFUSED behind those of the sheet, makes *kept the empty front of the first: its
+ * address, and length 0. Before the call *kept has to hold valid bytes, of any length, as {first, 0} does. */
+uint8_t zeldrupa_better(const uint8_t *sheet, size_t sheet_length, const uint8_t *first, size_t first_length,
+                        const uint8_t *second, size_t second_length, uint32_t *work, size_t work_length,
+                        struct zeldrupa_bytes *kept, uint64_t *place);
 
 /* Plans a sheet and writes the bundle, which zeldrupa_check accepts. *place is the number of bytes: 5 for a
  * bare board, a sheet without tasks. */

@@ -105,6 +105,48 @@ static void machine(void)
     ANSWERS(zeldrupa_left(BUNDLE, STATE, &place), 0, 0);
 }
 
+/* What is kept is what was lent, by its address. */
+static void keeps(struct zeldrupa_bytes the_sheet, struct zeldrupa_bytes first, struct zeldrupa_bytes second,
+                  uint8_t number, uint64_t the_place, struct zeldrupa_bytes right)
+{
+    struct zeldrupa_bytes kept = {sheet, 1};
+    ANSWERS(zeldrupa_better(the_sheet.at, the_sheet.length, first.at, first.length, second.at, second.length, WORK,
+                            &kept, &place),
+            number, the_place);
+    EXPECT(kept.at == right.at && kept.length == right.length);
+}
+
+/* The better of two bundles, whichever is lent first; the first of equal ones. */
+static void better(void)
+{
+    static const uint8_t alone[] = {0x50, 0, 0x52, 3, 0x52, 0, 0x52, 1, 0x52, 2, 0x5A, 8, 0, 0, 0};
+    static const uint8_t hasty[] = {0x50, 0, 0x52, 3, 0x52, 0, 0x52, 1, 0x52, 2, 0x5A, 1, 0, 0, 0};
+    static const uint8_t bare[] = {0x4D, 3, 100, 0, 0, 0, 0x51}, claim_0[] = {0x5A, 0, 0, 0, 0};
+    static const uint8_t empty[] = {0x50, 0, 0x50, 1, 0x5A, 0, 0, 0, 0};
+    static const uint32_t zeros[ZELDRUPA_WORK_LENGTH];
+    uint8_t copy[64];
+    struct zeldrupa_bytes kept = {sheet, 1};
+    struct zeldrupa_bytes k1 = {SHEET}, planned = {BUNDLE}, twin = {copy, bundle_length}, cut = {bundle, 7};
+    struct zeldrupa_bytes one = {LENT(alone)}, wrong = {LENT(hasty)}, wrong_front = {hasty, 0}, front = {bundle, 0};
+    struct zeldrupa_bytes board = {LENT(bare)}, none = {LENT(claim_0)}, two = {LENT(empty)}, cut_sheet = {sheet, 47};
+    memcpy(copy, bundle, bundle_length);
+    keeps(k1, planned, one, 0, bundle_length, planned);
+    keeps(k1, one, planned, 0, bundle_length, planned);
+    keeps(k1, planned, twin, 0, bundle_length, planned);
+    keeps(k1, twin, planned, 0, bundle_length, twin);
+    keeps(k1, wrong, one, 0, sizeof alone, one);
+    keeps(k1, one, cut, 0, sizeof alone, one);
+    keeps(k1, wrong, cut, ZELDRUPA_BOTH_REFUSED, 0, wrong_front);
+    keeps(cut_sheet, planned, one, ZELDRUPA_CUT_SHEET, 47, front);
+    keeps(board, none, two, 0, sizeof empty, two);
+    memset(work, 0xAA, sizeof work);
+    ANSWERS(zeldrupa_better(SHEET, BUNDLE, LENT(alone), work, ZELDRUPA_WORK_LENGTH - 1, &kept, &place),
+            ZELDRUPA_SHORT_WORK_AREA, ZELDRUPA_WORK_LENGTH);
+    EXPECT(kept.at == bundle && kept.length == 0 && work[0] == 0xAAAAAAAA);
+    ANSWERS(zeldrupa_better(SHEET, BUNDLE, LENT(alone), WORK, &kept, &place), 0, bundle_length);
+    EXPECT(kept.at == bundle && memcmp(work, zeros, sizeof zeros) == 0);
+}
+
 /* In a state that was never started nobody can step, and nothing is left to do. */
 static void never_started(void)
 {
@@ -188,6 +230,7 @@ int main(int count, char **arguments)
     if (failures == 0) {
         formats();
         planner();
+        better();
         machine();
         never_started();
         refusals();

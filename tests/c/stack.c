@@ -15,6 +15,7 @@ static uint32_t work[ZELDRUPA_WORK_LENGTH], state[ZELDRUPA_WORK_LENGTH], board[4
 static uint16_t tasks[2 * TASKS], links[4 * LINKS], commands[8192];
 static uint8_t sheet[8512], bundle[8192], listing[32768], choices[8192];
 static uint64_t sheet_length, bundle_length, values, place;
+static struct zeldrupa_bytes kept = {bundle, 0};
 
 #define WORK work, ZELDRUPA_WORK_LENGTH
 #define STATE state, ZELDRUPA_WORK_LENGTH
@@ -47,6 +48,7 @@ static void list(void) { zeldrupa_listing(SHEET, WORK, LENT(listing), &place); }
 static void read_bundle(void) { zeldrupa_read_bundle(SHEET, BUNDLE, WORK, LENT(commands), &claim, &values); }
 static void write_bundle(void) { zeldrupa_write_bundle(SHEET, commands, values, claim, WORK, LENT(listing), &place); }
 static void check(void) { zeldrupa_check(SHEET, BUNDLE, WORK, &place); }
+static void better(void) { zeldrupa_better(SHEET, BUNDLE, BUNDLE, WORK, &kept, &place); }
 static void start(void) { zeldrupa_start(SHEET, BUNDLE, WORK, STATE, &place); }
 static void step(void) { zeldrupa_step(SHEET, BUNDLE, STATE, 0, &place); }
 static void run(void) { zeldrupa_run(SHEET, BUNDLE, LENT(choices), WORK, STATE, &place); }
@@ -83,8 +85,8 @@ int main(void)
     } all[] = {
         {"write_sheet", write_sheet}, {"read_sheet", read_sheet},     {"levels", find_levels},
         {"plan", plan},               {"listing", list},              {"read_bundle", read_bundle},
-        {"write_bundle", write_bundle}, {"check", check},             {"start", start},
-        {"step", step},               {"run", run},
+        {"write_bundle", write_bundle}, {"check", check},             {"better", better},
+        {"start", start},             {"step", step},                 {"run", run},
     };
     size_t thread = depth(nothing);
     int failures = 0;

@@ -62,13 +62,13 @@ plan-checked sheet out y e =
     (b, check-is sheet out s b (r .1) (subst (λ o. readBundle s o ≡ value b) w (read-back s b (omega (arith, p .form .links)) (a .1))) ∙ a .0)
 
 -- what a call that returned 0 was answered
-check-value : (sheet bundle work work′ : List ℕ) (p : ℕ) → GivesCheck sheet bundle work work′ p 0 → (b : Bundle) × (check sheet bundle ≡ value b)
+pub check-value : (sheet bundle work work′ : List ℕ) (p : ℕ) → GivesCheck sheet bundle work work′ p 0 → (b : Bundle) × (check sheet bundle ≡ value b)
 unfolding checkAnswer
 check-value sheet bundle work work′ p g =
     let v = returned-0 (checkAnswer sheet bundle (length work)) (numbered-long fixed (length work) (check sheet bundle) (numbered-check sheet bundle)) (g .returns) in
     (v .0, long-value (length work) (check sheet bundle) (v .0) (v .1) .1)
 
-check-returns : (sheet bundle work work′ : List ℕ) (p r : ℕ) (b : Bundle) → fixed ≤ length work → GivesCheck sheet bundle work work′ p r → check sheet bundle ≡ value b → r ≡ 0
+pub check-returns : (sheet bundle work work′ : List ℕ) (p r : ℕ) (b : Bundle) → fixed ≤ length work → GivesCheck sheet bundle work work′ p r → check sheet bundle ≡ value b → r ≡ 0
 unfolding checkAnswer
 check-returns sheet bundle work work′ p r b l g e = g .returns ∙ ap number (enough (check sheet bundle) (length work) l ∙ e)
 

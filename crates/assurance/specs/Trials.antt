@@ -1,4 +1,4 @@
--- The starred trial sheets of document 01, K1 to K8, and a bare board, as one statement about the definitions, which compute them.
+-- The starred trial sheets of document 01, K1 to K8, a bare board and choices between two bundles, as one statement about the definitions, which compute them.
 use Prim.Native.Nat.{ℕ}
 use mathlib.Core.Bool.{Bool, true, false}
 use mathlib.Core.Option.{Option, none, some}
@@ -22,6 +22,9 @@ use Rattle.admission.specs.Messages.{notOnce, holds, home, before, inside, send
 use Rattle.machine.specs.Machine.{processorOf, stampOf, next, stated, stepIn, step, canStep}
 use Rattle.machine.specs.Runs.{clockOf, latest, settle, settled}
 use Rattle.checker.specs.Checker.{unfinished, at29, at30, closing, checked, check}
+use Rattle.better.specs.Orders.{byBytes, byRank}
+use Rattle.better.specs.Ranks.{runsTask, runners, rankOf}
+use Rattle.better.specs.Choices.{firstLent, secondLent, better}
 use Rattle.planner.specs.Schedule.{Schedule, empty, placeOf, startOf, finishOf, placed, stands}
 use Rattle.planner.specs.Placing.{comes, lacks, satisfied, ready, partlyReady, arrivalBy, arrival, priority, ahead, firstReady, firstPartlyReady, endBy, endOf, startBy, startFrom, startOn, storeBy, bytesBy, storeOn, fits, holdsBy, holdsPredecessor, startWith, bestStart, endsWith, delays, barred, followsBy, follows, spentBy, spent}
 use Rattle.planner.specs.Planner.{mayJoin, join, mayTake, idle, opens, mayShare, share, another, lastResort, choice, turn, turns, plannedBy, planned, brings, takesAway, receiveOf, sendOf, blockOf, blocks, programme, claimOf, bundleOf, plan}
@@ -116,6 +119,22 @@ bundleBare c = 0x5A ∷ c ∷ 0x00 ∷ 0x00 ∷ 0x00 ∷ []
 abbrev pub listingBare : List ℕ
 listingBare = 0x50 ∷ 0x4C ∷ 0x41 ∷ 0x4E ∷ 0x20 ∷ 0x30 ∷ 0x20 ∷ 0x30 ∷ 0x0A ∷ []
 
+-- K1's tasks on one processor, in the order of K2; and two tasks with a free link between them, on one processor, behind an empty programme, and on two
+abbrev pub aloneK : List ℕ
+aloneK = 0x50 ∷ 0 ∷ 0x52 ∷ 3 ∷ 0x52 ∷ 0 ∷ 0x52 ∷ 1 ∷ 0x52 ∷ 2 ∷ 0x5A ∷ 8 ∷ 0 ∷ 0 ∷ 0 ∷ []
+
+abbrev pub two : Sheet
+two = record { processors = 3; limit = 0; tasks = task 1 0 ∷ task 1 0 ∷ []; links = link 0 1 0 0 ∷ [] }
+
+abbrev pub together : List ℕ
+together = 0x50 ∷ 0 ∷ 0x52 ∷ 0 ∷ 0x52 ∷ 1 ∷ 0x5A ∷ 2 ∷ 0 ∷ 0 ∷ 0 ∷ []
+
+abbrev pub behindEmpty : List ℕ
+behindEmpty = 0x50 ∷ 0 ∷ 0x50 ∷ 1 ∷ 0x52 ∷ 0 ∷ 0x52 ∷ 1 ∷ 0x5A ∷ 2 ∷ 0 ∷ 0 ∷ 0 ∷ []
+
+abbrev pub apart : List ℕ
+apart = 0x50 ∷ 0 ∷ 0x50 ∷ 1 ∷ 0x52 ∷ 0 ∷ 0x53 ∷ 0 ∷ 0 ∷ 0x50 ∷ 2 ∷ 0x56 ∷ 0 ∷ 0 ∷ 0x52 ∷ 1 ∷ 0x5A ∷ 2 ∷ 0 ∷ 0 ∷ 0 ∷ []
+
 pub record Trials : Type 0 where
   pub k1-read : readSheet (sheetBytes k1) ≡ value k1
   pub k1-levels : levels (sheetBytes k1) ≡ value (5 ∷ 3 ∷ 2 ∷ 7 ∷ [])
@@ -163,9 +182,18 @@ pub record Trials : Type 0 where
   pub bare-run : check (sheetBytes bare) (0x52 ∷ 0 ∷ bundleBare 0) ≡ refused 23 0
   -- on a sheet with tasks a claim has a programme before it
   pub claim-first : check (sheetBytes k1) (bundleBare 0) ≡ refused 23 0
+  -- the better of two bundles: accepted before refused, also where the refused one claims less; the smaller claim; of equals the first; 34
+  pub better-accepted : better (sheetBytes k1) (bundleK 6) aloneK ≡ value secondLent
+  pub better-claim : better (sheetBytes k1) aloneK (bundleK 5) ≡ value secondLent
+  pub better-equal : better (sheetBytes k1) (bundleK 5) (bundleK 5) ≡ value firstLent
+  pub better-neither : better (sheetBytes k1) (bundleK 6) [] ≡ refused 34 0
+  -- fewer processors that run a task, though the other's bytes are lower; an empty programme does not count, and then the bytes decide
+  pub better-runners : better (sheetBytes two) apart together ≡ value secondLent
+  pub better-bytes : better (sheetBytes two) together behindEmpty ≡ value secondLent
+  pub better-bare : better (sheetBytes bare) (bundleBare 0) (0x50 ∷ 0 ∷ bundleBare 0) ≡ value secondLent
 
 pub trials : Trials
-unfolding all any sum greatest first leading least listed gather numberAt judge readFrom readAll taskCount linkCount workOf storeOf sourceOf targetOf costOf bytesOf joinsBy joins readForm sheetBytes reachesBy reaches onCircle circle levelBy levelWithin level readSheet programmeCount programmeOf readBundle bundleBytes weigh wholeOf whole is notOnce holds home before inside sendFault receiveFault orderFault messageFault overStore at26 atMessage at28 firstWith processorOf stampOf next stated stepIn step canStep clockOf latest settle settled unfinished at29 at30 closing checked check placeOf startOf finishOf placed stands comes lacks satisfied ready partlyReady arrivalBy arrival priority ahead firstReady firstPartlyReady endBy endOf startBy startFrom startOn storeBy bytesBy storeOn fits holdsBy holdsPredecessor startWith bestStart endsWith delays barred followsBy follows spentBy spent mayJoin join mayTake idle opens mayShare share another lastResort choice turn turns plannedBy planned plannedBefore brings takesAway receiveOf sendOf blockOf blocks programme claimOf bundleOf plan decimalWithin decimal planLine taskLine refusalLine scheduleLines listing sheets.fault sheets.ended bundles.fault bundles.ended
+unfolding all any sum greatest first leading least listed gather numberAt judge readFrom readAll taskCount linkCount workOf storeOf sourceOf targetOf costOf bytesOf joinsBy joins readForm sheetBytes reachesBy reaches onCircle circle levelBy levelWithin level readSheet programmeCount programmeOf readBundle bundleBytes weigh wholeOf whole is notOnce holds home before inside sendFault receiveFault orderFault messageFault overStore at26 atMessage at28 firstWith processorOf stampOf next stated stepIn step canStep clockOf latest settle settled unfinished at29 at30 closing checked check placeOf startOf finishOf placed stands comes lacks satisfied ready partlyReady arrivalBy arrival priority ahead firstReady firstPartlyReady endBy endOf startBy startFrom startOn storeBy bytesBy storeOn fits holdsBy holdsPredecessor startWith bestStart endsWith delays barred followsBy follows spentBy spent mayJoin join mayTake idle opens mayShare share another lastResort choice turn turns plannedBy planned plannedBefore brings takesAway receiveOf sendOf blockOf blocks programme claimOf bundleOf plan decimalWithin decimal planLine taskLine refusalLine scheduleLines listing sheets.fault sheets.ended bundles.fault bundles.ended byBytes byRank runsTask runners rankOf better
 trials =
     record {
       k1-read = refl;
@@ -207,4 +235,11 @@ trials =
       bare-cut = refl;
       bare-run = refl;
       claim-first = refl;
+      better-accepted = refl;
+      better-claim = refl;
+      better-equal = refl;
+      better-neither = refl;
+      better-runners = refl;
+      better-bytes = refl;
+      better-bare = refl;
     }

@@ -46,7 +46,7 @@ fn latest(w: &[u32]) -> usize
 }
 
 // 29, 30, or good.
-fn finish(w: &[u32], claim: usize) -> Verdict
+pub fn finish(w: &[u32], claim: usize) -> Verdict
     ensures { λ r. ⌜ FinishIs (now (w .entry)) claim r ⌝ }
 {
     match unfinished(w) {

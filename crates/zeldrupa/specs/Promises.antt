@@ -6,6 +6,7 @@ use Prim.Native.Nat.{ℕ}
 use mathlib.Core.Path.{_≡_}
 use mathlib.Core.List.{List}
 use lib.ListN.{length}
+use denote.Ref.{RefT}
 use Rattle.folds.specs.Answers.{Answer, value, andThen, longEnough, fitting, number, placeOr, written, cleared}
 use Rattle.workspace.specs.Area.{fixed}
 use Rattle.sheet.specs.Sheet.{Sheet}
@@ -16,6 +17,7 @@ use Rattle.bundle.specs.Format.{readBundle}
 use Rattle.bundle.specs.Writing.{bundleValues}
 use Rattle.bundle.specs.Writing as bundles
 use Rattle.checker.specs.Checker.{check}
+use Rattle.better.specs.Choices.{BetterIs}
 use Rattle.planner.specs.Planner.{plan}
 use Rattle.listing.specs.Listing.{listing}
 use Rattle.entry_points.specs.Values.{levelsOf, tabled, no-place, taskTable, linkTable, boardAfter, commandTable, claimAfter, valueCount}
@@ -74,6 +76,10 @@ checkAnswer sheet bundle work = longEnough fixed work (check sheet bundle)
 
 abbrev pub GivesCheck : List ℕ → List ℕ → List ℕ → List ℕ → ℕ → ℕ → Type 0
 GivesCheck sheet bundle work = Ends no-place (checkAnswer sheet bundle (length work)) work
+
+-- zeldrupa_better: the better one of two bundles itself, or the empty front of the first; the place is the length of what is handed back, or a refusal's
+abbrev pub GivesBetter : List ℕ → RefT (List ℕ) → RefT (List ℕ) → List ℕ → List ℕ → RefT (List ℕ) → ℕ → ℕ → Type 0
+GivesBetter sheet first second work work′ kept p r = BetterIs sheet first second work work′ r p kept
 
 -- zeldrupa_plan: the bytes of the bundle that is planned
 unfoldable pub planAnswer : List ℕ → ℕ → ℕ → Answer (List ℕ)

@@ -1,8 +1,8 @@
 // The interface for C and Rust. Every function refuses a short work area first (13), then in the document's order; a refusal changes no
-// output, and the work area is all zero afterwards, except under 13, where it is untouched. What each of them gives is in
+// output but `kept` of zeldrupa_better, and the work area is all zero afterwards, except under 13, where it is untouched. What each of them gives is in
 // specs/Promises.antt, and of the stepping machine in specs/Stepping.antt.
 ghost use lib.ListN.{length};
-ghost use Rattle.zeldrupa.specs.Promises.{Gives, GivesSheet, GivesBundle, GivesCheck, GivesPlan, GivesListing, levelsAnswer, writeSheetAnswer, readSheetAnswer, readBundleAnswer, writeBundleAnswer};
+ghost use Rattle.zeldrupa.specs.Promises.{Gives, GivesSheet, GivesBundle, GivesCheck, GivesBetter, GivesPlan, GivesListing, levelsAnswer, writeSheetAnswer, readSheetAnswer, readBundleAnswer, writeBundleAnswer};
 ghost use Rattle.zeldrupa.specs.Stepping.{GivesStart, GivesRun, GivesStep, GivesLeft, GivesProcessor, GivesStamp};
 use entry_points::bundles;
 use entry_points::ending;
@@ -130,6 +130,24 @@ pub extern "C" fn zeldrupa_check(
     let o = bundles::check(sheet, bundle, work);
     workspace::clear(work);
     ending::conclude(o, place)
+}
+
+// Checks two bundles for a sheet: `kept` becomes the better one, the very bytes that were lent, and the place is their length. A refusal makes it the empty front of
+// the first.
+#[no_mangle]
+pub extern "C" fn zeldrupa_better<'a>(
+    sheet: &[u8],
+    first: &'a [u8],
+    second: &'a [u8],
+    work: &mut [u32],
+    kept: &mut &'a [u8],
+    place: &mut u64,
+) -> u8
+    ensures { λ r. ⌜ GivesBetter (now (sheet .entry)) (first .entry) (second .entry) (now (work .entry)) (now (work .exit)) (now (kept .exit)) (now (place .exit)) r ⌝ }
+{
+    let mut number = 0u8;
+    *kept = better::better(sheet, first, second, work, &mut number, place);
+    number
 }
 
 // Plans a sheet: the bytes of the bundle.

@@ -18,12 +18,13 @@ pub const REFUSAL: &str = "check, 32";
 pub const ONE_STEP: &str = "one step";
 
 /// The name of each call, and how it is measured.
-pub const CALLS: [(&str, Measure); 9] = [
+pub const CALLS: [(&str, Measure); 10] = [
     ("reading", reading),
     ("levels", levels),
     ("plan", plan),
     ("check", check),
     (REFUSAL, refusal),
+    ("better", better),
     (ONE_STEP, one_step),
     ("listing", listing),
     ("start", start),
@@ -90,6 +91,16 @@ fn refusal(case: &Case) -> Pair {
         case,
         |i| assert_eq!(black_box(product::check(&i.sheet, &i.wrong, &mut work)).0, 32),
         |i| assert!(black_box(interface::check(&i.sheet, &i.wrong)).is_err()),
+    )
+}
+
+/// The choice between a bundle and a copy of it: both are accepted, and all bytes are compared.
+fn better(case: &Case) -> Pair {
+    let mut work = area();
+    both(
+        case,
+        |i| succeeds(product::better(&i.sheet, &i.bundle, &i.copy, &mut work).0),
+        |i| passes(interface::better(&i.sheet, &i.bundle, &i.copy)),
     )
 }
 

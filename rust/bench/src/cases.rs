@@ -16,6 +16,8 @@ pub const MOST_BYTES: usize = 8192;
 pub struct Input {
     pub sheet: Vec<u8>,
     pub bundle: Vec<u8>,
+    /// The same bytes elsewhere.
+    pub copy: Vec<u8>,
     /// The bundle with one receive too many, of the last link, behind all other commands.
     pub wrong: Vec<u8>,
     /// Choices that all step, and run the bundle to its end.
@@ -30,7 +32,7 @@ impl Input {
         bundle.truncate(length);
         let wrong = one_receive_more(&sheet, &bundle);
         let choices = run_out(&sheet, &bundle);
-        Some(Input { sheet, bundle, wrong, choices })
+        Some(Input { sheet, copy: bundle.clone(), bundle, wrong, choices })
     }
 }
 

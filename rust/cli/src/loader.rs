@@ -5,7 +5,9 @@ use crate::files;
 use crate::refusing::{in_fault, refused};
 use crate::text::{is_text, BundleText, Claim, Names, Problem, SheetText, Text};
 use std::path::Path;
-use zeldrupa::{bundle_values, About, Bundle, Link, Machine, Refusal, Sheet, Task, WorkArea};
+use zeldrupa::{
+    bundle_values, About, Bundle, Command, Link, Machine, Refusal, Sheet, Task, WorkArea,
+};
 
 /// The work area, and what has been read so far.
 pub struct Loader {
@@ -29,6 +31,12 @@ pub struct BundleFile {
     pub file: String,
     pub bundle: Bundle,
     lines: Vec<usize>,
+}
+
+/// The bytes of a bundle, which may be refused.
+pub struct AnyBundle {
+    pub file: String,
+    pub bytes: Vec<u8>,
 }
 
 /// What a file holds.
@@ -107,11 +115,37 @@ impl Loader {
         match self.content(path)? {
             Content::Bytes(bytes) => self.bundle_of_bytes(of, &file, &bytes),
             Content::Text(Text { bundle: Some(text), .. }) => self.bundle_of_text(of, &file, &text),
-            Content::Text(_) => {
-                let told = "this text is a sheet; expected a bundle, with \"processor\"".into();
-                Err(in_fault(path, &[Problem { line: 1, column: 1, told }]))
-            }
+            Content::Text(_) => Err(no_bundle(path)),
         }
+    }
+
+    /// The bytes of a bundle for a sheet, also of one that is refused.
+    pub fn any_bundle(&mut self, of: &SheetFile, path: &Path) -> Result<AnyBundle, Fault> {
+        let file = files::shown(path);
+        match self.content(path)? {
+            Content::Bytes(bytes) => Ok(AnyBundle { file, bytes }),
+            Content::Text(Text { bundle: Some(text), .. }) => self.any_of_text(of, &file, &text),
+            Content::Text(_) => Err(no_bundle(path)),
+        }
+    }
+
+    /// The same of a text: where it is refused, the bytes that its values would have.
+    pub fn any_of_text(
+        &mut self,
+        of: &SheetFile,
+        file: &str,
+        text: &BundleText,
+    ) -> Result<AnyBundle, Fault> {
+        let bytes = match self.bundle_of_text(of, file, text) {
+            Ok(given) => given.bundle.bytes().to_vec(),
+            Err(Fault::Refused(_)) => {
+                let programmes = text.programmes(&of.sheet, &of.names);
+                let programmes = programmes.map_err(|all| in_fault(Path::new(file), &all))?;
+                encoded(&programmes, text.claim)
+            }
+            Err(fault) => return Err(fault),
+        };
+        Ok(AnyBundle { file: file.into(), bytes })
     }
 
     pub fn bundle_of_bytes(
@@ -178,8 +212,7 @@ impl Loader {
         let programmes = programmes.map_err(|all| in_fault(Path::new(file), &all))?;
         let mut write = |claim| {
             self.work.write_bundle(&of.sheet, &programmes, claim).map_err(|refusal| {
-                let commands = bundle_values(&programmes);
-                let bytes = inputs::bundles::Bundle { commands, claim }.encode();
+                let bytes = encoded(&programmes, Claim::At(claim));
                 of.refused(refusal, &bytes, file, &text.lines)
             })
         };
@@ -222,6 +255,21 @@ impl Loader {
         let started = self.work.start(&of.sheet, &bundle.bundle);
         started.map_err(|refusal| bundle.refused(of, refusal))
     }
+}
+
+/// What these values would be as bytes: a refusal's place is an offset in them.
+fn encoded(programmes: &[Vec<Command>], claim: Claim) -> Vec<u8> {
+    let claim = match claim {
+        Claim::At(claim) => claim,
+        Claim::Auto => 0,
+    };
+    inputs::bundles::Bundle { commands: bundle_values(programmes), claim }.encode()
+}
+
+/// The fault of a sheet's text where a bundle is asked for.
+fn no_bundle(path: &Path) -> Fault {
+    let told = "this text is a sheet; expected a bundle, with \"processor\"".into();
+    in_fault(path, &[Problem { line: 1, column: 1, told }])
 }
 
 impl SheetFile {

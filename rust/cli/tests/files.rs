@@ -23,6 +23,8 @@ fn a_failed_command_leaves_files_alone() {
         (&["plan", "missing.sheet", "-o", "kept"], 2),
         (&["pack", "stuck.txt", "--only", "bundle", "-o", "kept"], 1),
         (&["gantt", "k1.sheet", "r26-none.bundle", "-o", "kept"], 1),
+        (&["better", "k1.sheet", "r26-none.bundle", "k7.bundle", "-o", "kept"], 1),
+        (&["better", "k1.sheet", "k1.bundle", "missing.bundle", "-o", "kept"], 2),
         (&["plan", "k1.sheet", "-o", "missing/file"], 2),
         (&["plan", "k1.sheet", "-o", "kept/file"], 2),
         (&["plan", "k1.sheet", "-o", "."], 2),
@@ -99,8 +101,12 @@ fn damaged_files_are_refused() {
         }
         fs::write(scratch.path("s"), sheet).unwrap();
         fs::write(scratch.path("b"), bundle).unwrap();
-        for arguments in [&["check", "s", "b"][..], &["show", "b", "--sheet", "s"], &["show", "b"]]
-        {
+        for arguments in [
+            &["check", "s", "b"][..],
+            &["better", "s", "b", "k1.bundle"],
+            &["show", "b", "--sheet", "s"],
+            &["show", "b"],
+        ] {
             let output = scratch.run(arguments, None);
             assert!(matches!(output.status.code(), Some(0 | 1)), "{arguments:?}");
             let told = String::from_utf8([output.stdout, output.stderr].concat()).unwrap();

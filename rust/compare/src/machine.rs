@@ -1,10 +1,11 @@
-//! The comparison of the checker and the stepping machine.
+//! The comparison of the checker, the choice between two bundles and the stepping machine.
 
 use crate::comparison::{Call, Comparison, Difference, Hex, Input, Outcome};
 use crate::rules::{Answered, Machine, Rules};
 use crate::tally::Function;
 use inputs::Random;
 use literal::refusal::area;
+use std::ptr;
 use zeldrupa::raw::{self as product, Answer};
 
 /// The longest list of choices.
@@ -48,6 +49,22 @@ impl<R: Rules> Comparison<R> {
         let inputs: &[Input] = &[("sheet", &sheet), ("bundle", &bundle)];
         let call = Call { function: Function::Check, inputs, work: Some(work), answer };
         self.judge(call, right, wrong)
+    }
+
+    /// Chooses between two bundles for a sheet: the answer, and that the very slice is handed back.
+    pub fn better(&mut self, sheet: &[u8], first: &[u8], second: &[u8]) -> Outcome {
+        let work = self.next_work();
+        let kept = R::better(sheet, first, second, &mut self.tally);
+        let right = self.with_work(work, kept);
+        let before = [sheet, first, second].map(<[u8]>::to_vec);
+        let (answer, kept) = product::better(sheet, first, second, self.work.lend(work));
+        let wrong = match ptr::eq(kept, right.unwrap_or(&first[..0])) {
+            true => ([sheet, first, second] != before).then_some("the input"),
+            false => Some("what is handed back"),
+        };
+        let inputs: &[Input] = &[("sheet", &sheet), ("first", &first), ("second", &second)];
+        let call = Call { function: Function::Better, inputs, work: Some(work), answer };
+        self.judge(call, right.map(|kept| kept.len() as u64), wrong)
     }
 
     /// Starts the machine and makes choices one by one, then the same choices in one run.

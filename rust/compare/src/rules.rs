@@ -2,9 +2,12 @@
 
 use crate::tally::Tally;
 use inputs::{bundles, sheets};
+use literal::better::Decided;
 use literal::interface::Tables;
 use literal::Refusal;
+use reference::better::better;
 use reference::bundle::{from_values, Bundle};
+use reference::checker::merits;
 use reference::planner::{plan_with, Turn};
 use reference::sheet::Sheet;
 use reference::{graph, listing};
@@ -23,6 +26,14 @@ pub trait Rules {
     fn read_bundle(sheet: &[u8], bundle: &[u8]) -> Answered<(Vec<u16>, u32)>;
     fn write_bundle(sheet: &[u8], values: &bundles::Bundle) -> Answered<Vec<u8>>;
     fn check(sheet: &[u8], bundle: &[u8]) -> Answered<()>;
+
+    /// The better of two bundles, one of the slices themselves; counts what decided.
+    fn better<'a>(
+        sheet: &[u8],
+        first: &'a [u8],
+        second: &'a [u8],
+        tally: &mut Tally,
+    ) -> Answered<&'a [u8]>;
 
     /// The bundle and the listing of a plan; counts which rules gave the processors.
     fn plan(sheet: &[u8], tally: &mut Tally) -> (Answered<Vec<u8>>, Vec<u8>);
@@ -99,6 +110,24 @@ impl Rules for Fast {
 
     fn check(sheet: &[u8], bundle: &[u8]) -> Answered<()> {
         reference::interface::check(sheet, bundle).map_err(refusal)
+    }
+
+    fn better<'a>(
+        sheet: &[u8],
+        first: &'a [u8],
+        second: &'a [u8],
+        tally: &mut Tally,
+    ) -> Answered<&'a [u8]> {
+        let sheet = read(sheet)?;
+        let kept = better(&sheet, first, second).map_err(refusal)?;
+        tally.count_choice(match [first, second].map(|bundle| merits(&sheet, bundle)) {
+            [Ok(one), Ok(other)] if one.claim != other.claim => 1,
+            [Ok(one), Ok(other)] if one.runners != other.runners => 2,
+            [Ok(_), Ok(_)] if first != second => 3,
+            [Ok(_), Ok(_)] => 4,
+            _ => 0,
+        });
+        Ok(kept)
     }
 
     fn plan(sheet: &[u8], tally: &mut Tally) -> (Answered<Vec<u8>>, Vec<u8>) {
@@ -200,6 +229,21 @@ impl Rules for Literal {
 
     fn check(sheet: &[u8], bundle: &[u8]) -> Answered<()> {
         literal::interface::check(sheet, bundle)
+    }
+
+    fn better<'a>(
+        sheet: &[u8],
+        first: &'a [u8],
+        second: &'a [u8],
+        tally: &mut Tally,
+    ) -> Answered<&'a [u8]> {
+        let (kept, decided) = literal::interface::better(sheet, first, second)?;
+        tally.count_choice(match decided {
+            Decided::Acceptance => 0,
+            Decided::Rule(rule) => 1 + rule.min(2),
+            Decided::Nothing => 4,
+        });
+        Ok(kept)
     }
 
     fn plan(sheet: &[u8], tally: &mut Tally) -> (Answered<Vec<u8>>, Vec<u8>) {

@@ -12,6 +12,7 @@ pub enum Function {
     ReadBundle,
     WriteBundle,
     Check,
+    Better,
     Start,
     Run,
     Step,
@@ -21,7 +22,7 @@ pub enum Function {
 }
 
 /// Every function that is compared.
-pub const FUNCTIONS: [Function; 14] = [
+pub const FUNCTIONS: [Function; 15] = [
     Function::ReadSheet,
     Function::WriteSheet,
     Function::Levels,
@@ -30,6 +31,7 @@ pub const FUNCTIONS: [Function; 14] = [
     Function::ReadBundle,
     Function::WriteBundle,
     Function::Check,
+    Function::Better,
     Function::Start,
     Function::Run,
     Function::Step,
@@ -39,7 +41,7 @@ pub const FUNCTIONS: [Function; 14] = [
 ];
 
 /// How many functions stand side by side in the table of answers.
-const COLUMNS: usize = 7;
+const COLUMNS: usize = 8;
 
 impl Function {
     /// Its name without the prefix.
@@ -53,6 +55,7 @@ impl Function {
             Function::ReadBundle => "read_bundle",
             Function::WriteBundle => "write_bundle",
             Function::Check => "check",
+            Function::Better => "better",
             Function::Start => "start",
             Function::Run => "run",
             Function::Step => "step",
@@ -74,6 +77,7 @@ impl Function {
                 sheet || number == 12 || matches!(number, 21..=25)
             }
             Function::Check => sheet || matches!(number, 21..=26 | 28..=33),
+            Function::Better => sheet || number == 34,
             Function::Start | Function::Run => sheet || matches!(number, 21..=26 | 28 | 31..=33),
             Function::Step | Function::Left | Function::Processor | Function::Stamp => {
                 matches!(number, 0 | 13)
@@ -83,7 +87,7 @@ impl Function {
 }
 
 /// The greatest number of a refusal, and every number that an answer can have.
-const GREATEST: u8 = 33;
+const GREATEST: u8 = 34;
 const NUMBERS: std::ops::RangeInclusive<u8> = 0..=GREATEST;
 
 /// The rules that give a task its processor: the steps, and the guard where it bars the processor that
@@ -92,16 +96,26 @@ const STEPS: usize = 5;
 const RULES: [&str; STEPS + 2] =
     ["join", "idle", "share", "open", "last resort", "the guard at join", "the guard at share"];
 
-/// The counts of answers, by function and number, and of turns by the rule that decided.
+/// What decides between two bundles: one is refused, the claims, the processors that run a task, the
+/// bytes, or nothing.
+pub const REASONS: [&str; 5] = ["acceptance", "claim", "processors", "bytes", "order of lending"];
+
+/// The counts of answers, by function and number, of turns by the rule that decided, and of choices
+/// between two bundles by what decided.
 #[derive(Clone)]
 pub struct Tally {
     counts: [[usize; GREATEST as usize + 1]; FUNCTIONS.len()],
     rules: [usize; RULES.len()],
+    reasons: [usize; REASONS.len()],
 }
 
 impl Default for Tally {
     fn default() -> Self {
-        Tally { counts: [[0; GREATEST as usize + 1]; FUNCTIONS.len()], rules: [0; RULES.len()] }
+        Tally {
+            counts: [[0; GREATEST as usize + 1]; FUNCTIONS.len()],
+            rules: [0; RULES.len()],
+            reasons: [0; REASONS.len()],
+        }
     }
 }
 
@@ -119,10 +133,16 @@ impl Tally {
         guard.zip(guarded).for_each(|(count, guarded)| *count += usize::from(guarded));
     }
 
+    /// Counts a choice between two bundles by the place of what decided among [`REASONS`].
+    pub fn count_choice(&mut self, reason: usize) {
+        self.reasons[reason] += 1;
+    }
+
     /// Adds another tally's counts.
     pub fn add(&mut self, other: &Tally) {
-        let counts = self.counts.as_flattened_mut().iter_mut().chain(&mut self.rules);
-        let more = other.counts.as_flattened().iter().chain(&other.rules);
+        let counts = self.counts.as_flattened_mut().iter_mut();
+        let counts = counts.chain(&mut self.rules).chain(&mut self.reasons);
+        let more = other.counts.as_flattened().iter().chain(&other.rules).chain(&other.reasons);
         counts.zip(more).for_each(|(count, more)| *count += more);
     }
 
@@ -143,8 +163,12 @@ impl Tally {
 
     /// Prints tables with a row for each number and a column for each function, and the rules.
     pub fn print(&self) {
-        let rules = RULES.iter().zip(&self.rules).map(|(rule, count)| format!("{rule} {count}"));
-        println!("turns decided by {}", rules.collect::<Vec<_>>().join(", "));
+        let all: [(&str, &[&str], &[usize]); 2] =
+            [("turns", &RULES, &self.rules), ("choices", &REASONS, &self.reasons)];
+        for (what, names, counts) in all {
+            let named = names.iter().zip(counts).map(|(name, count)| format!("{name} {count}"));
+            println!("{what} decided by {}", named.collect::<Vec<_>>().join(", "));
+        }
         for functions in FUNCTIONS.chunks(COLUMNS) {
             let row = |name: &str, cell: &dyn Fn(Function) -> String| {
                 let cells: String = functions.iter().map(|&f| format!("{:>14}", cell(f))).collect();
@@ -169,7 +193,8 @@ impl Tally {
         let answers =
             all.filter(|&(f, number)| f.can_answer(number) && self.answers(f, number) == 0);
         let answers = answers.map(|(f, number)| format!("{} never answered {number}", f.name()));
-        let rules = RULES.iter().zip(self.rules).filter(|&(_, count)| count == 0);
-        answers.chain(rules.map(|(rule, _)| format!("{rule} never decided"))).collect()
+        let deciding = RULES.iter().chain(&REASONS).zip(self.rules.iter().chain(&self.reasons));
+        let never = deciding.filter(|&(_, &count)| count == 0);
+        answers.chain(never.map(|(name, _)| format!("{name} never decided"))).collect()
     }
 }

@@ -1,6 +1,7 @@
 //! Made-up programme bundles for a sheet: of the right form only, or with every run and message right;
 //! and those of bare boards, right or not.
 
+use crate::damage;
 use crate::random::Random;
 use crate::sheets::Sheet;
 
@@ -216,6 +217,50 @@ pub fn exchange(random: &mut Random, bundle: &mut Bundle) {
     }
     let (_, other) = random.pick(&messages);
     (0..2).for_each(|i| bundle.commands.swap(2 * one + i, 2 * other + i));
+}
+
+/// The same programmes with empty ones among them and behind them, as many as the processors allow or
+/// fewer. The claim and the processors that run a task stay; the bytes do not.
+pub fn spread(random: &mut Random, sheet: &Sheet, bundle: &Bundle) -> Bundle {
+    let mut programmes: Vec<Vec<u16>> = Vec::new();
+    for command in bundle.commands.chunks_exact(2) {
+        match (command[0], programmes.last_mut()) {
+            (OPEN, _) | (_, None) => programmes.push(Vec::new()),
+            (_, Some(programme)) => programme.extend(command),
+        }
+    }
+    let free = usize::from(sheet.processors).saturating_sub(programmes.len());
+    for _ in 0..random.within(0..=free) {
+        let at = random.below(programmes.len() + 1);
+        programmes.insert(at, Vec::new());
+    }
+    let mut commands = Vec::new();
+    for (number, programme) in programmes.into_iter().enumerate() {
+        commands.extend([OPEN, number as u16]);
+        commands.extend(programme);
+    }
+    Bundle { commands, claim: bundle.claim }
+}
+
+/// The bytes of a bundle to compare with this one: the same, with other empty programmes, with another
+/// claim, cut, damaged, perhaps stuck, or another right one.
+pub fn rival(random: &mut Random, sheet: &Sheet, bundle: &Bundle) -> Vec<u8> {
+    match random.below(8) {
+        0 => bundle.encode(),
+        1 => spread(random, sheet, bundle).encode(),
+        2 => {
+            let claim = bundle.claim.wrapping_sub(random.below(3) as u32).wrapping_add(1);
+            Bundle { claim, ..bundle.clone() }.encode()
+        }
+        3 => {
+            let mut bytes = bundle.encode();
+            bytes.truncate(random.below(bytes.len()));
+            bytes
+        }
+        4 => damage::few(random, bundle.encode(), damage::bundle_command),
+        5 => tangled(random, sheet).encode(),
+        _ => orderly(random, sheet).encode(),
+    }
 }
 
 /// For a bare board: no programme or empty ones, perhaps one more than there may be, and often a

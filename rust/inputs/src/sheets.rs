@@ -204,6 +204,18 @@ pub fn small_board(random: &mut Random) -> Sheet {
     sheet
 }
 
+/// A valid sheet on which many bundles claim the same: at most four tasks of work 1, free messages,
+/// and store enough.
+pub fn even(random: &mut Random) -> Sheet {
+    let tasks = random.within(1..=4);
+    let shape = random.pick(&SHAPES);
+    let mut sheet = with_shape(random, tasks, shape);
+    weigh(random, &mut sheet, 1, 1);
+    sheet.processors = random.within(1..=4) as u8;
+    sheet.limit = u32::MAX;
+    sheet
+}
+
 /// Gives a limit between what the greatest task needs and all tasks need together.
 pub fn tighten(random: &mut Random, sheet: &mut Sheet) {
     let stores = sheet.tasks.iter().skip(1).step_by(2).map(|&store| usize::from(store));

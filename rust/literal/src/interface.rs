@@ -2,6 +2,7 @@
 //! are in [`crate::refusal`]): "then the sheet from its first byte [..] then the planner [..] or
 //! the checker".
 
+use crate::better::{self, Decided};
 use crate::bundle::Bundle;
 use crate::checker;
 use crate::levels;
@@ -82,6 +83,15 @@ pub fn write_bundle(sheet: &[u8], commands: &[u16], claim: u32) -> Result<Vec<u8
 pub fn check(sheet: &[u8], bundle: &[u8]) -> Result<(), Refusal> {
     let sheet = Sheet::read(sheet)?;
     checker::check(&sheet, &Bundle::read(&sheet, bundle)?)
+}
+
+/// The better of two bundles, and what decided.
+pub fn better<'a>(
+    sheet: &[u8],
+    first: &'a [u8],
+    second: &'a [u8],
+) -> Result<(&'a [u8], Decided), Refusal> {
+    better::better(&Sheet::read(sheet)?, first, second)
 }
 
 /// Where and when each task runs, in placing order.

@@ -1,6 +1,7 @@
 //! The trial sheets of document 01 on the literal rules.
 
-use literal::interface::{check, levels, listing, placed, plan, read_bundle, read_sheet};
+use literal::better::Decided;
+use literal::interface::{better, check, levels, listing, placed, plan, read_bundle, read_sheet};
 use literal::interface::{start, write_bundle, write_sheet};
 use literal::placing::{place, Rules};
 use literal::sheet::Sheet;
@@ -112,6 +113,50 @@ fn bare_board() {
     // On a sheet with tasks it is 23 as before.
     assert_eq!(check(&example("k1.sheet"), &bundle), refused(23, 0));
     assert_eq!(check(&example("k1.sheet"), &bundle[..3]), refused(23, 0));
+}
+
+/// C-12: two tasks of work 1 joined by a free link, and bundles of them.
+#[test]
+fn better_of_two() {
+    let sheet = b"\x4D\x03\x64\0\0\0\x54\x01\0\0\0\x54\x01\0\0\0\x45\0\x01\0\0\0\0\x51";
+    let one = &b"\x50\0\x52\0\x52\x01\x5A\x02\0\0\0"[..];
+    let behind_empty = &b"\x50\0\x50\x01\x52\0\x52\x01\x5A\x02\0\0\0"[..];
+    let two = &b"\x50\0\x50\x01\x52\0\x53\0\0\x50\x02\x56\0\0\x52\x01\x5A\x02\0\0\0"[..];
+    let hasty = &b"\x50\0\x52\0\x52\x01\x5A\x01\0\0\0"[..];
+    for bundle in [one, behind_empty, two] {
+        assert_eq!(check(sheet, bundle), Ok(()));
+    }
+    assert_eq!(check(sheet, hasty), refused(30, 2));
+    let chosen = |first, second, decided| {
+        assert_eq!(better(sheet, first, second), Ok((first, decided)));
+        assert_eq!(better(sheet, second, first), Ok((first, decided)));
+    };
+    // A refused bundle is not preferred for its smaller claim.
+    chosen(one, hasty, Decided::Acceptance);
+    chosen(one, b"", Decided::Acceptance);
+    // Fewer processors run a task, though the bytes of the other are lower; empty programmes don't
+    // count, and then the lower byte decides.
+    chosen(one, two, Decided::Rule(1));
+    chosen(behind_empty, one, Decided::Rule(2));
+    assert_eq!(better(sheet, hasty, b"\x50"), refused(34, 0));
+    assert_eq!(better(&sheet[..9], one, hasty), refused(1, 6));
+    // Of equal bundles the first that was lent.
+    let (copy, other) = (one.to_vec(), one.to_vec());
+    let (kept, decided) = better(sheet, &copy, &other).unwrap();
+    assert!(std::ptr::eq(kept, &copy[..]) && decided == Decided::Nothing);
+    // K1's plan claims 5, and all on one processor take 8.
+    let k1 = example("k1.bundle");
+    let alone = b"\x50\0\x52\x03\x52\0\x52\x01\x52\x02\x5A\x08\0\0\0";
+    assert_eq!(better(&example("k1.sheet"), alone, &k1), Ok((&k1[..], Decided::Rule(0))));
+    // On a bare board the one with more empty programmes is better: 50 is below 5A.
+    let (bare, none) = (example("bare.sheet"), example("bare.bundle"));
+    let (mut least, mut opened) = (none, Vec::new());
+    for number in 0..3 {
+        opened.extend([0x50, number]);
+        let more = [&opened[..], b"\x5A\0\0\0\0"].concat();
+        assert_eq!(better(&bare, &least, &more), Ok((&more[..], Decided::Rule(2))));
+        least = more;
+    }
 }
 
 #[test]

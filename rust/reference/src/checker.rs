@@ -5,10 +5,32 @@ use crate::machine::{Machine, Processor, Step};
 use crate::refusal::*;
 use crate::sheet::Sheet;
 
+/// What an accepted bundle is compared by before its bytes: less is better.
+#[derive(Clone, Copy, Debug, PartialEq, Eq, PartialOrd, Ord)]
+pub struct Merits {
+    /// The claimed time.
+    pub claim: u32,
+    /// How many processors run a task.
+    pub runners: usize,
+}
+
 /// Checks a bundle against its sheet (21 to 30).
 pub fn check(sheet: &Sheet, bundle: &[u8]) -> Result<(), Refusal> {
-    let mut machine = Machine::start(sheet, bundle)?;
-    run_out(&mut machine, sheet.links.len());
+    finish(Machine::start(sheet, bundle)?)
+}
+
+/// The merits of a bundle that is accepted (21 to 30).
+pub fn merits(sheet: &Sheet, bundle: &[u8]) -> Result<Merits, Refusal> {
+    let machine = Machine::start(sheet, bundle)?;
+    let merits = Merits { claim: machine.claim, runners: machine.runners() };
+    finish(machine)?;
+    Ok(merits)
+}
+
+/// Runs a fresh machine to its end (29, 30).
+fn finish(mut machine: Machine) -> Result<(), Refusal> {
+    let links = machine.links();
+    run_out(&mut machine, links);
     if let Some(stuck) = machine.processors().iter().position(Processor::unfinished) {
         return Err(Refusal::new(STUCK, stuck));
     }

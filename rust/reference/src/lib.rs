@@ -5,6 +5,7 @@
 //! Each module has one part of the rules over typed values; [`interface`] has the same parts from
 //! bytes to lent buffers, as the product's C interface has them.
 
+pub mod better;
 pub mod bundle;
 pub mod checker;
 mod command_bytes;

@@ -44,6 +44,15 @@ impl Step {
     }
 }
 
+/// The commands of a part of a programme.
+fn commands(mut rest: &[u8]) -> impl Iterator<Item = Command> + '_ {
+    iter::from_fn(move || {
+        let (command, behind) = Command::split(rest)?;
+        rest = behind;
+        Some(command)
+    })
+}
+
 /// A sheet's bundle being run.
 #[derive(Clone, Debug)]
 pub struct Machine<'a> {
@@ -108,6 +117,12 @@ impl<'a> Machine<'a> {
         &self.processors
     }
 
+    /// How many processors have a task left to run.
+    pub fn runners(&self) -> usize {
+        let runs = |rest| commands(rest).any(|command| matches!(command, Command::Run(_)));
+        self.processors.iter().filter(|processor| runs(processor.rest)).count()
+    }
+
     /// How many links there are.
     pub fn links(&self) -> usize {
         self.stamps.len()
@@ -120,13 +135,6 @@ impl<'a> Machine<'a> {
 
     /// The commands still to do.
     pub fn left(&self) -> usize {
-        let commands = |mut rest| {
-            iter::from_fn(move || {
-                let (command, behind) = Command::split(rest)?;
-                rest = behind;
-                Some(command)
-            })
-        };
         self.processors.iter().map(|processor| commands(processor.rest).count()).sum()
     }
 

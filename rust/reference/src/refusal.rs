@@ -65,6 +65,9 @@ pub const WRONG_RECEIVE: u8 = 32;
 /// Inside one processor a link's source runs after its target.
 pub const LOCAL_ORDER: u8 = 33;
 
+/// Of two bundles both are refused.
+pub const BOTH_REFUSED: u8 = 34;
+
 /// Whether a result of this length fits a lent output (12).
 pub fn room<T>(length: usize, out: &[T]) -> Result<(), Refusal> {
     match out.len() < length {

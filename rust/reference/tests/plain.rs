@@ -1,6 +1,7 @@
 //! The rewrite held against the literal rules on made-up inputs.
 
 use inputs::{bundles, damage, sheets, Random};
+use literal::better::Decided;
 use literal::placing::Rules;
 use reference::graph;
 use reference::machine::Machine;
@@ -219,6 +220,52 @@ fn bare_boards() {
     for number in [0, 21, 23, 24, 25, 30] {
         assert!(counts[number] > 100, "{number} came {} times", counts[number]);
     }
+}
+
+/// Of two bundles the same one, by its address, or the same refusal; everything decides now and then.
+#[test]
+fn better_bundles() {
+    let mut random = Random::new(8);
+    let mut counts = [0; 6];
+    for round in 0..12_000 {
+        let values = match round % 4 {
+            0 => sheets::small(&mut random),
+            1 => sheets::bare(&mut random),
+            _ => sheets::even(&mut random),
+        };
+        let mut sheet = values.encode();
+        if random.once_in(16) {
+            sheet = damage::few(&mut random, sheet, damage::sheet_command);
+        }
+        let bundle = bundles::orderly(&mut random, &values);
+        let mut lent = [bundle.encode(), bundles::rival(&mut random, &values, &bundle)];
+        if random.once_in(8) {
+            let tangled = bundles::tangled(&mut random, &values);
+            lent[0] = bundles::frayed(&mut random, &tangled);
+        }
+        if random.once_in(2) {
+            lent.swap(0, 1);
+        }
+        let answer = interface::better(&sheet, &lent[0], &lent[1]).map_err(same);
+        let literal = literal::interface::better(&sheet, &lent[0], &lent[1]);
+        match (answer, literal) {
+            (Ok(one), Ok((other, decided))) => {
+                assert!(std::ptr::eq(one, other), "{values:?} {lent:02X?}");
+                counts[match decided {
+                    Decided::Acceptance => 0,
+                    Decided::Rule(rule) => 1 + rule,
+                    Decided::Nothing => 5,
+                }] += 1;
+            }
+            (answer, literal) => {
+                assert_eq!(answer.err(), literal.err(), "{values:?} {lent:02X?}")
+            }
+        }
+    }
+    // No accepted bundle begins another one, so that the length alone never decides.
+    assert_eq!(counts[4], 0);
+    counts[4] = usize::MAX;
+    assert!(counts.iter().all(|&count| count > 100), "{counts:?}");
 }
 
 /// Values are refused as their bytes are, and what is written is read again.

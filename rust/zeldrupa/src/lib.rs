@@ -1,7 +1,7 @@
 //! The proved planner for boards of small processors, from Rust.
 //!
 //! A [`WorkArea`] has every call: it reads and writes a [`Sheet`] of tasks and a [`Bundle`] of
-//! programmes, plans, checks, lists, and starts a [`Machine`]. Each answer is the static library's
+//! programmes, plans, checks, chooses, lists, and starts a [`Machine`]. Each answer is the static library's
 //! own; a [`Refusal`] has document 01's number, place and word, and [`Refusal::explain`] tells it in
 //! the user's terms.
 //!

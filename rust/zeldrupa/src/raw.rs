@@ -19,6 +19,7 @@
 mod calls;
 
 use std::mem::MaybeUninit;
+use std::slice;
 
 /// The number and the place of an answer.
 pub type Answer = (u8, u64);
@@ -75,6 +76,59 @@ interface! {
 
     /// The place is one more than the stamp of a link's message, or 0 while it is not sent.
     stamp = zeldrupa_stamp(state: &[u32], link: u64);
+}
+
+/// Lent bytes as C has them: `struct zeldrupa_bytes`.
+#[repr(C)]
+struct Bytes {
+    at: *const u8,
+    length: usize,
+}
+
+/// Checks two bundles for a sheet and gives the better one, the very slice that was lent; the place
+/// is its length. A refusal gives the empty front of the first.
+#[inline]
+pub fn better<'a>(
+    sheet: &[u8],
+    first: &'a [u8],
+    second: &'a [u8],
+    work: &mut [u32],
+) -> (Answer, &'a [u8]) {
+    extern "C" {
+        fn zeldrupa_better(
+            sheet: *const u8,
+            sheet_length: usize,
+            first: *const u8,
+            first_length: usize,
+            second: *const u8,
+            second_length: usize,
+            work: *mut u32,
+            work_length: usize,
+            kept: *mut Bytes,
+            place: *mut u64,
+        ) -> u8;
+    }
+    let none: &[u8] = &[];
+    let mut kept = Bytes { at: none.as_ptr(), length: none.len() };
+    // SAFETY: each pointer and length is that of a live slice, and nothing else is lent that is
+    // written.
+    let answer = answer(|place| unsafe {
+        zeldrupa_better(
+            sheet.as_ptr(),
+            sheet.len(),
+            first.as_ptr(),
+            first.len(),
+            second.as_ptr(),
+            second.len(),
+            work.as_mut_ptr(),
+            work.len(),
+            &mut kept,
+            place,
+        )
+    });
+    // SAFETY: what is kept is one of the two slices or the empty front of the first; that is part of
+    // the proved promise.
+    (answer, unsafe { slice::from_raw_parts(kept.at, kept.length) })
 }
 
 /// The fixed length of work areas and of states, in words: what the product says to an area of none.

@@ -35,12 +35,12 @@ impl Refusal {
         }
     }
 
-    /// Its number in documents 01 and 02: 1 to 13 without 9, or 21 to 33 without 27.
+    /// Its number in documents 01 and 02: 1 to 13 without 9, or 21 to 34 without 27.
     pub fn number(self) -> u8 {
         self.number
     }
 
-    /// Its place: an offset, a task, a link, a processor, a length or a clock, by its number.
+    /// Its place: an offset, a task, a link, a processor, a length or a clock, by its number; 0 with 34.
     pub fn place(self) -> u64 {
         self.place
     }

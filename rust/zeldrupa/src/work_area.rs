@@ -1,4 +1,5 @@
-//! The work area, lent to every call: reading, writing, levels, planning, checking and listing.
+//! The work area, lent to every call: reading, writing, levels, planning, checking, choosing and
+//! listing.
 
 use crate::bundle::from_values;
 use crate::{bundle_values, raw, Bundle, Command, Link, Machine, Refusal, Sheet, Task};
@@ -166,6 +167,35 @@ impl WorkArea {
         bundle: impl AsRef<[u8]>,
     ) -> Result<(), Refusal> {
         Refusal::of(raw::check(sheet.as_ref(), bundle.as_ref(), &mut self.words)).map(|_| ())
+    }
+
+    /// The better of two bundles for a sheet, one of the two slices themselves (1 to 8, 10, 34): an
+    /// accepted one before a refused one, then the smaller claim, then fewer processors that run a
+    /// task, then the lower bytes; the first of equals.
+    ///
+    /// ```
+    /// # use zeldrupa::{Command::Run, WorkArea};
+    /// # fn main() -> Result<(), zeldrupa::Refusal> {
+    /// let mut work = WorkArea::new();
+    /// let sheet = work.read_sheet(include_bytes!("../../../examples/k1.sheet"))?;
+    /// let planned = work.plan(&sheet)?;
+    /// let by_hand = work.write_bundle(&sheet, &[vec![Run(3), Run(0), Run(1), Run(2)]], 8)?;
+    /// let kept = work.better(&sheet, by_hand.bytes(), planned.bytes())?;
+    /// assert!(std::ptr::eq(kept, planned.bytes()));
+    ///
+    /// let refusal = work.better(&sheet, b"", b"?").unwrap_err();
+    /// assert_eq!((refusal.number(), refusal.place(), refusal.word()), (34, 0, "both refused"));
+    /// # Ok(())
+    /// # }
+    /// ```
+    pub fn better<'a>(
+        &mut self,
+        sheet: impl AsRef<[u8]>,
+        first: &'a [u8],
+        second: &'a [u8],
+    ) -> Result<&'a [u8], Refusal> {
+        let (answer, kept) = raw::better(sheet.as_ref(), first, second, &mut self.words);
+        Refusal::of(answer).map(|_| kept)
     }
 
     /// Starts the machine: every programme at its first command, clocks and stores in use 0, nothing

@@ -2,7 +2,7 @@
 
 use std::collections::BTreeMap;
 use std::fs;
-use zeldrupa::{About, Refusal, Sheet, Subject, WorkArea};
+use zeldrupa::{raw, About, Refusal, Sheet, Subject, WorkArea};
 
 /// The example files by name, the figures among them.
 fn files() -> BTreeMap<String, Vec<u8>> {
@@ -116,6 +116,39 @@ fn a_bare_board_is_whole() {
     }
     let k1 = &files["k1.sheet"];
     assert_eq!(number_and_place(work.check(k1, &files["bare.bundle"])), Some((23, 0)));
+}
+
+/// C-12: the very slice that was lent comes back, and a refusal's front is that of the first.
+#[test]
+fn the_better_bundle_is_the_lent_one() {
+    let (mut work, files) = (WorkArea::new(), files());
+    let (k1, planned, late) =
+        (&files["k1.sheet"], &files["k1.bundle"][..], &files["k7.bundle"][..]);
+    let copy = planned.to_vec();
+    for (first, second, right) in [
+        (planned, late, planned),
+        (late, planned, planned),
+        (planned, &copy[..], planned),
+        (&copy[..], planned, &copy[..]),
+    ] {
+        let kept = work.better(k1, first, second).unwrap();
+        assert!(std::ptr::eq(kept, right));
+    }
+    assert_eq!(number_and_place(work.better(k1, late, b"")), Some((34, 0)));
+    assert_eq!(number_and_place(work.better(&k1[..47], planned, late)), Some((1, 47)));
+    let mut area = vec![7; raw::work_length()];
+    for (sheet, first, second) in [(&k1[..], late, &b""[..]), (&k1[..47], planned, late)] {
+        let (_, front) = raw::better(sheet, first, second, &mut area);
+        assert!(std::ptr::eq(front, &first[..0]));
+    }
+    let (short, front) = raw::better(k1, planned, late, &mut area[1..]);
+    assert_eq!(short, (13, raw::work_length() as u64));
+    assert!(std::ptr::eq(front, &planned[..0]));
+
+    // On a bare board the one with more empty programmes is better: 50 is below 5A.
+    let (bare, none) = (&files["bare.sheet"], &files["bare.bundle"][..]);
+    let opened = [&[0x50, 0, 0x50, 1], none].concat();
+    assert!(std::ptr::eq(work.better(bare, none, &opened).unwrap(), &opened[..]));
 }
 
 #[test]

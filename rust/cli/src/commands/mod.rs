@@ -1,5 +1,6 @@
 //! The commands of the tool, each with its files, options and help.
 
+mod better;
 mod check;
 mod compare;
 mod gantt;
@@ -32,9 +33,10 @@ pub struct Command {
     pub answer: fn(&mut Loader, &Arguments) -> Result<Answer, Fault>,
 }
 
-pub static COMMANDS: [Command; 9] = [
+pub static COMMANDS: [Command; 10] = [
     plan::COMMAND,
     check::COMMAND,
+    better::COMMAND,
     list::COMMAND,
     run::COMMAND,
     gantt::COMMAND,

@@ -24,6 +24,7 @@ fn bundle_functions<R: Rules>(
     c.read_bundle(sheet, bundle)?;
     c.write_bundle(sheet, values)?;
     c.check(sheet, bundle)?;
+    c.better(sheet, bundle, &values.encode())?;
     c.machine(sheet, bundle)
 }
 

@@ -2,6 +2,7 @@
 //! inputs on any number of threads.
 
 mod bare;
+mod choices;
 mod formats;
 mod machine;
 mod plans;
@@ -60,6 +61,13 @@ pub const FAST: &[Family<Fast>] = &[
     ("cut pairs", machine::cut),
     ("largest pairs", machine::largest),
     ("any words as state", machine::any_states),
+    ("rivals", choices::rivals),
+    ("even rivals", choices::even),
+    ("bare rivals", choices::bare),
+    ("both refused", choices::refused),
+    ("rivals of faulty sheets", choices::faulty_sheets),
+    ("cut rivals", choices::cut),
+    ("largest rivals", choices::largest),
 ];
 
 /// The families of small inputs, each of which is for several runs.
@@ -76,6 +84,8 @@ pub const LITERAL: &[Family<Literal>] = &[
     ("arranged small bundles", small::arranged_bundles),
     ("damaged small bundles", small::damaged_bundles),
     ("small sheets in fault", small::sheets_in_fault),
+    ("even rivals", choices::even),
+    ("bare rivals", choices::bare),
 ];
 
 /// What came of a family.

@@ -85,6 +85,7 @@ impl Refusal {
             (Counts::Lent, _) => {
                 without((format!("{} elements are needed", self.place), Subject::Other))
             }
+            (Counts::Nothing, _) => without(("both bundles".into(), Subject::Other)),
             (_, Some(read)) => programmes::place(self, counts, &read),
             (_, None) => without((format!("place {}", self.place), Subject::Other)),
         };

@@ -10,6 +10,7 @@ pub(crate) enum Counts {
     Processors,
     Time,
     Lent,
+    Nothing,
 }
 
 /// A refusal: its number, its word in the trade, a sentence on why there is no result, and a remedy.
@@ -27,7 +28,7 @@ pub(crate) fn kind(number: u8) -> Option<&'static Kind> {
 }
 
 /// All of them; docs/FORMAT.md has the same sentences.
-pub(crate) static KINDS: [Kind; 24] = [
+pub(crate) static KINDS: [Kind; 25] = [
     Kind {
         number: 1,
         word: "cut sheet",
@@ -206,6 +207,13 @@ pub(crate) static KINDS: [Kind; 24] = [
         cause:
             "Both tasks of the link run on one processor, and its source runs behind its target.",
         remedy: "Move the run of the source up, before the run of the target.",
+    },
+    Kind {
+        number: 34,
+        word: "both refused",
+        counts: Counts::Nothing,
+        cause: "Of two bundles neither is accepted, so that there is no better one.",
+        remedy: "Check each of them, and mend one as its own refusal says.",
     },
 ];
 
