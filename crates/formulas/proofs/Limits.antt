@@ -9,10 +9,30 @@ use mathlib.Core.List.{List, [], _∷_, _++_}
 use lib.ListN.{length, getD}
 use lib.Dec.{leb}
 use native.Mathlib.Numerals.{add-one}
-use Rattle.folds.specs.Folds.{pick}
+use borrow.Author.Tests.{leb-true}
+use x.{}
+use Rattle.folds.specs.Folds.{pick, both}
+use Rattle.folds.proofs.Tests.{both-parts}
 use Rattle.formulas.specs.Grammar.{Sum, Product, Atom, firstDigit, mostDigits}
 use Rattle.formulas.specs.Scanning.{timesTo, plusTo}
 use Rattle.formulas.specs.Values.{capped, cappedBy, decimal, sumValue, productValue, atomValue, greatestValue}
+use Rattle.formulas.proofs.Bytes.{true-not-false}
+
+-- two values, or not
+module _ (f : ℕ → ℕ → ℕ) (a b : ℕ) where
+  pub of-values : both (leb a greatestValue) (leb b greatestValue) ≡ true → capped (f a b) ≡ cappedBy f (capped a) (capped b)
+  of-values h = let m = both-parts (leb a greatestValue) (leb b greatestValue) h in rw (m .0, m .1)
+
+  pub of-none : both (leb a greatestValue) (leb b greatestValue) ≡ false → none ≡ cappedBy f (capped a) (capped b)
+  of-none h = go (leb a greatestValue) (leb b greatestValue) h
+    where
+      go : (t u : Bool) → both t u ≡ false → none ≡ cappedBy f (pick t (some a) none) (pick u (some b) none)
+      go true true q = absurd (true-not-false q)
+      go true false q = refl
+      go false u q = refl
+
+pub values-are : (a b : ℕ) → both (leb a greatestValue) (leb b greatestValue) ≡ true → (a ≤ greatestValue) × (b ≤ greatestValue)
+values-are a b h = let m = both-parts (leb a greatestValue) (leb b greatestValue) h in (leb-true a greatestValue (m .0), leb-true b greatestValue (m .1))
 
 pub product-fits : (a b : ℕ) → a ≤ greatestValue → b ≤ greatestValue → a * b < 2 ^ 64
 product-fits a b ha hb = omega (arith, mul-le-mul ha hb)

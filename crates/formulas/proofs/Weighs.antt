@@ -7,18 +7,20 @@ use mathlib.Core.Option.{Option, none, some}
 use mathlib.Core.List.{List, []}
 use lib.ListN.{length, getD, drop, length-drop, drop-of-length-le}
 use lib.Dec.{leb, eqb}
-use borrow.Author.Tests.{le-leb, lt-leb, eq-eqb, ne-eqb}
-use Rattle.folds.specs.Folds.{pick}
+use borrow.Author.Tests.{le-leb, leb-true}
+use x.{}
+use Rattle.folds.specs.Folds.{pick, both}
 use Rattle.folds.specs.Answers.{value, refused}
-use Rattle.folds.proofs.Tests.{both-false}
-use Rattle.formulas.specs.Grammar.{Atom, Kind, digit, small, adds, multiplies, opens, shuts, other, kindOf, mostOpen}
-use Rattle.formulas.specs.Scanning.{Spot, bare, have, longer, having, stepBy, Outcome, reads, stops, scan, readText}
+use Rattle.folds.proofs.Tests.{both-parts}
+use Rattle.formulas.specs.Grammar.{Atom, Kind, digit, small, adds, multiplies, opens, shuts, other, kindOf, mostOpen, within}
+use Rattle.formulas.specs.Scanning.{Spot, bare, have, longer, having, stepBy, Outcome, reads, stops, scan, readText, whole}
 use Rattle.formulas.specs.Weights.{asWeight, judged, weightOf}
 use Rattle.formulas.specs.Parts.{spotOf, lastOf, Outsides, SumAt}
 use Rattle.formulas.specs.Values.{capped, greatestValue}
 use Rattle.formulas.specs.Meaning.{greatestWeight, letterCount}
 use Rattle.formulas.proofs.Scans.{scan-end, sum-again}
 use Rattle.formulas.proofs.Steps.{stop-at}
+use Rattle.formulas.proofs.Bytes.{true-not-false}
 
 stopped-at : (b ls : List ℕ) (q : ℕ) → q ≤ length b → readText b ≡ stops (drop q b) → refused 35 q ≡ weightOf b ls
 unfolding weightOf
@@ -52,18 +54,26 @@ weighed b ls v e g h =
     in
     ap (λ (o : Outcome). judged o (length b) ls) r ∙ ap (λ (o : Option ℕ). pick (eqb (length ls) letterCount) (asWeight o) (refused 36 0)) (sym (g .its))
 
-pub weigh-list : (b ls : List ℕ) (v e : ℕ) → SumAt b ls 0 mostOpen v e → length b ≤ e → (length ls ≡ letterCount → ⊥) → refused 36 0 ≡ weightOf b ls
-weigh-list b ls v e g h z = sym (weighed b ls v e g h ∙ simp (ne-eqb (length ls) letterCount z))
+-- a value that the list and the range allow, and one that they do not
+allowed : (l v : ℕ) (t u : Bool) → eqb l letterCount ≡ t → within 1 greatestWeight v ≡ u → both t u ≡ true → pick t (asWeight (capped v)) (refused 36 0) ≡ value v
+allowed l v true true e f h =
+    let m = both-parts (leb 1 v) (leb v greatestWeight) f in
+    rw (le-leb v greatestValue (omega (arith, leb-true v greatestWeight (m .1))), f)
+allowed l v true false e f h = absurd (true-not-false (sym h))
+allowed l v false u e f h = absurd (true-not-false (sym h))
 
-pub weigh-low : (b ls : List ℕ) (v e : ℕ) → SumAt b ls 0 mostOpen v e → length b ≤ e → length ls ≡ letterCount → v < 1 → refused 36 0 ≡ weightOf b ls
-weigh-low b ls v e g h z l = sym (weighed b ls v e g h ∙ simp (eq-eqb (length ls) letterCount z, le-leb v greatestValue (omega arith), lt-leb 1 v l))
-
-pub weigh-high : (b ls : List ℕ) (v e : ℕ) → SumAt b ls 0 mostOpen v e → length b ≤ e → length ls ≡ letterCount → greatestWeight < v → refused 36 0 ≡ weightOf b ls
-weigh-high b ls v e g h z l = sym (weighed b ls v e g h ∙ simp (eq-eqb (length ls) letterCount z) (go (leb v greatestValue)))
+not-allowed : (l v : ℕ) (t u : Bool) → eqb l letterCount ≡ t → within 1 greatestWeight v ≡ u → both t u ≡ false → pick t (asWeight (capped v)) (refused 36 0) ≡ refused 36 0
+not-allowed l v true true e f h = absurd (true-not-false h)
+not-allowed l v false u e f h = refl
+not-allowed l v true false e f h = go (leb v greatestValue)
   where
-    go : (t : Bool) → asWeight (pick t (some v) none) ≡ refused 36 0
+    go : (c : Bool) → asWeight (pick c (some v) none) ≡ refused 36 0
     go false = refl
-    go true = simp (lt-leb v greatestWeight l, both-false)
+    go true = rw f
 
-pub weigh-of : (b ls : List ℕ) (v e : ℕ) → SumAt b ls 0 mostOpen v e → length b ≤ e → length ls ≡ letterCount → 1 ≤ v → v ≤ greatestWeight → value v ≡ weightOf b ls
-weigh-of b ls v e g h z l m = sym (weighed b ls v e g h ∙ simp (eq-eqb (length ls) letterCount z, le-leb v greatestValue (omega arith), le-leb 1 v l, le-leb v greatestWeight m))
+module _ (b ls : List ℕ) (v e : ℕ) (g : SumAt b ls 0 mostOpen v e) (whole : length b ≤ e) where
+  pub weigh-of : both (eqb (length ls) letterCount) (within 1 greatestWeight v) ≡ true → value v ≡ weightOf b ls
+  weigh-of h = sym (weighed b ls v e g whole ∙ allowed (length ls) v (eqb (length ls) letterCount) (within 1 greatestWeight v) refl refl h)
+
+  pub weigh-no : both (eqb (length ls) letterCount) (within 1 greatestWeight v) ≡ false → refused 36 0 ≡ weightOf b ls
+  weigh-no h = sym (weighed b ls v e g whole ∙ not-allowed (length ls) v (eqb (length ls) letterCount) (within 1 greatestWeight v) refl refl h)

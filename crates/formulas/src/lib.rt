@@ -1,5 +1,9 @@
 // A formula's weight. The readers of a sum, a product and an atom call each other: the parentheses that may still be opened bound how deep, the text how often.
 ghost use mathlib.Core.Path.{_≡_};
+ghost use lib.Dec.{eqb};
+ghost use Rattle.folds.specs.Folds.{both};
+ghost use Rattle.formulas.specs.Grammar.{within};
+ghost use Rattle.formulas.specs.Meaning.{letterCount, greatestWeight};
 ghost use Rattle.formulas.specs.Weights.{weightOf};
 ghost use Rattle.formulas.specs.Parts.{SumIs, ProductIs, AtomIs, answerOf};
 use crate::operands::Part;
@@ -85,6 +89,16 @@ fn sum(text: &[u8], letters: &[u32], from: usize, room: usize) -> Part
     }
 }
 
+// Each letter has its value, and v may be a weight.
+fn is_weight(letters: usize, v: u64) -> bool
+    ensures { λ r. ⌜ r ≡ both (eqb letters letterCount) (within 1 greatestWeight v) ⌝ }
+{
+    if letters != LETTERS {
+        return false;
+    }
+    1 <= v && v <= HEAVIEST
+}
+
 // The weight of a formula, with the values of the letters a to z.
 pub fn weigh(text: &[u8], letters: &[u32]) -> Weight
     ensures { λ r. ⌜ answerOf r ≡ weightOf (now (text .entry)) (now (letters .entry)) ⌝ }
@@ -95,16 +109,10 @@ pub fn weigh(text: &[u8], letters: &[u32]) -> Weight
             if e < text.len() {
                 return Weight::Refused(35, e);
             }
-            if letters.len() != LETTERS {
-                return Weight::Refused(36, 0);
+            if is_weight(letters.len(), v) {
+                return Weight::Of(v);
             }
-            if v < 1 {
-                return Weight::Refused(36, 0);
-            }
-            if HEAVIEST < v {
-                return Weight::Refused(36, 0);
-            }
-            Weight::Of(v)
+            Weight::Refused(36, 0)
         }
     }
 }

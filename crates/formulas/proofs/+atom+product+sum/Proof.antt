@@ -118,31 +118,13 @@ pub +atom+product+sum-spec : {M : Type 1} → statement M
     (λ c κs. search needs)
     (λ c κs. search needs)
     -- add-at
-    (λ c.
-    let s = c .before .before .before .before .before .before .before .before .before .before in
-    omega (arith, stands-true (now (s .args .text)) (c .before .before .before .before .v .given .0 .1 .0) timesSign (sym (c .before .stands .ensures) ∙ c .if1 .taken), s .good .0 .0))
+    (λ c. let read = c .before .before .before .before in let s = read .before .before .before .before .before .before in omega (arith, stands-true (now (s .args .text)) (read .v .given .0 .1 .0) timesSign (sym (c .before .stands .ensures) ∙ c .if1 .taken), s .good .0 .0))
     -- loop-less
-    (λ c.
-    let s = c .before .before .before .before .before .before .before .before .before .before .args in
-    let loop = c .before .before .before .before .before .before .before .loop in
-    let v = c .before .before .before .before .v in
-    let b = now (s .text) in
-    let part : AtomAt b (now (s .letters)) (loop .at) (s .room) (v .given .0 .0) (v .given .0 .1 .0) =
-    subst (AtomIs b (now (s .letters)) (loop .at) (s .room)) (v .given .1) (c .before .before .before .before .before .before .atom .ensures)
-    in
-    further b (v .given .0 .1 .0) timesSign (loop .at) (part .later) (sym (c .before .stands .ensures) ∙ c .if1 .taken))
+    (λ c. let read = c .before .before .before .before in let s = read .before .before .before .before .before .before .args in let at : AtomAt (now (s .text)) (now (s .letters)) (read .before .before .before .loop .at) (s .room) (read .v .given .0 .0) (read .v .given .0 .1 .0) = subst (AtomIs _ _ _ _) (read .v .given .1) (read .before .before .atom .ensures) in further (now (s .text)) _ timesSign _ (at .later) (sym (c .before .stands .ensures) ∙ c .if1 .taken))
     -- loop-again
-    (λ c.
-    let s = c .before .before .before .before .before .before .before .before .before .before .args in
-    let loop = c .before .before .before .before .before .before .before .loop in
-    product-more _ _ _ (loop .inv) (subst (AtomIs (now (s .text)) (now (s .letters)) (loop .at) (s .room)) (c .before .before .before .before .v .given .1) (c .before .before .before .before .before .before .atom .ensures))
-    (c .before .before .multiplied .ensures) (sym (c .before .stands .ensures) ∙ c .if1 .taken))
+    (λ c. let read = c .before .before .before .before in product-more _ _ _ (read .before .before .before .loop .inv) (subst (AtomIs _ _ _ _) (read .v .given .1) (read .before .before .atom .ensures)) (c .before .before .multiplied .ensures) (sym (c .before .stands .ensures) ∙ c .if1 .taken))
     -- returns-2
-    (λ c.
-    let s = c .before .before .before .before .before .before .before .before .before .before .args in
-    let loop = c .before .before .before .before .before .before .before .loop in
-    product-read _ _ _ (loop .inv) (subst (AtomIs (now (s .text)) (now (s .letters)) (loop .at) (s .room)) (c .before .before .before .before .v .given .1) (c .before .before .before .before .before .before .atom .ensures))
-    (c .before .before .multiplied .ensures) (sym (c .before .stands .ensures) ∙ c .if1 .left)))
+    (λ c. let read = c .before .before .before .before in product-read _ _ _ (read .before .before .before .loop .inv) (subst (AtomIs _ _ _ _) (read .v .given .1) (read .before .before .atom .ensures)) (c .before .before .multiplied .ensures) (sym (c .before .stands .ensures) ∙ c .if1 .left)))
     (λ t. sum-lts.spec (product-below t, product.Post, added-reads.Asked, added-reads.Learnt, stands-reads.Asked, stands-reads.Learnt)
     (sum-at t)
     sum.Post
@@ -162,28 +144,10 @@ pub +atom+product+sum-spec : {M : Type 1} → statement M
     (λ c κs. search needs)
     (λ c κs. search needs)
     -- add-at
-    (λ c.
-    let s = c .before .before .before .before .before .before .before .before .before .before in
-    omega (arith, stands-true (now (s .args .text)) (c .before .before .before .before .v .given .0 .1 .0) plusSign (sym (c .before .stands .ensures) ∙ c .if1 .taken), s .good .0 .0))
+    (λ c. let read = c .before .before .before .before in let s = read .before .before .before .before .before .before in omega (arith, stands-true (now (s .args .text)) (read .v .given .0 .1 .0) plusSign (sym (c .before .stands .ensures) ∙ c .if1 .taken), s .good .0 .0))
     -- loop-less
-    (λ c.
-    let s = c .before .before .before .before .before .before .before .before .before .before .args in
-    let loop = c .before .before .before .before .before .before .before .loop in
-    let v = c .before .before .before .before .v in
-    let b = now (s .text) in
-    let part : ProductAt b (now (s .letters)) (loop .at) (s .room) (v .given .0 .0) (v .given .0 .1 .0) =
-    subst (ProductIs b (now (s .letters)) (loop .at) (s .room)) (v .given .1) (c .before .before .before .before .before .before .product .ensures)
-    in
-    further b (v .given .0 .1 .0) plusSign (loop .at) (part .later) (sym (c .before .stands .ensures) ∙ c .if1 .taken))
+    (λ c. let read = c .before .before .before .before in let s = read .before .before .before .before .before .before .args in let at : ProductAt (now (s .text)) (now (s .letters)) (read .before .before .before .loop .at) (s .room) (read .v .given .0 .0) (read .v .given .0 .1 .0) = subst (ProductIs _ _ _ _) (read .v .given .1) (read .before .before .product .ensures) in further (now (s .text)) _ plusSign _ (at .later) (sym (c .before .stands .ensures) ∙ c .if1 .taken))
     -- loop-again
-    (λ c.
-    let s = c .before .before .before .before .before .before .before .before .before .before .args in
-    let loop = c .before .before .before .before .before .before .before .loop in
-    sum-more _ _ _ (loop .inv) (subst (ProductIs (now (s .text)) (now (s .letters)) (loop .at) (s .room)) (c .before .before .before .before .v .given .1) (c .before .before .before .before .before .before .product .ensures))
-    (c .before .before .added .ensures) (sym (c .before .stands .ensures) ∙ c .if1 .taken))
+    (λ c. let read = c .before .before .before .before in sum-more _ _ _ (read .before .before .before .loop .inv) (subst (ProductIs _ _ _ _) (read .v .given .1) (read .before .before .product .ensures)) (c .before .before .added .ensures) (sym (c .before .stands .ensures) ∙ c .if1 .taken))
     -- returns-2
-    (λ c.
-    let s = c .before .before .before .before .before .before .before .before .before .before .args in
-    let loop = c .before .before .before .before .before .before .before .loop in
-    sum-read _ _ _ (loop .inv) (subst (ProductIs (now (s .text)) (now (s .letters)) (loop .at) (s .room)) (c .before .before .before .before .v .given .1) (c .before .before .before .before .before .before .product .ensures))
-    (c .before .before .added .ensures) (sym (c .before .stands .ensures) ∙ c .if1 .left)))
+    (λ c. let read = c .before .before .before .before in sum-read _ _ _ (read .before .before .before .loop .inv) (subst (ProductIs _ _ _ _) (read .v .given .1) (read .before .before .product .ensures)) (c .before .before .added .ensures) (sym (c .before .stands .ensures) ∙ c .if1 .left)))
