@@ -123,9 +123,11 @@ fn a_claim_of_letters_is_a_bundle() {
 #[test]
 fn the_buoy_is_packed_and_planned() {
     let scratch = Scratch::new();
-    for (arguments, file) in
-        [(["pack", "buoy.txt"], "buoy.sheet"), (["plan", "buoy.txt"], "buoy.bundle")]
-    {
+    for (arguments, file) in [
+        (["pack", "buoy.txt"], "buoy.sheet"),
+        (["pack", "buoy-formulas.txt"], "buoy.sheet"),
+        (["plan", "buoy.txt"], "buoy.bundle"),
+    ] {
         let output = scratch.run(&[&arguments[..], &["-o", "-"]].concat(), None);
         assert_eq!(output.stdout, fs::read(scratch.path(file)).unwrap(), "{file}");
     }

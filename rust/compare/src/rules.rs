@@ -23,6 +23,7 @@ pub trait Rules {
     fn read_bundle(sheet: &[u8], bundle: &[u8]) -> Answered<(Vec<u16>, u32)>;
     fn write_bundle(sheet: &[u8], values: &bundles::Bundle) -> Answered<Vec<u8>>;
     fn check(sheet: &[u8], bundle: &[u8]) -> Answered<()>;
+    fn weight(text: &[u8], letters: &[u32]) -> Answered<u16>;
 
     /// The bundle and the listing of a plan; counts which rules gave the processors.
     fn plan(sheet: &[u8], tally: &mut Tally) -> (Answered<Vec<u8>>, Vec<u8>);
@@ -99,6 +100,10 @@ impl Rules for Fast {
 
     fn check(sheet: &[u8], bundle: &[u8]) -> Answered<()> {
         reference::interface::check(sheet, bundle).map_err(refusal)
+    }
+
+    fn weight(text: &[u8], letters: &[u32]) -> Answered<u16> {
+        reference::interface::weight(text, letters).map_err(refusal)
     }
 
     fn plan(sheet: &[u8], tally: &mut Tally) -> (Answered<Vec<u8>>, Vec<u8>) {
@@ -200,6 +205,10 @@ impl Rules for Literal {
 
     fn check(sheet: &[u8], bundle: &[u8]) -> Answered<()> {
         literal::interface::check(sheet, bundle)
+    }
+
+    fn weight(text: &[u8], letters: &[u32]) -> Answered<u16> {
+        literal::interface::weight(text, letters)
     }
 
     fn plan(sheet: &[u8], tally: &mut Tally) -> (Answered<Vec<u8>>, Vec<u8>) {

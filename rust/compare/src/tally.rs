@@ -18,10 +18,11 @@ pub enum Function {
     Left,
     Processor,
     Stamp,
+    Weight,
 }
 
 /// Every function that is compared.
-pub const FUNCTIONS: [Function; 14] = [
+pub const FUNCTIONS: [Function; 15] = [
     Function::ReadSheet,
     Function::WriteSheet,
     Function::Levels,
@@ -36,10 +37,11 @@ pub const FUNCTIONS: [Function; 14] = [
     Function::Left,
     Function::Processor,
     Function::Stamp,
+    Function::Weight,
 ];
 
 /// How many functions stand side by side in the table of answers.
-const COLUMNS: usize = 7;
+const COLUMNS: usize = 8;
 
 impl Function {
     /// Its name without the prefix.
@@ -59,6 +61,7 @@ impl Function {
             Function::Left => "left",
             Function::Processor => "processor",
             Function::Stamp => "stamp",
+            Function::Weight => "weight",
         }
     }
 
@@ -78,12 +81,13 @@ impl Function {
             Function::Step | Function::Left | Function::Processor | Function::Stamp => {
                 matches!(number, 0 | 13)
             }
+            Function::Weight => matches!(number, 0 | 35 | 36),
         }
     }
 }
 
 /// The greatest number of a refusal, and every number that an answer can have.
-const GREATEST: u8 = 33;
+const GREATEST: u8 = 36;
 const NUMBERS: std::ops::RangeInclusive<u8> = 0..=GREATEST;
 
 /// The rules that give a task its processor: the four steps, and the guard where it bars the

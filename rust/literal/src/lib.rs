@@ -9,6 +9,7 @@
 pub mod bundle;
 pub mod checker;
 pub mod commands;
+pub mod formulas;
 pub mod interface;
 pub mod levels;
 pub mod listing;

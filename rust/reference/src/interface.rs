@@ -3,7 +3,7 @@
 use crate::bundle::{self, Bundle};
 use crate::refusal::{lend, Refusal};
 use crate::sheet::Sheet;
-use crate::{checker, graph, listing, planner};
+use crate::{checker, formula, graph, listing, planner};
 
 /// Reads a sheet into tables of values; gives processors, limit, task count, link count (1 to 8, 10, 12).
 pub fn read_sheet(sheet: &[u8], tasks: &mut [u16], links: &mut [u16]) -> Result<[u32; 4], Refusal> {
@@ -63,4 +63,9 @@ pub fn write_bundle(
 /// Checks a bundle against its sheet (1 to 8, 10, 21 to 33).
 pub fn check(sheet: &[u8], bundle: &[u8]) -> Result<(), Refusal> {
     checker::check(&Sheet::read(sheet)?, bundle)
+}
+
+/// The weight of a formula (35, 36).
+pub fn weight(text: &[u8], letters: &[u32]) -> Result<u16, Refusal> {
+    formula::weight(text, letters)
 }

@@ -9,6 +9,7 @@ mod pack;
 mod plan;
 mod run;
 mod show;
+mod weight;
 
 use crate::answer::{Answer, Fault};
 use crate::arguments::Arguments;
@@ -32,13 +33,14 @@ pub struct Command {
     pub answer: fn(&mut Loader, &Arguments) -> Result<Answer, Fault>,
 }
 
-pub static COMMANDS: [Command; 9] = [
+pub static COMMANDS: [Command; 10] = [
     plan::COMMAND,
     check::COMMAND,
     list::COMMAND,
     run::COMMAND,
     gantt::COMMAND,
     levels::COMMAND,
+    weight::COMMAND,
     compare::COMMAND,
     pack::COMMAND,
     show::COMMAND,
@@ -76,6 +78,14 @@ impl Command {
             text += &format!("  {option:<9} {meaning}\n");
         }
         text + "\n" + COMMON
+    }
+
+    /// What its arguments are.
+    pub fn takes(&self) -> &'static str {
+        match self.usage.starts_with("FORMULA") {
+            true => "formula",
+            false => "file",
+        }
     }
 
     /// A fault of its usage.

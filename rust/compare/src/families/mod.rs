@@ -3,6 +3,7 @@
 
 mod bare;
 mod formats;
+mod formulas;
 mod machine;
 mod plans;
 mod small;
@@ -59,6 +60,13 @@ pub const FAST: &[Family<Fast>] = &[
     ("cut pairs", machine::cut),
     ("largest pairs", machine::largest),
     ("any words as state", machine::any_states),
+    ("every short text", formulas::every_short),
+    ("small formulas", formulas::small),
+    ("allowed formulas", formulas::allowed),
+    ("damaged formulas", formulas::damaged),
+    ("nested formulas", formulas::nested),
+    ("formulas of edges", formulas::edges),
+    ("long texts", formulas::long_texts),
 ];
 
 /// The families of small inputs, each of which is for several runs.
@@ -74,6 +82,10 @@ pub const LITERAL: &[Family<Literal>] = &[
     ("arranged small bundles", small::arranged_bundles),
     ("damaged small bundles", small::damaged_bundles),
     ("small sheets in fault", small::sheets_in_fault),
+    ("every short text", formulas::every_short),
+    ("small formulas", formulas::small),
+    ("nested formulas", formulas::few_nested),
+    ("formulas of edges", formulas::edges),
 ];
 
 /// What came of a family.
