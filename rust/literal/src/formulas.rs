@@ -48,6 +48,7 @@ fn products(text: &[u8], open: usize) -> Vec<Formula> {
 }
 
 /// What can be read with this sign between a left and a right part, wherever in the text it stands.
+/// A sign before which parentheses are open joins what is inside them, so it is passed over.
 fn joined(
     text: &[u8],
     sign: u8,
@@ -56,7 +57,8 @@ fn joined(
     join: fn(Box<Formula>, Box<Formula>) -> Formula,
 ) -> Vec<Formula> {
     let mut all = Vec::new();
-    for at in (0..text.len()).filter(|&at| text[at] == sign) {
+    let signs = (0..text.len()).filter(|&at| text[at] == sign);
+    for at in signs.filter(|&at| still_open(&text[..at]) == Some(0)) {
         for right in right(&text[at + 1..]) {
             for left in left(&text[..at]) {
                 all.push(join(Box::new(left), Box::new(right.clone())));
@@ -64,6 +66,12 @@ fn joined(
         }
     }
     all
+}
+
+/// How many parentheses are open behind a text; none where more are closed than were opened.
+fn still_open(text: &[u8]) -> Option<usize> {
+    let count = |sign| text.iter().filter(|&&byte| byte == sign).count();
+    count(b'(').checked_sub(count(b')'))
 }
 
 /// A number, a letter, or a formula in parentheses.
@@ -95,8 +103,7 @@ fn value(formula: &Formula, letters: &[u32]) -> Option<u64> {
 /// Whether some allowed text begins so. If any does, then one in which nothing follows but the
 /// parentheses that close those which are open, perhaps behind a letter.
 fn begins_some(front: &[u8]) -> bool {
-    let count = |sign| front.iter().filter(|&&byte| byte == sign).count();
-    let Some(open) = count(b'(').checked_sub(count(b')')) else { return false };
+    let Some(open) = still_open(front) else { return false };
     [&b""[..], b"a"].into_iter().any(|operand| {
         let text = [front, operand, &vec![b')'; open]].concat();
         !readings(&text, OPEN_TOGETHER).is_empty()

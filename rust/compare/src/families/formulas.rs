@@ -57,7 +57,7 @@ pub fn nested<R: Rules>(c: &mut Comparison<R>) -> Outcome {
 
 /// A few of these, for rules that are slow on them.
 pub fn few_nested<R: Rules>(c: &mut Comparison<R>) -> Outcome {
-    nested_times(c, 100)
+    nested_times(c, 500)
 }
 
 fn nested_times<R: Rules>(c: &mut Comparison<R>, times: usize) -> Outcome {
