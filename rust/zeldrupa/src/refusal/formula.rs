@@ -25,7 +25,7 @@ impl Refusal {
         let place = match self.number {
             35 => format!("byte {}: {}", self.place, at_byte(self.place, formula)),
             _ if letters.len() != LETTERS => format!("the list has {} values", letters.len()),
-            _ => match Value(formula, letters).sum() {
+            _ => match (Value { rest: formula, letters, open: 0 }).sum() {
                 Some(value) => format!("the value is {value}"),
                 None => "a number or partial result is above 4294967295".into(),
             },
@@ -61,13 +61,20 @@ fn at_byte(place: u64, text: &[u8]) -> String {
     }
 }
 
-/// What is left of a formula that was read, and the letters' values: for its value.
-struct Value<'a>(&'a [u8], &'a [u32]);
+/// What is left of a formula, the letters' values, and how many parentheses are open: for its value.
+struct Value<'a> {
+    rest: &'a [u8],
+    letters: &'a [u32],
+    open: usize,
+}
+
+/// The most parentheses that are open together.
+const MOST_OPEN: usize = 32;
 
 impl Value<'_> {
     fn takes(&mut self, sign: u8) -> bool {
-        let rest = self.0.strip_prefix(&[sign]);
-        self.0 = rest.unwrap_or(self.0);
+        let rest = self.rest.strip_prefix(&[sign]);
+        self.rest = rest.unwrap_or(self.rest);
         rest.is_some()
     }
 
@@ -88,18 +95,20 @@ impl Value<'_> {
     }
 
     fn operand(&mut self) -> Option<u32> {
-        if self.takes(b'(') {
+        if self.open < MOST_OPEN && self.takes(b'(') {
+            self.open += 1;
             let inner = self.sum()?;
             self.takes(b')');
+            self.open -= 1;
             return Some(inner);
         }
-        if let Some((letter @ b'a'..=b'z', rest)) = self.0.split_first() {
-            self.0 = rest;
-            return self.1.get(usize::from(letter - b'a')).copied();
+        if let Some((letter @ b'a'..=b'z', rest)) = self.rest.split_first() {
+            self.rest = rest;
+            return self.letters.get(usize::from(letter - b'a')).copied();
         }
-        let digits = self.0.iter().take_while(|byte| byte.is_ascii_digit()).count();
-        let (number, rest) = self.0.split_at(digits);
-        self.0 = rest;
+        let digits = self.rest.iter().take_while(|byte| byte.is_ascii_digit()).count();
+        let (number, rest) = self.rest.split_at(digits);
+        self.rest = rest;
         std::str::from_utf8(number).ok()?.parse().ok()
     }
 }
@@ -111,7 +120,7 @@ mod tests {
     /// Whatever text is lent with a refusal, there are words and no panic.
     #[test]
     fn any_refusal_is_told_of_any_text() {
-        let long = "(".repeat(40);
+        let long = "(".repeat(1 << 20);
         for text in ["", "1+", "(n", "n n", "1)", "12345678901", "99999*99999", "é", "(1)2", &long]
         {
             for number in 0..=40 {
