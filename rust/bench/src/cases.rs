@@ -87,7 +87,7 @@ pub fn letters() -> [u32; 26] {
     letters
 }
 
-/// Sums of 250 terms, about 2,000 bytes each, whose values are weights.
+/// Sums of 250 terms, about 1,500 bytes each, whose values are weights.
 fn long_formulas() -> impl Iterator<Item = Vec<u8>> {
     let term = |number: usize| match number % 4 {
         0 => format!("{}*n", number % 3),
