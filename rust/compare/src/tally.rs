@@ -167,7 +167,8 @@ impl Tally {
 
     /// Prints tables with a row for each number and a column for each function, and the rules.
     pub fn print(&self) {
-        let all = [("turns", &RULES, &self.rules), ("choices", &REASONS, &self.reasons)];
+        let all: [(&str, &[&str], &[usize]); 2] =
+            [("turns", &RULES, &self.rules), ("choices", &REASONS, &self.reasons)];
         for (what, names, counts) in all {
             let named = names.iter().zip(counts).map(|(name, count)| format!("{name} {count}"));
             println!("{what} decided by {}", named.collect::<Vec<_>>().join(", "));
