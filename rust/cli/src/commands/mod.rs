@@ -34,7 +34,7 @@ pub struct Command {
     pub answer: fn(&mut Loader, &Arguments) -> Result<Answer, Fault>,
 }
 
-pub static COMMANDS: [Command; 10] = [
+pub static COMMANDS: [Command; 11] = [
     plan::COMMAND,
     check::COMMAND,
     better::COMMAND,
