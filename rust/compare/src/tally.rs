@@ -23,7 +23,7 @@ pub enum Function {
 }
 
 /// Every function that is compared.
-pub const FUNCTIONS: [Function; 15] = [
+pub const FUNCTIONS: [Function; 16] = [
     Function::ReadSheet,
     Function::WriteSheet,
     Function::Levels,
