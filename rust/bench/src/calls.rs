@@ -20,7 +20,7 @@ pub const ONE_STEP: &str = "one step";
 pub const WEIGHT: &str = "weight";
 
 /// The name of each call, and how it is measured.
-pub const CALLS: [(&str, Measure); 10] = [
+pub const CALLS: [(&str, Measure); 11] = [
     ("reading", reading),
     ("levels", levels),
     ("plan", plan),
