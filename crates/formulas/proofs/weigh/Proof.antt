@@ -31,9 +31,9 @@ returns-3 c =
 
 returns-4 : tie.Need-returns-4
 returns-4 c =
-    let a = c .before .before .before .before .before .before .before .before .before .args in
-    let b = now (a .text) in
-    let ls = now (a .letters) in
+    let entry = c .before .before .before .before .before .before .before .before .before .args in
+    let b = now (entry .text) in
+    let ls = now (entry .letters) in
     weigh-no b ls _ _ (subst (SumIs b ls 0 mostOpen) (c .before .before .before .before .v .given .1) (c .before .before .before .before .before .before .sum .ensures)) (c .before .before .if1 .left) (sym (c .before .is-weight .ensures) ∙ c .if2 .left)
 
 pub weigh-spec : {M : Type 1} → statement M
