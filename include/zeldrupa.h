@@ -1,4 +1,4 @@
-/* The functions of the static library libzeldrupa.a: planner, checker and stepping machine.
+/* The functions of the static library libzeldrupa.a: planner, checker, stepping machine and weights as formulas.
  *
  * docs/INTERFACE.md has each of them in full. Of all of them it holds that:
  * - A slice is a pointer and then its length in elements. The memory has to be valid, no two lent parts may
@@ -53,7 +53,9 @@ enum zeldrupa_refusal {
     ZELDRUPA_SEND = 31,            /* the lowest link with a wrong message: its send is wrong */
     ZELDRUPA_RECEIVE = 32,         /* that link: its send is right, its receive is wrong */
     ZELDRUPA_LOCAL_ORDER = 33,     /* that link, inside one processor: its source runs behind its target */
-    ZELDRUPA_BOTH_REFUSED = 34     /* 0 */
+    ZELDRUPA_BOTH_REFUSED = 34,    /* 0 */
+    ZELDRUPA_FORMULA = 35,         /* the first byte that no formula could have there, or the length */
+    ZELDRUPA_VALUE = 36            /* 0 */
 };
 
 /* Lent bytes: the first of them, and their number. */
@@ -109,6 +111,11 @@ uint8_t zeldrupa_plan(const uint8_t *sheet, size_t sheet_length, uint32_t *work,
 /* Writes the listing of a sheet's plan, or of its refusal. *place is the number of bytes. */
 uint8_t zeldrupa_listing(const uint8_t *sheet, size_t sheet_length, uint32_t *work, size_t work_length,
                          uint8_t *out, size_t out_length, uint64_t *place);
+
+/* The weight of a formula, which becomes *place: decimal numbers of one to ten digits, letters a to z, whose 26
+ * values are lent, `+`, `*` and parentheses, of which at most 32 are open together. */
+uint8_t zeldrupa_weight(const uint8_t *text, size_t text_length, const uint32_t *letters, size_t letters_length,
+                        uint64_t *place);
 
 /* Starts the machine, whose state is kept in `state` from then on: lend it to the calls below, with the same
  * sheet and bundle, and let nobody else write it. *place is 0. */

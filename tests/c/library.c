@@ -1,4 +1,4 @@
-/* The library from C: each of its functions on the trial sheet K1 and on a bare board, the plan of a free link,
+/* The library from C: each of its functions on the trial sheet K1 and on a bare board, the plan of a free link, formulas,
  * and refusals with number and place. */
 
 #include <stdio.h>
@@ -221,6 +221,27 @@ static void free_link(const char *folder)
     ANSWERS(zeldrupa_plan(two_tasks, length, WORK, out, planned - 1, &place), ZELDRUPA_SHORT_OUTPUT, planned);
 }
 
+/* Formulas: the weight is the place. */
+static void weights(void)
+{
+    uint32_t letters[26] = {0};
+    letters['n' - 'a'] = 100;
+    letters['b' - 'a'] = 20;
+#define WEIGHT(text) zeldrupa_weight((const uint8_t *)text, sizeof text - 1, LENT(letters), &place)
+    ANSWERS(WEIGHT("3*n*n+2*(n+b)"), 0, 30240);
+    ANSWERS(WEIGHT("65535"), 0, 65535);
+    ANSWERS(WEIGHT("0*4294967295*2+1"), 0, 1);
+    ANSWERS(WEIGHT("4294967295*2*0+1"), ZELDRUPA_VALUE, 0);
+    ANSWERS(WEIGHT("65536"), ZELDRUPA_VALUE, 0);
+    ANSWERS(WEIGHT("z"), ZELDRUPA_VALUE, 0);
+    ANSWERS(WEIGHT(""), ZELDRUPA_FORMULA, 0);
+    ANSWERS(WEIGHT("(n+"), ZELDRUPA_FORMULA, 3);
+    ANSWERS(WEIGHT("n n"), ZELDRUPA_FORMULA, 1);
+    ANSWERS(WEIGHT("00000000001"), ZELDRUPA_FORMULA, 10);
+    ANSWERS(zeldrupa_weight((const uint8_t *)"1", 1, letters, 25, &place), ZELDRUPA_VALUE, 0);
+    ANSWERS(zeldrupa_weight((const uint8_t *)"1)", 2, letters, 25, &place), ZELDRUPA_FORMULA, 1);
+}
+
 int main(int count, char **arguments)
 {
     const char *folder = count > 1 ? arguments[1] : "examples";
@@ -236,6 +257,7 @@ int main(int count, char **arguments)
         refusals();
         bare_board();
         free_link(folder);
+        weights();
     }
     printf("C: %d failures\n", failures);
     return failures != 0;

@@ -1,5 +1,6 @@
-/* How deep the stack of each function is on a sheet of the largest size: it runs in a thread whose stack was
- * filled with a pattern, and what is left of the pattern is counted. None may use 16 KiB. */
+/* How deep the stack of each function is on a sheet of the largest size, and of a formula's weight on megabytes of
+ * text: it runs in a thread whose stack was filled with a pattern, and what is left of the pattern is counted. None
+ * may use 16 KiB. */
 
 #define _GNU_SOURCE
 #include <pthread.h>
@@ -9,11 +10,13 @@
 
 #include "zeldrupa.h"
 
-enum { TASKS = 256, LINKS = 1024, STACK = 1 << 20, MOST = 16 * 1024, PATTERN = 0xA5 };
+enum { TASKS = 256, LINKS = 1024, TEXT = 4 << 20, STACK = 1 << 20, MOST = 16 * 1024, PATTERN = 0xA5 };
 
 static uint32_t work[ZELDRUPA_WORK_LENGTH], state[ZELDRUPA_WORK_LENGTH], board[4], levels[TASKS], claim;
 static uint16_t tasks[2 * TASKS], links[4 * LINKS], commands[8192];
 static uint8_t sheet[8512], bundle[8192], listing[32768], choices[8192];
+static uint8_t text[TEXT], number;
+static const uint32_t letters[26];
 static uint64_t sheet_length, bundle_length, values, place;
 static struct zeldrupa_bytes kept = {bundle, 0};
 
@@ -53,6 +56,8 @@ static void start(void) { zeldrupa_start(SHEET, BUNDLE, WORK, STATE, &place); }
 static void step(void) { zeldrupa_step(SHEET, BUNDLE, STATE, 0, &place); }
 static void run(void) { zeldrupa_run(SHEET, BUNDLE, LENT(choices), WORK, STATE, &place); }
 
+static void weigh(void) { number = zeldrupa_weight(LENT(text), LENT(letters), &place); }
+
 static void *call(void *function)
 {
     ((void (*)(void))function)();
@@ -77,27 +82,59 @@ static size_t depth(void (*function)(void))
     return STACK - left;
 }
 
+static int failures;
+
+static void judge(const char *name, void (*function)(void))
+{
+    size_t bytes = depth(function) - depth(nothing);
+    if (bytes >= MOST) {
+        printf("%s: %zu bytes of stack\n", name, bytes);
+        failures++;
+    } else if (getenv("ZELDRUPA_STACK") != NULL) {
+        printf("%-13s %5zu\n", name, bytes);
+    }
+}
+
+/* A text of these bytes over and over, behind so many `(` and before so many `)`, and its answer. */
+static void judge_text(size_t open, const char *bytes, size_t close, uint8_t expected, uint64_t at)
+{
+    memset(text, '(', open);
+    for (size_t i = open; i < TEXT - close; i++) {
+        text[i] = bytes[(i - open) % strlen(bytes)];
+    }
+    memset(text + TEXT - close, ')', close);
+    judge(bytes, weigh);
+    if (number != expected || place != at) {
+        printf("%s: %d %llu\n", bytes, number, (unsigned long long)place);
+        failures++;
+    }
+}
+
 int main(void)
 {
-    static const struct {
-        const char *name;
-        void (*function)(void);
-    } all[] = {
-        {"write_sheet", write_sheet}, {"read_sheet", read_sheet},     {"levels", find_levels},
-        {"plan", plan},               {"listing", list},              {"read_bundle", read_bundle},
-        {"write_bundle", write_bundle}, {"check", check},             {"better", better},
-        {"start", start},             {"step", step},                 {"run", run},
-    };
-    size_t thread = depth(nothing);
-    int failures = 0;
-    for (size_t i = 0; i < sizeof all / sizeof all[0]; i++) {
-        size_t bytes = depth(all[i].function) - thread;
-        if (bytes >= MOST) {
-            printf("%s: %zu bytes of stack\n", all[i].name, bytes);
-            failures++;
-        } else if (getenv("ZELDRUPA_STACK") != NULL) {
-            printf("%-13s %5zu\n", all[i].name, bytes);
-        }
-    }
+    judge("write_sheet", write_sheet);
+    judge("read_sheet", read_sheet);
+    judge("levels", find_levels);
+    judge("plan", plan);
+    judge("listing", list);
+    judge("read_bundle", read_bundle);
+    judge("write_bundle", write_bundle);
+    judge("check", check);
+    judge("better", better);
+    judge("start", start);
+    judge("step", step);
+    judge("run", run);
+
+    judge_text(0, "(", 0, ZELDRUPA_FORMULA, 32);
+    judge_text(0, ")", 0, ZELDRUPA_FORMULA, 0);
+    judge_text(0, "9", 0, ZELDRUPA_FORMULA, 10);
+    judge_text(0, "+", 0, ZELDRUPA_FORMULA, 0);
+    judge_text(0, "a+", 0, ZELDRUPA_FORMULA, TEXT);
+    judge_text(0, "0*", 0, ZELDRUPA_FORMULA, TEXT);
+    judge_text(0, "(0+1)*", 0, ZELDRUPA_FORMULA, TEXT);
+    judge_text(32, "1*z*00+", 32, 0, 1);
+    judge_text(32, "0*z*00+", 32, ZELDRUPA_VALUE, 0);
+    judge_text(32, "1*z*(0)+", 32, ZELDRUPA_FORMULA, 36);
+    judge_text(32, "z*0+9+a+", 33, ZELDRUPA_FORMULA, TEXT - 1);
     return failures == 0 ? 0 : 1;
 }

@@ -11,3 +11,4 @@ pub mod Calls
 pub mod Whole
 pub mod Trips
 pub mod Choices
+pub mod Weighings

@@ -3,3 +3,4 @@ pub mod Trials
 pub mod Demand
 pub mod RoundTrips
 pub mod Choosing
+pub mod Formulas

@@ -10,7 +10,8 @@ use Rattle.workspace.specs.Area.{fixed}
 use Rattle.sheet.specs.Sheet.{Sheet}
 use Rattle.bundle.specs.Bundle.{Bundle}
 use Rattle.entry_points.specs.Values.{taskTable, linkTable, boardAfter, commandTable, claimAfter, no-place, valueCount}
-use Rattle.zeldrupa.specs.Promises.{Ends, Gives, GivesSheet, GivesBundle}
+use Rattle.formulas.specs.Weights.{weightOf}
+use Rattle.zeldrupa.specs.Promises.{Ends, Gives, GivesSheet, GivesBundle, GivesWeight}
 use Rattle.entry_points.specs.Parts.{outcomeOf, numberOf, placeOf, EndIs, PartIs, SheetIs, BundleIs}
 use Rattle.entry_points.specs.declared.ending.Outcome.{Outcome}
 
@@ -107,3 +108,11 @@ module _ (a : Answer Bundle) (work c : List ℕ) (t : ℕ) where
         commands = part .commands ∙ ap (λ (x : Answer Bundle). written c (commandTable x)) e;
         claim = part .claim ∙ ap (claimAfter t) e;
       }
+
+-- a formula's weight, or its refusal
+module _ (text letters : List ℕ) where
+  pub weight-given : (v : ℕ) → value v ≡ weightOf text letters → GivesWeight text letters v 0
+  weight-given v e = record { returns = ap number e; place = ap (placeOr (λ w. w)) e }
+
+  pub weight-refused : (n at : ℕ) → refused n at ≡ weightOf text letters → GivesWeight text letters at n
+  weight-refused n at e = record { returns = ap number e; place = ap (placeOr (λ w. w)) e }

@@ -20,6 +20,7 @@ use Rattle.checker.specs.Checker.{check}
 use Rattle.better.specs.Choices.{BetterIs}
 use Rattle.planner.specs.Planner.{plan}
 use Rattle.listing.specs.Listing.{listing}
+use Rattle.formulas.specs.Weights.{weightOf}
 use Rattle.entry_points.specs.Values.{levelsOf, tabled, no-place, taskTable, linkTable, boardAfter, commandTable, claimAfter, valueCount}
 
 -- what is returned, the place, and the work area afterwards, by an answer whose results have f as their place
@@ -94,3 +95,8 @@ listingAnswer sheet work out = longEnough fixed work (fitting out (listing sheet
 
 abbrev pub GivesListing : List ℕ → List ℕ → List ℕ → List ℕ → List ℕ → ℕ → ℕ → Type 0
 GivesListing sheet work work′ out = Gives (listingAnswer sheet (length work) (length out)) work work′ out
+
+-- zeldrupa_weight: the weight of a formula, which is the place
+pub record GivesWeight (text letters : List ℕ) (p r : ℕ) : Type 0 where
+  pub returns : r ≡ number (weightOf text letters)
+  pub place : p ≡ placeOr (λ w. w) (weightOf text letters)

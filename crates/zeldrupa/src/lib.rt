@@ -1,13 +1,14 @@
-// The interface for C and Rust. Every function refuses a short work area first (13), then in the document's order; a refusal changes no
+// The interface for C and Rust. Every function that is lent a work area refuses a short one first (13), then in the document's order; a refusal changes no
 // output but `kept` of zeldrupa_better, and the work area is all zero afterwards, except under 13, where it is untouched. What each of them gives is in
 // specs/Promises.antt, and of the stepping machine in specs/Stepping.antt.
 ghost use lib.ListN.{length};
-ghost use Rattle.zeldrupa.specs.Promises.{Gives, GivesSheet, GivesBundle, GivesCheck, GivesBetter, GivesPlan, GivesListing, levelsAnswer, writeSheetAnswer, readSheetAnswer, readBundleAnswer, writeBundleAnswer};
+ghost use Rattle.zeldrupa.specs.Promises.{Gives, GivesSheet, GivesBundle, GivesCheck, GivesBetter, GivesPlan, GivesListing, GivesWeight, levelsAnswer, writeSheetAnswer, readSheetAnswer, readBundleAnswer, writeBundleAnswer};
 ghost use Rattle.zeldrupa.specs.Stepping.{GivesStart, GivesRun, GivesStep, GivesLeft, GivesProcessor, GivesStamp};
 use entry_points::bundles;
 use entry_points::ending;
 use entry_points::runs;
 use entry_points::sheets;
+use formulas::Weight;
 
 // Reads a sheet into its tables: two values a task, four a link; processors, limit, tasks and links into `board`.
 #[no_mangle]
@@ -186,6 +187,23 @@ pub extern "C" fn zeldrupa_listing(
     let o = entry_points::plans::list(sheet, work, out);
     workspace::clear(work);
     ending::conclude(o, place)
+}
+
+// The weight of a formula, with the values of the letters a to z: the place is the weight.
+#[no_mangle]
+pub extern "C" fn zeldrupa_weight(text: &[u8], letters: &[u32], place: &mut u64) -> u8
+    ensures { λ r. ⌜ GivesWeight (now (text .entry)) (now (letters .entry)) (now (place .exit)) r ⌝ }
+{
+    match formulas::weigh(text, letters) {
+        Weight::Of(v) => {
+            *place = v;
+            0
+        }
+        Weight::Refused(n, at) => {
+            *place = at as u64;
+            n
+        }
+    }
 }
 
 // Starts the machine: `state` keeps its state from then on, and is lent to each function below.

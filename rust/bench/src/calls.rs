@@ -1,6 +1,6 @@
 //! Each call of the product beside the rewrite's, from bytes to lent buffers that are made once.
 
-use crate::cases::{Case, Input, MOST_BYTES};
+use crate::cases::{self, Case, Input, MOST_BYTES};
 use crate::steps::{product_steps, rewrite_steps};
 use crate::timing::{alone, in_turns, Calls, Pair, Times};
 use reference::interface;
@@ -16,9 +16,11 @@ pub type Measure = fn(&Case) -> Pair;
 /// The calls that need a command.
 pub const REFUSAL: &str = "check, 32";
 pub const ONE_STEP: &str = "one step";
+/// The call on formulas, which is the only one on them.
+pub const WEIGHT: &str = "weight";
 
 /// The name of each call, and how it is measured.
-pub const CALLS: [(&str, Measure); 10] = [
+pub const CALLS: [(&str, Measure); 11] = [
     ("reading", reading),
     ("levels", levels),
     ("plan", plan),
@@ -29,6 +31,7 @@ pub const CALLS: [(&str, Measure); 10] = [
     ("listing", listing),
     ("start", start),
     ("run", run),
+    (WEIGHT, weight),
 ];
 
 /// Times a call of the product and one of the rewrite on each input.
@@ -134,6 +137,21 @@ fn run(case: &Case) -> Pair {
         case,
         |i| succeeds(product::run(&i.sheet, &i.bundle, &i.choices, &mut work, &mut state)),
         |i| run_through(i, &i.choices),
+    )
+}
+
+fn weight(case: &Case) -> Pair {
+    let letters = cases::letters();
+    let texts = &case.formulas;
+    in_turns(
+        Calls {
+            inputs: texts.len(),
+            call: |i: usize| succeeds(product::weight(&texts[i], &letters)),
+        },
+        Calls {
+            inputs: texts.len(),
+            call: |i: usize| passes(interface::weight(&texts[i], &letters)),
+        },
     )
 }
 

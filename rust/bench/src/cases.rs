@@ -36,22 +36,31 @@ impl Input {
     }
 }
 
-/// Sheets that are measured together.
+/// Sheets, or formulas, that are measured together.
 pub struct Case {
     pub name: String,
     pub inputs: Vec<Input>,
+    pub formulas: Vec<Vec<u8>>,
 }
 
 impl Case {
     /// The first made-up sheets that have a plan.
     fn made(name: impl Into<String>, make: impl Fn(&mut Random) -> sheets::Sheet) -> Case {
         let sheets = (1..).map(|seed| make(&mut Random::new(seed)).encode());
-        Case { name: name.into(), inputs: sheets.filter_map(Input::new).take(SHEETS).collect() }
+        let inputs = sheets.filter_map(Input::new).take(SHEETS).collect();
+        Case { name: name.into(), inputs, formulas: Vec::new() }
     }
 
     /// One sheet that has a plan.
     fn of(name: &str, sheet: Vec<u8>) -> Case {
-        Case { name: name.into(), inputs: vec![Input::new(sheet).expect("it has a plan")] }
+        let inputs = vec![Input::new(sheet).expect("it has a plan")];
+        Case { name: name.into(), inputs, formulas: Vec::new() }
+    }
+
+    /// Formulas.
+    fn weighed(name: &str, formulas: impl IntoIterator<Item = Vec<u8>>) -> Case {
+        let formulas = formulas.into_iter().collect();
+        Case { name: name.into(), inputs: Vec::new(), formulas }
     }
 
     /// Whether there is a command to be stepped, or to be wrong.
@@ -60,12 +69,48 @@ impl Case {
     }
 }
 
-/// Each shape of the largest sheet, the typical sheet, K1 and a bare board.
+/// Cost polynomials in a record's length n and its bins b.
+const FORMULAS: [&str; 8] = [
+    "3*n*n+2*(n+b)",
+    "210",
+    "11*n+2*b",
+    "n*(b+4)*2+n*3+120",
+    "5*(b+2)",
+    "((n+1)*(b+1)+(n+2)*(b+2))*3+n",
+    "2*n+50",
+    "n*n+b*b+2*n*b+17*n+19*b+1234",
+];
+
+/// The values of the letters in all of them.
+pub fn letters() -> [u32; 26] {
+    let mut letters = [0; 26];
+    letters[usize::from(b'n' - b'a')] = 100;
+    letters[usize::from(b'b' - b'a')] = 20;
+    letters
+}
+
+/// Sums of 250 terms, about 1,500 bytes each, whose values are weights.
+fn long_formulas() -> impl Iterator<Item = Vec<u8>> {
+    let term = |number: usize| match number % 4 {
+        0 => format!("{}*n", number % 3),
+        1 => format!("(b+{})", number % 50),
+        2 => format!("{}*(2+b*3)", number % 2),
+        _ => format!("{number}"),
+    };
+    (0..SHEETS).map(move |first| {
+        let terms: Vec<String> = (first..first + 250).map(term).collect();
+        terms.join("+").into_bytes()
+    })
+}
+
+/// Each shape of the largest sheet, the typical sheet, K1 and a bare board; and formulas.
 pub fn all() -> Vec<Case> {
     let largest = LARGEST.map(|shape| Case::made(shape.name(), |random| shape.sheet(random)));
     let typical = Case::made("typical", shapes::typical);
     let small = [Case::of("K1", trials::k1_sheet()), Case::of("bare", trials::bare_sheet())];
-    largest.into_iter().chain([typical]).chain(small).collect()
+    let short = Case::weighed("formulas", FORMULAS.map(|text| text.as_bytes().to_vec()));
+    let formulas = [short, Case::weighed("long formulas", long_formulas())];
+    largest.into_iter().chain([typical]).chain(small).chain(formulas).collect()
 }
 
 /// So many tasks with four links a task, of the random shape on 16 processors.

@@ -1,6 +1,6 @@
 //! The tables that are measured: calls on cases, a line for each.
 
-use crate::calls::{self, Measure, CALLS, ONE_STEP, REFUSAL};
+use crate::calls::{self, Measure, CALLS, ONE_STEP, REFUSAL, WEIGHT};
 use crate::cases::{self, Case};
 
 /// The numbers of tasks by which growth is shown.
@@ -41,10 +41,12 @@ impl Table {
         }
     }
 
-    /// Its lines, case by case, but for calls that need a command where there is none.
+    /// Its lines, case by case, but for calls that need a command where there is none; formulas are
+    /// weighed, and nothing else is.
     pub fn lines(&self) -> impl Iterator<Item = Line<'_>> {
         let of = |case| self.calls.iter().map(move |&(call, measure)| Line { case, call, measure });
         let lines = self.cases.iter().flat_map(of);
-        lines.filter(|line| line.case.has_commands() || ![REFUSAL, ONE_STEP].contains(&line.call))
+        let fitting = lines.filter(|line| line.case.formulas.is_empty() != (line.call == WEIGHT));
+        fitting.filter(|line| line.case.has_commands() || ![REFUSAL, ONE_STEP].contains(&line.call))
     }
 }

@@ -123,9 +123,11 @@ fn a_claim_of_letters_is_a_bundle() {
 #[test]
 fn the_buoy_is_packed_and_planned() {
     let scratch = Scratch::new();
-    for (arguments, file) in
-        [(["pack", "buoy.txt"], "buoy.sheet"), (["plan", "buoy.txt"], "buoy.bundle")]
-    {
+    for (arguments, file) in [
+        (["pack", "buoy.txt"], "buoy.sheet"),
+        (["pack", "buoy-formulas.txt"], "buoy.sheet"),
+        (["plan", "buoy.txt"], "buoy.bundle"),
+    ] {
         let output = scratch.run(&[&arguments[..], &["-o", "-"]].concat(), None);
         assert_eq!(output.stdout, fs::read(scratch.path(file)).unwrap(), "{file}");
     }
@@ -150,7 +152,22 @@ fn lines_of_a_megabyte_are_read() {
         (
             format!("board processors 1 store 9\ntask a work {long} store 1\n"),
             1,
-            "long.txt:2:13: expected a number",
+            "long.txt:2:14: \"xxxx",
+        ),
+        (
+            format!("board processors 1 store 9\ntask a work {}1 store 1\n", "0+".repeat(1 << 19)),
+            0,
+            "PLAN 1 1",
+        ),
+        (
+            format!("board processors 1 store 9\ntask a work {}1 store 1\n", "1+".repeat(1 << 19)),
+            1,
+            "long.txt:2:13: work is 1 to 65535",
+        ),
+        (
+            format!("board processors 1 store 9\ntask a work {} store 1\n", "(".repeat(1 << 20)),
+            1,
+            "long.txt:2:45: \"((((",
         ),
         (
             format!("board processors 1 store 9\ntask a work {} store 1\n", "1".repeat(1 << 20)),

@@ -79,9 +79,10 @@ fn transcripts_are_tidy_and_whole() {
     for line in all.lines() {
         assert_eq!(line, line.trim_end());
     }
-    for name in
-        ["plan", "check", "better", "list", "run", "gantt", "levels", "compare", "pack", "show"]
-    {
+    for name in [
+        "plan", "check", "better", "list", "run", "gantt", "levels", "weight", "compare", "pack",
+        "show",
+    ] {
         for what in [format!("$ zeldrupa {name} --help"), format!("$ zeldrupa {name}\n")] {
             assert!(all.contains(&what), "{what}");
         }

@@ -173,6 +173,12 @@ impl Hex for &[u16] {
     }
 }
 
+impl Hex for &[u32] {
+    fn hex(&self) -> String {
+        self.iter().map(|value| format!("{value:08X} ")).collect()
+    }
+}
+
 impl Hex for &[u64] {
     fn hex(&self) -> String {
         self.iter().map(|value| format!("{value:X} ")).collect()

@@ -11,6 +11,7 @@ mod machine;
 mod planner;
 mod rules;
 mod tally;
+mod weights;
 
 use comparison::Difference;
 use families::{Family, Report};
@@ -28,6 +29,8 @@ const FEWEST_PLANS: usize = 50_000;
 /// The fewest pairs of a sheet and a bundle, and how many of them have to get stuck.
 const FEWEST_PAIRS: usize = 200_000;
 const FEWEST_STUCK: usize = 3000;
+/// The fewest formulas that are weighed.
+const FEWEST_FORMULAS: usize = 1_000_000;
 /// The fewest calls of each function that are held against the literal rules.
 const FEWEST_OF_EACH: usize = 1_000_000;
 /// How often each family of small inputs is run, so that they share the threads evenly.
@@ -101,6 +104,7 @@ fn fast_shortfalls(tally: &Tally) -> Vec<String> {
         ("plans", tally.calls_of(Function::Plan), FEWEST_PLANS),
         ("pairs", tally.calls_of(Function::Check), FEWEST_PAIRS),
         ("pairs that get stuck", tally.answers(Function::Check, STUCK), FEWEST_STUCK),
+        ("formulas", tally.calls_of(Function::Weight), FEWEST_FORMULAS),
     ];
     counts.into_iter().filter_map(shortfall).collect()
 }

@@ -26,6 +26,7 @@ pub trait Rules {
     fn read_bundle(sheet: &[u8], bundle: &[u8]) -> Answered<(Vec<u16>, u32)>;
     fn write_bundle(sheet: &[u8], values: &bundles::Bundle) -> Answered<Vec<u8>>;
     fn check(sheet: &[u8], bundle: &[u8]) -> Answered<()>;
+    fn weight(text: &[u8], letters: &[u32]) -> Answered<u16>;
 
     /// The better of two bundles, one of the slices themselves; counts what decided.
     fn better<'a>(
@@ -128,6 +129,10 @@ impl Rules for Fast {
             _ => 0,
         });
         Ok(kept)
+    }
+
+    fn weight(text: &[u8], letters: &[u32]) -> Answered<u16> {
+        reference::interface::weight(text, letters).map_err(refusal)
     }
 
     fn plan(sheet: &[u8], tally: &mut Tally) -> (Answered<Vec<u8>>, Vec<u8>) {
@@ -244,6 +249,10 @@ impl Rules for Literal {
             Decided::Nothing => 4,
         });
         Ok(kept)
+    }
+
+    fn weight(text: &[u8], letters: &[u32]) -> Answered<u16> {
+        literal::interface::weight(text, letters)
     }
 
     fn plan(sheet: &[u8], tally: &mut Tally) -> (Answered<Vec<u8>>, Vec<u8>) {

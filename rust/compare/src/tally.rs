@@ -19,10 +19,11 @@ pub enum Function {
     Left,
     Processor,
     Stamp,
+    Weight,
 }
 
 /// Every function that is compared.
-pub const FUNCTIONS: [Function; 15] = [
+pub const FUNCTIONS: [Function; 16] = [
     Function::ReadSheet,
     Function::WriteSheet,
     Function::Levels,
@@ -38,6 +39,7 @@ pub const FUNCTIONS: [Function; 15] = [
     Function::Left,
     Function::Processor,
     Function::Stamp,
+    Function::Weight,
 ];
 
 /// How many functions stand side by side in the table of answers.
@@ -62,6 +64,7 @@ impl Function {
             Function::Left => "left",
             Function::Processor => "processor",
             Function::Stamp => "stamp",
+            Function::Weight => "weight",
         }
     }
 
@@ -82,12 +85,13 @@ impl Function {
             Function::Step | Function::Left | Function::Processor | Function::Stamp => {
                 matches!(number, 0 | 13)
             }
+            Function::Weight => matches!(number, 0 | 35 | 36),
         }
     }
 }
 
 /// The greatest number of a refusal, and every number that an answer can have.
-const GREATEST: u8 = 34;
+const GREATEST: u8 = 36;
 const NUMBERS: std::ops::RangeInclusive<u8> = 0..=GREATEST;
 
 /// The rules that give a task its processor: the steps, and the guard where it bars the processor that

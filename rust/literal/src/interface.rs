@@ -5,6 +5,7 @@
 use crate::better::{self, Decided};
 use crate::bundle::Bundle;
 use crate::checker;
+use crate::formulas;
 use crate::levels;
 use crate::listing::lines;
 use crate::machine::Machine;
@@ -145,4 +146,9 @@ pub fn processor(machine: &Machine, k: u64) -> [u32; 3] {
 pub fn stamp(machine: &Machine, link: u64) -> u64 {
     let stamp = usize::try_from(link).ok().and_then(|link| machine.stamps.get(link).copied());
     stamp.flatten().map_or(0, |stamp| stamp + 1)
+}
+
+/// The weight of a formula.
+pub fn weight(text: &[u8], letters: &[u32]) -> Result<u16, Refusal> {
+    formulas::weight(text, letters)
 }

@@ -3,7 +3,7 @@
 use crate::bundle::{self, Bundle};
 use crate::refusal::{lend, Refusal};
 use crate::sheet::Sheet;
-use crate::{better, checker, graph, listing, planner};
+use crate::{better, checker, formula, graph, listing, planner};
 
 /// Reads a sheet into tables of values; gives processors, limit, task count, link count (1 to 8, 10, 12).
 pub fn read_sheet(sheet: &[u8], tasks: &mut [u16], links: &mut [u16]) -> Result<[u32; 4], Refusal> {
@@ -68,4 +68,9 @@ pub fn check(sheet: &[u8], bundle: &[u8]) -> Result<(), Refusal> {
 /// The better of two bundles for a sheet, one of the two slices themselves (1 to 8, 10, 34).
 pub fn better<'a>(sheet: &[u8], first: &'a [u8], second: &'a [u8]) -> Result<&'a [u8], Refusal> {
     better::better(&Sheet::read(sheet)?, first, second)
+}
+
+/// The weight of a formula (35, 36).
+pub fn weight(text: &[u8], letters: &[u32]) -> Result<u16, Refusal> {
+    formula::weight(text, letters)
 }

@@ -10,6 +10,7 @@ pub mod bundle;
 pub mod checker;
 mod command_bytes;
 pub mod figures;
+pub mod formula;
 pub mod graph;
 pub mod interface;
 pub mod listing;

@@ -64,6 +64,10 @@ pub const WRONG_SEND: u8 = 31;
 pub const WRONG_RECEIVE: u8 = 32;
 /// Inside one processor a link's source runs after its target.
 pub const LOCAL_ORDER: u8 = 33;
+/// A text is no formula, or nested too deep.
+pub const FORMULA: u8 = 35;
+/// A formula's value, or the list of the letters' values, is out of range.
+pub const VALUE: u8 = 36;
 
 /// Of two bundles both are refused.
 pub const BOTH_REFUSED: u8 = 34;

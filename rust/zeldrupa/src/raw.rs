@@ -57,6 +57,9 @@ interface! {
     /// Checks a bundle for a sheet.
     check = zeldrupa_check(sheet: &[u8], bundle: &[u8], work: &mut [u32]);
 
+    /// The weight of a formula, with the values of the letters a to z; the place is the weight.
+    weight = zeldrupa_weight(text: &[u8], letters: &[u32]);
+
     /// Starts the machine; `state` keeps its state from then on.
     start = zeldrupa_start(sheet: &[u8], bundle: &[u8], work: &mut [u32], state: &mut [u32]);
 

@@ -10,6 +10,7 @@ mod pack;
 mod plan;
 mod run;
 mod show;
+mod weight;
 
 use crate::answer::{Answer, Fault};
 use crate::arguments::Arguments;
@@ -33,7 +34,7 @@ pub struct Command {
     pub answer: fn(&mut Loader, &Arguments) -> Result<Answer, Fault>,
 }
 
-pub static COMMANDS: [Command; 10] = [
+pub static COMMANDS: [Command; 11] = [
     plan::COMMAND,
     check::COMMAND,
     better::COMMAND,
@@ -41,6 +42,7 @@ pub static COMMANDS: [Command; 10] = [
     run::COMMAND,
     gantt::COMMAND,
     levels::COMMAND,
+    weight::COMMAND,
     compare::COMMAND,
     pack::COMMAND,
     show::COMMAND,
@@ -78,6 +80,14 @@ impl Command {
             text += &format!("  {option:<9} {meaning}\n");
         }
         text + "\n" + COMMON
+    }
+
+    /// What its arguments are.
+    pub fn takes(&self) -> &'static str {
+        match self.usage.starts_with("FORMULA") {
+            true => "formula",
+            false => "file",
+        }
     }
 
     /// A fault of its usage.

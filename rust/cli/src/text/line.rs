@@ -1,5 +1,6 @@
 //! What is expected of a line: its words in order, and a problem at the first that is another.
 
+use super::letters::Amount;
 use super::spelling::meant;
 use super::words::{checked_name, is_bare, quoted_short, words, Word, Words};
 
@@ -96,20 +97,72 @@ impl Line {
         }
     }
 
+    /// A decimal number up to `most`, or a formula.
+    pub fn amount(&mut self, of: &str, most: u32) -> Result<Amount, Problem> {
+        match self.words.as_slice() {
+            [(column, Word::Bare(text)), ..] if !text.chars().all(|c| c.is_ascii_digit()) => {
+                let what = text.clone();
+                let formula = Placed { line: self.number, column: *column, what };
+                self.words.next();
+                Ok(Amount::Formula(formula))
+            }
+            _ => self.number(of, most).map(Amount::Number),
+        }
+    }
+
+    /// Named things in any order, each once.
+    pub fn named<T, const N: usize>(
+        &mut self,
+        names: [&str; N],
+        mut read: impl FnMut(&mut Self, &str) -> Result<T, Problem>,
+    ) -> Result<[T; N], Problem> {
+        let mut found = [(); N].map(|()| None);
+        for _ in 0..N {
+            let missing: Vec<usize> = (0..N).filter(|&name| found[name].is_none()).collect();
+            let words: Vec<&str> = missing.iter().map(|&name| names[name]).collect();
+            let name = missing[self.one_of(&words)?.what];
+            found[name] = Some(read(self, names[name])?);
+        }
+        Ok(found.map(|thing| thing.expect("each was read")))
+    }
+
     /// Named numbers in any order, each once, with the most that each can be.
     pub fn numbers<const N: usize>(
         &mut self,
         fields: [(&str, u32); N],
     ) -> Result<[u32; N], Problem> {
-        let mut numbers = [None; N];
-        for _ in 0..N {
-            let missing: Vec<usize> = (0..N).filter(|&field| numbers[field].is_none()).collect();
-            let words: Vec<&str> = missing.iter().map(|&field| fields[field].0).collect();
-            let field = missing[self.one_of(&words)?.what];
-            let (name, most) = fields[field];
-            numbers[field] = Some(self.number(name, most)?);
+        self.named(fields.map(|(name, _)| name), |line, name| {
+            let most = fields.iter().find(|field| field.0 == name).map_or(0, |field| field.1);
+            line.number(name, most)
+        })
+    }
+
+    /// Letters and their values, `n = 1024, b = 64`, with blanks or without.
+    pub fn letter_values(&mut self) -> Result<Vec<(Placed<char>, u32)>, Problem> {
+        self.words = self.words.by_ref().flat_map(pieces).collect::<Vec<_>>().into_iter();
+        let mut values = Vec::new();
+        loop {
+            let letter = self.letter()?;
+            self.one_of(&["="])?;
+            values.push((letter.clone(), self.number(&letter.what.to_string(), u32::MAX)?));
+            if self.is_empty() {
+                return Ok(values);
+            }
+            self.one_of(&[","])?;
         }
-        Ok(numbers.map(|number| number.unwrap_or(0)))
+    }
+
+    /// A letter a to z.
+    fn letter(&mut self) -> Result<Placed<char>, Problem> {
+        let expected = || "a letter a to z".to_string();
+        let word = self.next(expected)?;
+        match &word.what {
+            Word::Bare(text) if matches!(text.as_bytes(), [b'a'..=b'z']) => {
+                let what = text.chars().next().expect("it has one");
+                Ok(Placed { line: word.line, column: word.column, what })
+            }
+            other => Err(word.problem(format!("expected {}, found {}", expected(), other.shown()))),
+        }
     }
 
     /// A task, by its number or its name.
@@ -179,6 +232,22 @@ impl Line {
             }),
         }
     }
+}
+
+/// A word in pieces, in which `=` and `,` stand alone.
+fn pieces((column, word): (usize, Word)) -> Vec<(usize, Word)> {
+    let Word::Bare(text) = word else { return vec![(column, word)] };
+    let mut pieces: Vec<(usize, String)> = Vec::new();
+    let mut joins = false;
+    for (column, c) in (column..).zip(text.chars()) {
+        let sign = matches!(c, '=' | ',');
+        match pieces.last_mut() {
+            Some((_, last)) if joins && !sign => last.push(c),
+            _ => pieces.push((column, c.to_string())),
+        }
+        joins = !sign;
+    }
+    pieces.into_iter().map(|(column, text)| (column, Word::Bare(text))).collect()
 }
 
 /// Words as alternatives.

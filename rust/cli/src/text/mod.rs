@@ -1,6 +1,7 @@
 //! The text form of sheets and bundles: one thing a line, `#` before a comment, names for tasks.
 
 mod bundle;
+mod letters;
 mod line;
 mod names;
 mod sheet;
@@ -9,14 +10,15 @@ mod words;
 mod writing;
 
 pub use bundle::{BundleText, Claim};
-pub use line::Problem;
+pub use letters::{Letters, NO_FORMULA};
+pub use line::{Line, Problem};
 pub use names::Names;
 pub use sheet::SheetText;
 pub use spelling::meant;
 pub use writing::{bundle_text, link_shown, sheet_text};
 
 use bundle::BundleLines;
-use line::{Line, MOST_PROBLEMS};
+use line::MOST_PROBLEMS;
 use sheet::SheetLines;
 
 /// What a text holds: a sheet, a bundle, or both.
@@ -27,7 +29,8 @@ pub struct Text {
 }
 
 /// The first word of each line says what it is.
-const WORDS: [&str; 8] = ["board", "task", "link", "processor", "run", "send", "receive", "claim"];
+const WORDS: [&str; 9] =
+    ["board", "let", "task", "link", "processor", "run", "send", "receive", "claim"];
 
 /// Whether a file is meant as text: it begins as one, and has no control bytes but tabs and the ends
 /// of lines. No sheet and no bundle does: the number behind its first byte is no letter, unless that
@@ -91,6 +94,7 @@ fn read_line(
     let word = line.one_of(&WORDS)?;
     match WORDS[word.what] {
         "board" => sheet.board(word, &mut line)?,
+        "let" => sheet.letters(&mut line)?,
         "task" => sheet.task(word, &mut line)?,
         "link" => sheet.link(word, &mut line)?,
         "processor" => bundle.processor(word, &mut line)?,

@@ -1,5 +1,6 @@
-//! The sheet in a text: `board`, `task` and `link`.
+//! The sheet in a text: `board`, `let`, `task` and `link`.
 
+use super::letters::{Amount, Letters};
 use super::line::{Line, Placed, Problem, Task as TaskWord, MOST_PROBLEMS};
 use super::names::Names;
 use zeldrupa::{Link, Task};
@@ -23,9 +24,17 @@ pub struct SheetText {
 #[derive(Debug, Default)]
 pub struct SheetLines {
     board: Option<(usize, u8, u32)>,
+    letters: Letters,
     names: Names,
-    tasks: Vec<(usize, Task)>,
+    tasks: Vec<TaskLine>,
     links: Vec<LinkLine>,
+}
+
+#[derive(Debug)]
+struct TaskLine {
+    line: usize,
+    work: Amount,
+    store: u16,
 }
 
 #[derive(Debug)]
@@ -51,14 +60,30 @@ impl SheetLines {
         Ok(())
     }
 
-    /// `task window work 1024 store 256`
+    /// `let n = 1024, b = 64`
+    pub fn letters(&mut self, line: &mut Line) -> Result<(), Problem> {
+        self.letters.read(line)
+    }
+
+    /// `task window work 2*n+8 store 256`
     pub fn task(&mut self, word: Placed<usize>, line: &mut Line) -> Result<(), Problem> {
         // The name counts although the rest may be in fault, so that links to it are not.
         self.names.add(line.task()?)?;
-        let numbers = line.numbers([("work", U16), ("store", U16)]);
-        let [work, store] = *numbers.as_ref().unwrap_or(&[1, 0]);
-        self.tasks.push((word.line, Task { work: work as u16, store: store as u16 }));
-        numbers.map(|_| ())
+        let amounts = line.named(["work", "store"], |line, name| match name {
+            "work" => line.amount(name, U16),
+            _ => line.number(name, U16).map(Amount::Number),
+        });
+        let (amounts, problem) = match amounts {
+            Ok(amounts) => (amounts, Ok(())),
+            Err(problem) => ([Amount::Number(1), Amount::Number(0)], Err(problem)),
+        };
+        let [work, store] = amounts;
+        let store = match store {
+            Amount::Number(store) => store as u16,
+            Amount::Formula(_) => 0,
+        };
+        self.tasks.push(TaskLine { line: word.line, work, store });
+        problem
     }
 
     /// `link detrend -> window cost 15 bytes 512`
@@ -69,10 +94,20 @@ impl SheetLines {
         Ok(())
     }
 
-    /// The sheet, if the text has one; every link's tasks are looked up now.
+    /// The sheet, if the text has one; every link's tasks are looked up now, and every formula read.
     pub fn end(self, last: usize, problems: &mut Vec<Problem>) -> Option<SheetText> {
         if self.is_empty() {
             return None;
+        }
+        let mut tasks = Vec::new();
+        for task in &self.tasks {
+            if problems.len() >= MOST_PROBLEMS {
+                break;
+            }
+            match self.letters.amount("work", &task.work) {
+                Ok(work) => tasks.push(Task { work: work as u16, store: task.store }),
+                Err(problem) => problems.push(problem),
+            }
         }
         let mut links = Vec::new();
         for link in &self.links {
@@ -96,12 +131,12 @@ impl SheetLines {
             }
             return None;
         };
-        let lines = [board].into_iter().chain(self.tasks.iter().map(|&(line, _)| line));
+        let lines = [board].into_iter().chain(self.tasks.iter().map(|task| task.line));
         Some(SheetText {
             processors,
             limit,
             lines: lines.chain(self.links.iter().map(|link| link.line)).collect(),
-            tasks: self.tasks.into_iter().map(|(_, task)| task).collect(),
+            tasks,
             links,
             names: self.names,
         })

@@ -4,6 +4,7 @@
 mod bare;
 mod choices;
 mod formats;
+mod formulas;
 mod machine;
 mod plans;
 mod small;
@@ -68,6 +69,13 @@ pub const FAST: &[Family<Fast>] = &[
     ("rivals of faulty sheets", choices::faulty_sheets),
     ("cut rivals", choices::cut),
     ("largest rivals", choices::largest),
+    ("every short text", formulas::every_short),
+    ("small formulas", formulas::small),
+    ("allowed formulas", formulas::allowed),
+    ("damaged formulas", formulas::damaged),
+    ("nested formulas", formulas::nested),
+    ("formulas of edges", formulas::edges),
+    ("long texts", formulas::long_texts),
 ];
 
 /// The families of small inputs, each of which is for several runs.
@@ -86,6 +94,10 @@ pub const LITERAL: &[Family<Literal>] = &[
     ("small sheets in fault", small::sheets_in_fault),
     ("even rivals", choices::even),
     ("bare rivals", choices::bare),
+    ("every short text", formulas::every_short),
+    ("small formulas", formulas::small),
+    ("nested formulas", formulas::few_nested),
+    ("formulas of edges", formulas::edges),
 ];
 
 /// What came of a family.

@@ -82,6 +82,9 @@ impl Refusal {
             (Counts::BundleBytes, _) => without(form::bundle(self, &about)),
             // A sheet that cannot be read and is refused by a task has a circle.
             (Counts::Tasks, None) => without(form::circle(self, &about)),
+            (Counts::FormulaBytes | Counts::Value, _) => {
+                without((format!("place {} of the formula", self.place), Subject::Other))
+            }
             (Counts::Lent, _) => {
                 without((format!("{} elements are needed", self.place), Subject::Other))
             }

@@ -11,6 +11,8 @@ pub(crate) enum Counts {
     Time,
     Lent,
     Nothing,
+    FormulaBytes,
+    Value,
 }
 
 /// A refusal: its number, its word in the trade, a sentence on why there is no result, and a remedy.
@@ -28,7 +30,7 @@ pub(crate) fn kind(number: u8) -> Option<&'static Kind> {
 }
 
 /// All of them; docs/FORMAT.md has the same sentences.
-pub(crate) static KINDS: [Kind; 25] = [
+pub(crate) static KINDS: [Kind; 27] = [
     Kind {
         number: 1,
         word: "cut sheet",
@@ -214,6 +216,23 @@ pub(crate) static KINDS: [Kind; 25] = [
         counts: Counts::Nothing,
         cause: "Of two bundles neither is accepted, so that there is no better one.",
         remedy: "Check each of them, and mend one as its own refusal says.",
+    },
+    Kind {
+        number: 35,
+        word: "formula",
+        counts: Counts::FormulaBytes,
+        cause: "The text is no formula, or has more than 32 parentheses open together.",
+        remedy: "Write numbers of up to ten digits, letters a to z, +, * and parentheses, without \
+                 spaces.",
+    },
+    Kind {
+        number: 36,
+        word: "value",
+        counts: Counts::Value,
+        cause: "The formula's value is outside 1 to 65,535, a number or partial result is above \
+                4,294,967,295, or the list of the letters' values has not 26 of them.",
+        remedy:
+            "Correct the formula or the values; count work in a coarser unit if it is too large.",
     },
 ];
 
