@@ -1,0 +1,3 @@
+-- The laws of `generator`.
+pub mod Steps
+pub mod Fills
