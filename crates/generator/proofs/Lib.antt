@@ -1,3 +1,4 @@
 -- The laws of `generator`.
 pub mod Steps
 pub mod Fills
+pub mod Stores
