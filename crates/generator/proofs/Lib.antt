@@ -2,3 +2,4 @@
 pub mod Steps
 pub mod Fills
 pub mod Stores
+pub mod Ranges
