@@ -10,3 +10,4 @@ pub mod Results
 pub mod Calls
 pub mod Whole
 pub mod Trips
+pub mod Generated

@@ -2,3 +2,4 @@
 pub mod Trials
 pub mod Demand
 pub mod RoundTrips
+pub mod Loads

@@ -3,3 +3,4 @@ pub mod Steps
 pub mod Fills
 pub mod Stores
 pub mod Ranges
+pub mod Readable

@@ -1,3 +1,4 @@
+-- `zeldrupa_generate` (src/lib.rt) keeps its contract.
 use denote.Ref.{now}
 use lib.ListN.{length}
 use Rattle.folds.specs.Answers.{andThen, fitting}

@@ -1,3 +1,4 @@
+-- `generate` (src/sheets.rt) keeps its contract.
 use denote.Ref.{now}
 use mathlib.Core.Path.{sym, _∙_}
 use Rattle.generator.proofs.Ranges.{inside}

@@ -1,3 +1,4 @@
+-- `put_link` (src/bytes.rt) keeps its contract.
 use native.Mathlib.Omega.{arith}
 use denote.Ref.{now}
 use mathlib.Core.Path.{_∙_}

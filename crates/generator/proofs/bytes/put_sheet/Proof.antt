@@ -1,3 +1,4 @@
+-- `put_sheet` (src/bytes.rt) keeps its contract.
 use Prim.Native.Nat.{ℕ}
 use native.Mathlib.Omega.{arith}
 use mathlib.Core.Path.{ap₂, _∙_}

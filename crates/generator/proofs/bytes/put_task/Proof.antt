@@ -1,3 +1,4 @@
+-- `put_task` (src/bytes.rt) keeps its contract.
 use denote.Ref.{now}
 use mathlib.Core.Path.{_∙_}
 use Rattle.sheet.specs.Tables.{taskIn}

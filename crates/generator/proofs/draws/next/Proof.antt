@@ -1,3 +1,4 @@
+-- `next` (src/draws.rt) keeps its contract.
 use Rattle.generator.proofs.Steps.{next-is}
 use borrow.Author.Needs.{needs}
 use Rattle.generator.proofs.draws.next.Statement.{statement}

@@ -1,3 +1,4 @@
+-- `add_task` (src/loads.rt) keeps its contract.
 use Rattle.generator.proofs.Steps.{task-put}
 use borrow.Author.Needs.{needs}
 use Rattle.generator.proofs.loads.add_task.Statement.{statement}

@@ -1,7 +1,7 @@
+-- `add_try` (src/loads.rt) keeps its contract.
 use lib.ListN.{getD}
 use denote.Ref.{now}
-use mathlib.Core.Path.{subst, _≡_}
-use native.Mathlib.Omega.{arith}
+use mathlib.Core.Path.{subst}
 use native.Mathlib.Nat.{mod-lt}
 use Prim.Native.Nat.{ℕ, _<_, _%_}
 use Rattle.sheet.specs.Sheet.{Link}

@@ -1,6 +1,6 @@
+-- `are_outside` (src/loads.rt) keeps its contract.
 use borrow.Author.Tests.{eq-eqb, ne-eqb, lt-ltb, le-ltb}
 use Rattle.generator.specs.Load.{outside}
-use borrow.Author.Needs.{needs}
 use Rattle.generator.proofs.loads.are_outside.Statement.{statement}
 use Rattle.generator.proofs.loads.are_outside.Tie as tie
 

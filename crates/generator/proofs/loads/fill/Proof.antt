@@ -1,3 +1,4 @@
+-- `fill` (src/loads.rt) keeps its contract.
 use Prim.Native.Nat.{_-_, _≤_}
 use native.Mathlib.Omega.{arith}
 use mathlib.Core.Path.{sym, _∙_}

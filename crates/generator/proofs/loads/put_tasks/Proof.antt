@@ -1,8 +1,8 @@
+-- `put_tasks` (src/loads.rt) keeps its contract.
 use Rattle.generator.proofs.Fills.{tasked-none, tasked-more, all-tasked}
 use Prim.Native.Nat.{_-_, _≤_}
 use native.Mathlib.Omega.{arith}
-use mathlib.Core.Path.{_∙_, subst}
-use denote.Ref.{now}
+use mathlib.Core.Path.{_∙_}
 use Rattle.generator.specs.Filled.{Tasked}
 use borrow.Author.Needs.{needs}
 use Rattle.generator.proofs.loads.put_tasks.Statement.{statement}

@@ -1,3 +1,4 @@
+-- `try_link` (src/loads.rt) keeps its contract.
 use denote.Ref.{now}
 use mathlib.Core.Path.{sym, _∙_}
 use native.Mathlib.Omega.{arith}
@@ -5,7 +6,6 @@ use Rattle.sheet.specs.Tables.{sheetIn}
 use Rattle.sheet.specs.Sheet.{Link}
 use Rattle.generator.proofs.Fills.{left-alone, not-later, there, joined-by, added}
 use Rattle.sheet.proofs.Rows.{links-in}
-use mathlib.Core.Bool.{true, false}
 use borrow.Author.Needs.{needs}
 use Rattle.generator.proofs.loads.try_link.Statement.{statement}
 use Rattle.generator.proofs.loads.try_link.Tie as tie
