@@ -6,12 +6,10 @@ use mathlib.Core.Option.{none}
 use mathlib.Core.Path.{_≡_, refl, sym, ap, subst, _∙_}
 use mathlib.Core.List.{List}
 use lib.ListN.{length, take}
-use Rattle.folds.specs.Folds.{pick}
-use Rattle.folds.specs.Answers.{Answer, value, refused, andThen, longEnough, fitting}
+use Rattle.folds.specs.Answers.{Answer, value, andThen, fitting}
 use Rattle.folds.proofs.Tests.{andThen-value, not-value, value-same}
 use Rattle.workspace.specs.Area.{fixed}
 use Rattle.sheet.specs.Sheet.{Sheet, taskCount, linkCount, sourceOf, targetOf}
-use Rattle.sheet.specs.Format.{readForm}
 use Rattle.sheet.specs.Writing.{sheetBytes, taskValues}
 use Rattle.graph.specs.Graph.{circle, readSheet}
 use Rattle.graph.specs.Paths.{Path, here, along, steps}
@@ -22,7 +20,7 @@ use Rattle.generator.proofs.Ranges.{Inside, inside, generated-no, generated-she
 use Rattle.generator.proofs.Fills.{few-links}
 use Rattle.generator.proofs.Readable.{tasks-made, later-made, proper-made, form-again}
 use Rattle.zeldrupa.specs.Promises.{generateAnswer, GivesGenerated}
-use Rattle.assurance.specs.Loads.{Load, Loads}
+use Rattle.assurance.specs.Loads.{Loads}
 use Rattle.assurance.proofs.Numbers.{Numbered, numbered-value, numbered-refused, numbered-then, numbered-pick, numbered-long, numbered-fitting}
 use Rattle.assurance.proofs.Results.{long-value, fitting-value, gave}
 use Rattle.assurance.proofs.Trips.{sheet-left, read-sheet-is}

@@ -1,24 +1,23 @@
 -- The tables while a sheet is made: with a task more, and with a link tried.
-use Prim.Native.Nat.{ℕ, zero, suc, _+_, _*_, _%_, _<_, _≤_}
+use Prim.Native.Nat.{ℕ, zero, suc, _+_, _*_, _<_, _≤_}
 use native.Mathlib.Omega.{arith}
 use native.Mathlib.Numerals.{add-one}
-use mathlib.Core.Bool.{Bool, true, false, not}
+use mathlib.Core.Bool.{Bool, true, false}
 use mathlib.Core.Path.{_≡_, refl, sym, ap, ap₂, subst, _∙_}
 use mathlib.Core.List.{List, [], _∷_, _++_}
 use borrow.Author.Tests.{lt-ltb, le-ltb}
 use lib.ListN.{length, getD, length-append}
 use lib.Dec.{ltb}
-use Rattle.folds.specs.Folds.{pick, both, listed}
 use Rattle.folds.proofs.Loops.{listed-one, listed-zero}
 use Rattle.folds.proofs.Tests.{both-false}
 use Rattle.workspace.specs.Area.{fixed, pairsAt}
 use Rattle.sheet.specs.Sheet.{Sheet, Task, Link, taskCount, linkCount}
 use Rattle.sheet.specs.Format.{joins}
-use Rattle.sheet.specs.Tables.{sheetIn, Loaded, LoadedOf, Filling, Blanked, pairIn, taskWords, linkWords, pairWords}
+use Rattle.sheet.specs.Tables.{sheetIn, LoadedOf, Filling, Blanked, pairIn, taskWords, linkWords, pairWords}
 use Rattle.sheet.proofs.Rows.{tasks-in, links-in}
 use Rattle.sheet.proofs.Fills.{task-away, task-long, task-count, sheet-task, pair-away, pair-long, link-long, link-away}
 use Rattle.sheet.proofs.Joins.{task-loaded, link-sheet, filling-link, blank-sheet, blank-filling}
-use Rattle.generator.specs.Draw.{startOf, after, drawn}
+use Rattle.generator.specs.Draw.{startOf, after}
 use Rattle.generator.specs.Load.{taskBehind, tryBehind, taskAt, tryAt, withLink, isNew, tried, tasksFrom, sheetFrom}
 use Rattle.generator.specs.Filled.{Tasked, TriedIn, Trying}
 use Rattle.generator.specs.declared.draws.Draws.{Draws}

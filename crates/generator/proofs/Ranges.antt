@@ -1,12 +1,12 @@
 -- What a sheet is made from is in its ranges, or refused.
-use Prim.Native.Nat.{ℕ, _≤_, _<_}
+use Prim.Native.Nat.{ℕ, _≤_}
 use mathlib.Core.Bool.{true, false}
 use mathlib.Core.Path.{_≡_}
 use borrow.Author.Tests.{eqb-false, ltb-false}
 use mathlib.Core.Logic.{_≢_}
 use lib.Dec.{ltb, eqb}
 use Rattle.folds.specs.Folds.{either}
-use Rattle.folds.specs.Answers.{Answer, value, refused}
+use Rattle.folds.specs.Answers.{value, refused}
 use Rattle.folds.proofs.Tests.{either-none}
 use Rattle.generator.specs.Load.{beyond, outside, sheetFrom, generated}
 

@@ -1,5 +1,5 @@
 -- The sheet of a seed is proper, so that its bytes are read as it; and each of its links leads to a later task.
-use Prim.Native.Nat.{ℕ, zero, suc, _+_, _*_, _%_, _<_, _≤_}
+use Prim.Native.Nat.{ℕ, zero, suc, _+_, _*_, _<_, _≤_}
 use native.Mathlib.Omega.{arith}
 use native.Mathlib.Nat.{mod-lt}
 use mathlib.Core.Bool.{Bool, true, false, not, true≢false}
@@ -18,10 +18,10 @@ use Rattle.folds.proofs.Lists.{length-listed, getD-listed}
 use Rattle.sheet.specs.Sheet.{Sheet, Task, Link, noTask, noLink, taskCount, linkCount, sourceOf, targetOf}
 use Rattle.sheet.specs.Format.{joins, joinsBy, readForm}
 use Rattle.sheet.specs.Writing.{sheetBytes}
-use Rattle.sheet.proofs.Rounds.{Proper, TaskFits, LinkFits, Ends, Shaped, proper}
+use Rattle.sheet.proofs.Rounds.{Proper, TaskFits, LinkFits, Shaped, proper}
 use Rattle.sheet_reader.proofs.Backs.{back-again}
 use Rattle.generator.specs.Draw.{startOf, after, drawn}
-use Rattle.generator.specs.Load.{taskBehind, tryBehind, taskAt, tryAt, withLink, isNew, tried, tasksFrom, sheetFrom}
+use Rattle.generator.specs.Load.{taskBehind, tryBehind, taskAt, tryAt, isNew, tried, tasksFrom, sheetFrom}
 use Rattle.generator.proofs.Fills.{tried-same, tried-new, few-links}
 use Rattle.generator.proofs.Ranges.{Inside}
 

@@ -3,7 +3,7 @@ use Prim.Native.Nat.{ℕ, zero, suc, _+_, _*_, _%_, _^_}
 use native.Mathlib.Omega.{arith}
 use mathlib.Core.Path.{_≡_, refl, ap, ap₂, _∙_}
 use mathlib.Core.List.{List}
-use Rattle.sheet.specs.Sheet.{Task, Link}
+use Rattle.sheet.specs.Sheet.{Link}
 use Rattle.sheet.specs.Tables.{taskWords}
 use Rattle.generator.specs.Draw.{xorshift, nextOf, drawOf, startOf, after, drawn}
 use Rattle.generator.specs.Load.{taskBehind, tryBehind, taskAt, tryAt}

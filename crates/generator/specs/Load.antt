@@ -1,7 +1,7 @@
 -- A sheet from a seed: its tasks and its links by draws, in the order in which they are made.
 use Prim.Native.Nat.{ℕ, zero, suc, _+_, _*_, _%_}
 use mathlib.Core.Bool.{Bool, not}
-use mathlib.Core.List.{List, [], _∷_, _++_}
+use mathlib.Core.List.{[], _∷_, _++_}
 use lib.Dec.{ltb, eqb}
 use Rattle.folds.specs.Folds.{pick, both, either, listed}
 use Rattle.folds.specs.Answers.{Answer, value, refused}

@@ -1,10 +1,10 @@
 -- Draws, a sheet and the refusals, computed.
 use Prim.Native.Nat.{ℕ}
 use mathlib.Core.Path.{_≡_, refl}
-use mathlib.Core.List.{List, [], _∷_}
+use mathlib.Core.List.{[], _∷_}
 use Rattle.folds.specs.Folds.{listed, any}
-use Rattle.folds.specs.Answers.{Answer, value, refused}
-use Rattle.sheet.specs.Sheet.{Sheet, Task, Link, linkCount, sourceOf, targetOf}
+use Rattle.folds.specs.Answers.{value, refused}
+use Rattle.sheet.specs.Sheet.{Task, Link, linkCount, sourceOf, targetOf}
 use Rattle.sheet.specs.Format.{joins, joinsBy}
 use Rattle.generator.specs.Draw.{nextOf, after, drawn, startOf}
 use Rattle.generator.specs.Load.{taskBehind, tryBehind, taskAt, tryAt, isNew, tried, tasksFrom, sheetFrom, outside, generated}
