@@ -5,7 +5,11 @@ use Rattle.generator.proofs.loads.add_task.Statement.{statement}
 use Rattle.generator.proofs.loads.add_task.Tie as tie
 
 returns : tie.Need-returns
-returns c = task-put (c .before .before .before .before .before .before .before .before .before .args .d) _ _ (c .before .before .before .before .before .before .before .next .ensures) (c .before .before .before .before .before .before .next2 .ensures) _ _ _ _ _ (c .before .before .before .before .before .draw .ensures) (c .before .before .before .before .draw2 .ensures) (c .before .before .put-task .ensures)
+returns c =
+    let put = c .before .before in
+    let drawn = put .before .before in
+    let stepped = drawn .before .before in
+    task-put (stepped .before .before .before .args .d) _ _ (stepped .before .next .ensures) (stepped .next2 .ensures) _ _ _ _ _ (drawn .before .draw .ensures) (drawn .draw2 .ensures) (put .put-task .ensures)
 
 pub add-task-spec : {M : Type 1} → statement M
 add-task-spec =

@@ -19,13 +19,17 @@ try-link-requires c κs =
 
 returns : tie.Need-returns
 returns c =
-    let s = c .before .before .before .before .before .before .before .before .before .before .before .before .before in
+    let tried = c .before .before in
+    let drawn = tried .before .before in
+    let stepped = drawn .before .before .before .before in
+    let s = stepped .before .before .before .before .before in
     let d = s .args .d in
-    let e = c .before .before .before .before .before .before .before .before .before .before .before .next .ensures in
-    let f = c .before .before .before .before .before .before .before .before .before .before .next2 .ensures in
-    let g = c .before .before .before .before .before .before .before .before .before .next3 .ensures in
-    let k = c .before .before .before .before .before .before .before .before .next4 .ensures in
-    (fourth-states d _ _ e f _ _ g k, subst (λ (x : Link). TriedIn x (now (s .args .w)) (c .before .before .try-link .last .0)) (try-is d _ _ e f _ _ g k (s .args .tasks) _ _ _ _ (c .before .before .before .before .before .before .before .draw .ensures) (c .before .before .before .before .before .before .draw2 .ensures) (c .before .before .before .before .before .draw3 .ensures) (c .before .before .before .before .draw4 .ensures)) (c .before .before .try-link .ensures))
+    let e = stepped .before .before .before .next .ensures in
+    let f = stepped .before .before .next2 .ensures in
+    let g = stepped .before .next3 .ensures in
+    let k = stepped .next4 .ensures in
+    let x = try-is d _ _ e f _ _ g k (s .args .tasks) _ _ _ _ (drawn .before .before .before .draw .ensures) (drawn .before .before .draw2 .ensures) (drawn .before .draw3 .ensures) (drawn .draw4 .ensures) in
+    (fourth-states d _ _ e f _ _ g k, subst (λ (l : Link). TriedIn l (now (s .args .w)) (tried .try-link .last .0)) x (tried .try-link .ensures))
 
 pub add-try-spec : {M : Type 1} → statement M
 add-try-spec =

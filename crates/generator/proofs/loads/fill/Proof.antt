@@ -30,10 +30,14 @@ loop-again : tie.Need-loop-again Inv-loop μ-loop
 loop-again c = (omega arith, trying-more (c .before .before .before .before .before .loop .inv .1) _ _ (c .before .before .add-try .ensures))
 
 same-length : tie.Need-same-length Inv-loop μ-loop
-same-length c = c .before .loop .inv .1 .long ∙ c .before .before .before .before .blank .kept .0 ∙ c .before .before .before .before .before .before .before .before .put-tasks .kept .1 .1 .1 .1 .0
+same-length c =
+    let blank = c .before .before .before .before in
+    c .before .loop .inv .1 .long ∙ blank .blank .kept .0 ∙ blank .before .before .before .before .put-tasks .ensures .long
 
 returns : tie.Need-returns Inv-loop μ-loop
-returns c = all-tried _ _ (c .before .loop .inv .1) (c .before .before .before .before .blank .kept .0 ∙ c .before .before .before .before .before .before .before .before .put-tasks .ensures .long) (omega arith)
+returns c =
+    let blank = c .before .before .before .before in
+    all-tried _ _ (c .before .loop .inv .1) (blank .blank .kept .0 ∙ blank .before .before .before .before .put-tasks .ensures .long) (omega arith)
 
 pub fill-spec : {M : Type 1} → statement M
 fill-spec =

@@ -26,20 +26,29 @@ returns-2 c =
 
 join-requires : tie.Need-join-requires
 join-requires c κs =
-    let f = c .before .before .before .before .before .before .before .before .pre .0 .loaded in
-    (f .long, omega (arith, f .tasks), omega (arith, f .tasks), sym (c .before .before .before .before .joined .ensures) ∙ c .before .before .before .if2 .left)
+    let test = c .before .before .before in
+    let f = test .before .before .before .before .before .pre .0 .loaded in
+    (f .long, omega (arith, f .tasks), omega (arith, f .tasks), sym (test .before .joined .ensures) ∙ test .if2 .left)
 
 put-link-requires : tie.Need-put-link-requires
 put-link-requires c κs =
-    let f = c .before .before .before .before .before .before .before .before .before .before .before .before .pre .0 .loaded in
-    (omega (arith, f .long, c .before .before .before .join .kept .0), omega (arith, c .before .before .before .before .before .links .ensures .0, links-in (now (c .before .before .before .before .before .before .before .before .before .before .before .before .args .w))), omega (arith, f .tasks), omega (arith, f .tasks))
+    let join = c .before .before .before in
+    let links = join .before .before in
+    let s = links .before .before .before .before .before .before .before in
+    let f = s .pre .0 .loaded in
+    (omega (arith, f .long, join .join .kept .0), omega (arith, links .links .ensures .0, links-in (now (s .args .w))), omega (arith, f .tasks), omega (arith, f .tasks))
 
 returns-3 : tie.Need-returns-3
 returns-3 c =
-    let s = c .before .before .before .before .before .before .before .before .before .before .before .before .before .before .before in
+    let put = c .before .before in
+    let join = put .before .before .before .before in
+    let links = join .before .before in
+    let test = links .before .before in
+    let s = test .before .before .before .before .before in
     let w = now (s .args .w) in
     let x : Link = record { source = s .args .source; target = s .args .target; cost = s .args .cost; bytes = s .args .bytes } in
-    added w _ x (s .pre .0) (c .before .before .before .before .before .before .before .before .links .ensures .0 ∙ links-in w) (s .pre .1 .2) (s .pre .1 .0) (s .pre .1 .1) (omega (arith, s .fits .cost)) (omega (arith, s .fits .bytes)) (omega arith) (sym (c .before .before .before .before .before .before .before .before .before .before .before .joined .ensures) ∙ c .before .before .before .before .before .before .before .before .before .before .if2 .left) _ _ (c .before .before .before .before .before .before .join .ensures) (c .before .before .put-link .ensures)
+    added w _ x (s .pre .0) (links .links .ensures .0 ∙ links-in w) (s .pre .1 .2) (s .pre .1 .0) (s .pre .1 .1) (omega (arith, s .fits .cost)) (omega (arith, s .fits .bytes)) (omega arith)
+    (sym (test .before .joined .ensures) ∙ test .if2 .left) _ _ (join .join .ensures) (put .put-link .ensures)
 
 pub try-link-spec : {M : Type 1} → statement M
 try-link-spec =
