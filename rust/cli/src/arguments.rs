@@ -33,10 +33,11 @@ impl Arguments {
         let count = arguments.files.len();
         if !command.files.contains(&count) {
             let (least, most) = command.files.clone().into_inner();
+            let what = command.takes();
             let takes = match (least, most) {
-                (1, 1) => "1 file".into(),
-                _ if least == most => format!("{least} files"),
-                _ => format!("{least} to {most} files"),
+                (1, 1) => format!("1 {what}"),
+                _ if least == most => format!("{least} {what}s"),
+                _ => format!("{least} to {most} {what}s"),
             };
             return Err(command.misused(&format!("takes {takes}, not {count}")));
         }

@@ -28,7 +28,7 @@ fn told(scratch: &Scratch, command: &str) -> String {
 fn runs_print_what_is_stored() {
     let store = std::env::var_os("ZELDRUPA_STORE").is_some();
     let transcripts = files(&folder("tests/transcripts"));
-    assert!(transcripts.len() >= 9);
+    assert!(transcripts.len() >= 10);
     for path in transcripts {
         let stored = fs::read_to_string(&path).unwrap();
         let scratch = Scratch::new();
@@ -79,7 +79,9 @@ fn transcripts_are_tidy_and_whole() {
     for line in all.lines() {
         assert_eq!(line, line.trim_end());
     }
-    for name in ["plan", "check", "list", "run", "gantt", "levels", "compare", "pack", "show"] {
+    for name in
+        ["plan", "check", "list", "run", "gantt", "levels", "compare", "pack", "show", "generate"]
+    {
         for what in [format!("$ zeldrupa {name} --help"), format!("$ zeldrupa {name}\n")] {
             assert!(all.contains(&what), "{what}");
         }

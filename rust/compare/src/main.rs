@@ -7,6 +7,7 @@ mod comparison;
 mod families;
 mod formats;
 mod lent;
+mod loads;
 mod machine;
 mod planner;
 mod rules;
@@ -28,6 +29,8 @@ const FEWEST_PLANS: usize = 50_000;
 /// The fewest pairs of a sheet and a bundle, and how many of them have to get stuck.
 const FEWEST_PAIRS: usize = 200_000;
 const FEWEST_STUCK: usize = 3000;
+/// The fewest test loads.
+const FEWEST_LOADS: usize = 50_000;
 /// The fewest calls of each function that are held against the literal rules.
 const FEWEST_OF_EACH: usize = 1_000_000;
 /// How often each family of small inputs is run, so that they share the threads evenly.
@@ -101,6 +104,7 @@ fn fast_shortfalls(tally: &Tally) -> Vec<String> {
         ("plans", tally.calls_of(Function::Plan), FEWEST_PLANS),
         ("pairs", tally.calls_of(Function::Check), FEWEST_PAIRS),
         ("pairs that get stuck", tally.answers(Function::Check, STUCK), FEWEST_STUCK),
+        ("test loads", tally.calls_of(Function::Generate), FEWEST_LOADS),
     ];
     counts.into_iter().filter_map(shortfall).collect()
 }

@@ -6,6 +6,7 @@
 pub enum Function {
     ReadSheet,
     WriteSheet,
+    Generate,
     Levels,
     Plan,
     Listing,
@@ -21,9 +22,10 @@ pub enum Function {
 }
 
 /// Every function that is compared.
-pub const FUNCTIONS: [Function; 14] = [
+pub const FUNCTIONS: [Function; 15] = [
     Function::ReadSheet,
     Function::WriteSheet,
+    Function::Generate,
     Function::Levels,
     Function::Plan,
     Function::Listing,
@@ -39,7 +41,7 @@ pub const FUNCTIONS: [Function; 14] = [
 ];
 
 /// How many functions stand side by side in the table of answers.
-const COLUMNS: usize = 7;
+const COLUMNS: usize = 8;
 
 impl Function {
     /// Its name without the prefix.
@@ -47,6 +49,7 @@ impl Function {
         match self {
             Function::ReadSheet => "read_sheet",
             Function::WriteSheet => "write_sheet",
+            Function::Generate => "generate",
             Function::Levels => "levels",
             Function::Plan => "plan",
             Function::Listing => "listing",
@@ -68,6 +71,7 @@ impl Function {
         match self {
             Function::ReadSheet | Function::Levels => sheet || number == 12,
             Function::WriteSheet => matches!(number, 0 | 1 | 5..=8 | 10 | 12 | 13),
+            Function::Generate => matches!(number, 0 | 6 | 12 | 13),
             Function::Plan => sheet || matches!(number, 11 | 12),
             Function::Listing => matches!(number, 0 | 12 | 13),
             Function::ReadBundle | Function::WriteBundle => {

@@ -12,6 +12,7 @@ pub mod commands;
 pub mod interface;
 pub mod levels;
 pub mod listing;
+pub mod load;
 pub mod machine;
 pub mod placing;
 pub mod refusal;

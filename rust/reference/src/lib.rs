@@ -12,6 +12,7 @@ pub mod figures;
 pub mod graph;
 pub mod interface;
 pub mod listing;
+pub mod load;
 pub mod machine;
 pub mod messages;
 pub mod planner;

@@ -1,7 +1,7 @@
 //! The proved planner for boards of small processors, from Rust.
 //!
 //! A [`WorkArea`] has every call: it reads and writes a [`Sheet`] of tasks and a [`Bundle`] of
-//! programmes, plans, checks, lists, and starts a [`Machine`]. Each answer is the static library's
+//! programmes, makes a sheet from a seed ([`Load`]), plans, checks, lists, and starts a [`Machine`]. Each answer is the static library's
 //! own; a [`Refusal`] has document 01's number, place and word, and [`Refusal::explain`] tells it in
 //! the user's terms.
 //!
@@ -34,6 +34,7 @@
 #![deny(missing_docs)]
 
 mod bundle;
+mod load;
 mod machine;
 pub mod raw;
 mod refusal;
@@ -46,6 +47,7 @@ mod work_area;
 struct Readme;
 
 pub use bundle::{bundle_values, Bundle, Command};
+pub use load::Load;
 pub use machine::{Machine, Processor, Wait};
 pub use refusal::{About, Explanation, Refusal, Subject};
 pub use sheet::{Link, Sheet, Task};

@@ -3,6 +3,7 @@
 mod explanation;
 mod form;
 mod kinds;
+mod load;
 mod programmes;
 mod seen;
 

@@ -3,6 +3,7 @@
 
 mod bare;
 mod formats;
+mod loads;
 mod machine;
 mod plans;
 mod small;
@@ -59,6 +60,12 @@ pub const FAST: &[Family<Fast>] = &[
     ("cut pairs", machine::cut),
     ("largest pairs", machine::largest),
     ("any words as state", machine::any_states),
+    ("loads of the first seeds", loads::first_seeds),
+    ("small loads", loads::small),
+    ("loads of edges", loads::edges),
+    ("loads out of range", loads::outside),
+    ("any loads", loads::any),
+    ("planned loads", loads::planned),
 ];
 
 /// The families of small inputs, each of which is for several runs.
@@ -74,6 +81,10 @@ pub const LITERAL: &[Family<Literal>] = &[
     ("arranged small bundles", small::arranged_bundles),
     ("damaged small bundles", small::damaged_bundles),
     ("small sheets in fault", small::sheets_in_fault),
+    ("loads of the first seeds", loads::first_seeds),
+    ("small loads", loads::small),
+    ("loads of edges", loads::edges),
+    ("loads out of range", loads::outside),
 ];
 
 /// What came of a family.
