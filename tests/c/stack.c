@@ -40,6 +40,7 @@ static void write_sheet(void)
     zeldrupa_write_sheet(16, UINT32_MAX, LENT(tasks), LENT(links), WORK, LENT(sheet), &sheet_length);
 }
 
+static void generate(void) { zeldrupa_generate(1, TASKS, LINKS, 16, UINT32_MAX, WORK, LENT(listing), &place); }
 static void read_sheet(void) { zeldrupa_read_sheet(SHEET, WORK, LENT(tasks), LENT(links), board, &place); }
 static void find_levels(void) { zeldrupa_levels(SHEET, WORK, LENT(levels), &place); }
 static void plan(void) { zeldrupa_plan(SHEET, WORK, LENT(bundle), &bundle_length); }
@@ -84,7 +85,7 @@ int main(void)
         {"write_sheet", write_sheet}, {"read_sheet", read_sheet},     {"levels", find_levels},
         {"plan", plan},               {"listing", list},              {"read_bundle", read_bundle},
         {"write_bundle", write_bundle}, {"check", check},             {"start", start},
-        {"step", step},               {"run", run},
+        {"step", step},               {"run", run},                   {"generate", generate},
     };
     size_t thread = depth(nothing);
     int failures = 0;

@@ -4,6 +4,7 @@ use crate::cases::{Case, Input, MOST_BYTES};
 use crate::steps::{product_steps, rewrite_steps};
 use crate::timing::{alone, in_turns, Calls, Pair, Times};
 use reference::interface;
+use reference::load::Load;
 use reference::machine::Machine;
 use reference::sheet::{Sheet, MOST_LINKS, MOST_TASKS};
 use reference::Refusal;
@@ -16,18 +17,23 @@ pub type Measure = fn(&Case) -> Pair;
 /// The calls that need a command.
 pub const REFUSAL: &str = "check, 32";
 pub const ONE_STEP: &str = "one step";
+/// The calls on test loads, of which the first needs them.
+pub const GENERATE: &str = "generate";
+pub const PLAN: &str = "plan";
+pub const CHECK: &str = "check";
 
 /// The name of each call, and how it is measured.
-pub const CALLS: [(&str, Measure); 9] = [
+pub const CALLS: [(&str, Measure); 10] = [
     ("reading", reading),
     ("levels", levels),
-    ("plan", plan),
-    ("check", check),
+    (PLAN, plan),
+    (CHECK, check),
     (REFUSAL, refusal),
     (ONE_STEP, one_step),
     ("listing", listing),
     ("start", start),
     ("run", run),
+    (GENERATE, generate),
 ];
 
 /// Times a call of the product and one of the rewrite on each input.
@@ -123,6 +129,25 @@ fn run(case: &Case) -> Pair {
         case,
         |i| succeeds(product::run(&i.sheet, &i.bundle, &i.choices, &mut work, &mut state)),
         |i| run_through(i, &i.choices),
+    )
+}
+
+fn generate(case: &Case) -> Pair {
+    let (mut work, mut out, mut own) = (area(), [0; MOST_BYTES], [0; MOST_BYTES]);
+    let loads = &case.loads;
+    in_turns(
+        Calls {
+            inputs: loads.len(),
+            call: |i: usize| {
+                let Load { seed, tasks, tries, processors, limit } = loads[i];
+                let (work, out) = (&mut work, &mut out);
+                succeeds(product::generate(seed, tasks, tries, processors, limit, work, out));
+            },
+        },
+        Calls {
+            inputs: loads.len(),
+            call: |i: usize| passes(interface::generate(loads[i], &mut own)),
+        },
     )
 }
 

@@ -3,6 +3,7 @@
 use inputs::shapes::{self, LARGEST};
 use inputs::{sheets, Random};
 use reference::interface;
+use reference::load::Load;
 use reference::machine::Machine;
 use reference::sheet::Sheet;
 use reference::trials;
@@ -38,18 +39,32 @@ impl Input {
 pub struct Case {
     pub name: String,
     pub inputs: Vec<Input>,
+    /// What the sheets are made from, where they are test loads.
+    pub loads: Vec<Load>,
 }
 
 impl Case {
     /// The first made-up sheets that have a plan.
     fn made(name: impl Into<String>, make: impl Fn(&mut Random) -> sheets::Sheet) -> Case {
         let sheets = (1..).map(|seed| make(&mut Random::new(seed)).encode());
-        Case { name: name.into(), inputs: sheets.filter_map(Input::new).take(SHEETS).collect() }
+        let inputs = sheets.filter_map(Input::new).take(SHEETS).collect();
+        Case { name: name.into(), inputs, loads: Vec::new() }
     }
 
     /// One sheet that has a plan.
     fn of(name: &str, sheet: Vec<u8>) -> Case {
-        Case { name: name.into(), inputs: vec![Input::new(sheet).expect("it has a plan")] }
+        let inputs = vec![Input::new(sheet).expect("it has a plan")];
+        Case { name: name.into(), inputs, loads: Vec::new() }
+    }
+
+    /// The test loads of the first seeds, which all have a plan.
+    fn loads(name: &str, tasks: u32, tries: u32, processors: u32) -> Case {
+        let seeds = 1..=SHEETS as u32;
+        let loads = seeds.map(|seed| Load { seed, tasks, tries, processors, limit: u32::MAX });
+        let loads: Vec<Load> = loads.collect();
+        let sheets = loads.iter().map(|load| load.to_bytes().expect("a load in range"));
+        let inputs = sheets.map(|sheet| Input::new(sheet).expect("it has a plan")).collect();
+        Case { name: name.into(), inputs, loads }
     }
 
     /// Whether there is a command to be stepped, or to be wrong.
@@ -58,12 +73,15 @@ impl Case {
     }
 }
 
-/// Each shape of the largest sheet, the typical sheet, K1 and a bare board.
+/// Each shape of the largest sheet, the typical sheet, K1, a bare board, and test loads of seeds 1 to
+/// 8 of the largest and the typical size.
 pub fn all() -> Vec<Case> {
     let largest = LARGEST.map(|shape| Case::made(shape.name(), |random| shape.sheet(random)));
     let typical = Case::made("typical", shapes::typical);
     let small = [Case::of("K1", trials::k1_sheet()), Case::of("bare", trials::bare_sheet())];
-    largest.into_iter().chain([typical]).chain(small).collect()
+    let loads =
+        [Case::loads("largest loads", 256, 1024, 16), Case::loads("typical loads", 40, 80, 8)];
+    largest.into_iter().chain([typical]).chain(small).chain(loads).collect()
 }
 
 /// So many tasks with four links a task, of the random shape on 16 processors.
