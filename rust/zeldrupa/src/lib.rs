@@ -1,9 +1,9 @@
 //! The proved planner for boards of small processors, from Rust.
 //!
 //! A [`WorkArea`] has every call: it reads and writes a [`Sheet`] of tasks and a [`Bundle`] of
-//! programmes, makes a sheet from a seed ([`Load`]), plans, checks, lists, and starts a [`Machine`]. Each answer is the static library's
-//! own; a [`Refusal`] has document 01's number, place and word, and [`Refusal::explain`] tells it in
-//! the user's terms.
+//! programmes, makes a sheet from a seed ([`Load`]), plans, checks, lists, and starts a [`Machine`].
+//! Each answer is the static library's own; a [`Refusal`] has document 01's number, place and word,
+//! and [`Refusal::explain`] tells it in the user's terms.
 //!
 //! ```
 //! use zeldrupa::{Link, Refusal, Task, WorkArea};
