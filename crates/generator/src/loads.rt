@@ -2,7 +2,7 @@
 ghost use mathlib.Core.Path.{_≡_};
 ghost use Prim.Native.Nat.{_+_, _%_, _≤_, _<_};
 ghost use lib.ListN.{length, getD};
-ghost use Rattle.workspace.specs.Area.{fixed};
+ghost use Rattle.workspace.specs.Area.{fixed, linkCountAt, taskCountAt};
 ghost use Rattle.sheet.specs.Tables.{Filling, LoadedOf, taskWords};
 ghost use Rattle.generator.specs.Draw.{after, drawn};
 ghost use Rattle.generator.specs.Load.{taskBehind, tryBehind, sheetFrom, outside};
@@ -65,7 +65,7 @@ fn put_tasks(seed: u32, tasks: usize, processors: u8, limit: u32, w: &mut [u32])
 // Adds a link, if it leads to a later task and its pair is not there yet.
 fn try_link(w: &mut [u32], source: u32, target: u32, cost: u16, bytes: u16)
     requires { ⌜ Filling (now w) ⌝ }
-    requires { ⌜ (source < getD (now w) 0 0) × (target < getD (now w) 0 0) × (getD (now w) 1 0 < 1024) ⌝ }
+    requires { ⌜ (source < getD (now w) taskCountAt 0) × (target < getD (now w) taskCountAt 0) × (getD (now w) linkCountAt 0 < 1024) ⌝ }
     ensures { λ _. ⌜ TriedIn (record { source = source; target = target; cost = cost; bytes = bytes }) (now (w .entry)) (now (w .exit)) ⌝ }
 {
     if target <= source {
@@ -84,7 +84,7 @@ fn try_link(w: &mut [u32], source: u32, target: u32, cost: u16, bytes: u16)
 // Tries the link of the four draws behind d; the states behind them, whether it was added or not.
 fn add_try(d: Draws, tasks: u32, w: &mut [u32]) -> Draws
     requires { ⌜ Filling (now w) ⌝ }
-    requires { ⌜ (tasks ≡ getD (now w) 0 0) × (0 < tasks) × (getD (now w) 1 0 < 1024) ⌝ }
+    requires { ⌜ (tasks ≡ getD (now w) taskCountAt 0) × (0 < tasks) × (getD (now w) linkCountAt 0 < 1024) ⌝ }
     ensures { λ r. ⌜ (r ≡ after 4 d) × TriedIn (tryBehind tasks d) (now (w .entry)) (now (w .exit)) ⌝ }
 {
     let first = draws::next(d);
