@@ -75,6 +75,12 @@ uint8_t zeldrupa_write_sheet(uint8_t processors, uint32_t limit, const uint16_t 
                              const uint16_t *links, size_t links_length, uint32_t *work, size_t work_length,
                              uint8_t *out, size_t out_length, uint64_t *place);
 
+/* Writes the sheet that a seed gives, with so many tasks and tries for links: the same numbers give the same
+ * bytes. ZELDRUPA_RANGE, with place 0, for seed 0, tasks outside 1 to 256, tries above 1,024 or processors
+ * outside 1 to 16. *place is the number of bytes. */
+uint8_t zeldrupa_generate(uint32_t seed, uint32_t tasks, uint32_t tries, uint32_t processors, uint32_t limit,
+                          uint32_t *work, size_t work_length, uint8_t *out, size_t out_length, uint64_t *place);
+
 /* Writes the b-level of each task. *place is the number of tasks. */
 uint8_t zeldrupa_levels(const uint8_t *sheet, size_t sheet_length, uint32_t *work, size_t work_length,
                         uint32_t *out, size_t out_length, uint64_t *place);

@@ -1,5 +1,5 @@
 /* The library from C: each of its functions on the trial sheet K1 and on a bare board, the plan of a free link, formulas,
- * and refusals with number and place. */
+ * test loads, and refusals with number and place. */
 
 #include <stdio.h>
 #include <string.h>
@@ -242,6 +242,32 @@ static void weights(void)
     ANSWERS(zeldrupa_weight((const uint8_t *)"1)", 2, letters, 25, &place), ZELDRUPA_FORMULA, 1);
 }
 
+/* Test loads: a stored one made again, one of the largest, and what is out of range. */
+static void loads(const char *folder)
+{
+    static uint8_t stored[64], out[ZELDRUPA_LONGEST_SHEET];
+    static uint16_t tasks[512], links[4096];
+    uint32_t board[4];
+    size_t length = read_file(folder, "load-small.sheet", stored, sizeof stored);
+    memset(out, 0xAA, sizeof out);
+    ANSWERS(zeldrupa_generate(3, 3, 6, 2, 100, WORK, LENT(out), &place), 0, 36);
+    EXPECT(length == 36 && memcmp(out, stored, 36) == 0 && out[36] == 0xAA);
+    memset(out, 0xAA, sizeof out);
+    ANSWERS(zeldrupa_generate(3, 3, 6, 2, 100, WORK, out, 35, &place), ZELDRUPA_SHORT_OUTPUT, 36);
+    ANSWERS(zeldrupa_generate(0, 3, 6, 2, 100, WORK, out, 0, &place), ZELDRUPA_RANGE, 0);
+    ANSWERS(zeldrupa_generate(3, 0, 6, 2, 100, WORK, LENT(out), &place), ZELDRUPA_RANGE, 0);
+    ANSWERS(zeldrupa_generate(3, 257, 6, 2, 100, WORK, LENT(out), &place), ZELDRUPA_RANGE, 0);
+    ANSWERS(zeldrupa_generate(3, 3, 1025, 2, 100, WORK, LENT(out), &place), ZELDRUPA_RANGE, 0);
+    ANSWERS(zeldrupa_generate(3, 3, 6, 0, 100, WORK, LENT(out), &place), ZELDRUPA_RANGE, 0);
+    ANSWERS(zeldrupa_generate(3, 3, 6, 258, 100, WORK, LENT(out), &place), ZELDRUPA_RANGE, 0);
+    ANSWERS(zeldrupa_generate(0, 3, 6, 2, 100, work, ZELDRUPA_WORK_LENGTH - 1, LENT(out), &place),
+            ZELDRUPA_SHORT_WORK_AREA, ZELDRUPA_WORK_LENGTH);
+    EXPECT(out[0] == 0xAA && out[35] == 0xAA);
+    ANSWERS(zeldrupa_generate(1, 256, 1024, 16, UINT32_MAX, WORK, LENT(out), &place), 0, 4934);
+    ANSWERS(zeldrupa_read_sheet(out, 4934, WORK, LENT(tasks), LENT(links), board, &place), 0, 0);
+    EXPECT(board[0] == 16 && board[1] == UINT32_MAX && board[2] == 256 && 7 * board[3] == 4934 - 1287);
+}
+
 int main(int count, char **arguments)
 {
     const char *folder = count > 1 ? arguments[1] : "examples";
@@ -258,6 +284,7 @@ int main(int count, char **arguments)
         bare_board();
         free_link(folder);
         weights();
+        loads(folder);
     }
     printf("C: %d failures\n", failures);
     return failures != 0;

@@ -44,6 +44,7 @@ static void write_sheet(void)
     zeldrupa_write_sheet(16, UINT32_MAX, LENT(tasks), LENT(links), WORK, LENT(sheet), &sheet_length);
 }
 
+static void generate(void) { zeldrupa_generate(1, TASKS, LINKS, 16, UINT32_MAX, WORK, LENT(listing), &place); }
 static void read_sheet(void) { zeldrupa_read_sheet(SHEET, WORK, LENT(tasks), LENT(links), board, &place); }
 static void find_levels(void) { zeldrupa_levels(SHEET, WORK, LENT(levels), &place); }
 static void plan(void) { zeldrupa_plan(SHEET, WORK, LENT(bundle), &bundle_length); }
@@ -124,6 +125,7 @@ int main(void)
     judge("start", start);
     judge("step", step);
     judge("run", run);
+    judge("generate", generate);
 
     judge_text(0, "(", 0, ZELDRUPA_FORMULA, 32);
     judge_text(0, ")", 0, ZELDRUPA_FORMULA, 0);

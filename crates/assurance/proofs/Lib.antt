@@ -12,3 +12,4 @@ pub mod Whole
 pub mod Trips
 pub mod Choices
 pub mod Weighings
+pub mod Generated

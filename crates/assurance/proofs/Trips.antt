@@ -49,7 +49,7 @@ numbered-tabled t l s =
 
 -- what a call of zeldrupa_read_sheet leaves, by the sheet that was read
 module _ (sheet : List ℕ) {work work′ t t′ l l′ b b′ : List ℕ} {p r : ℕ} (g : GivesSheet (readSheetAnswer sheet (length work) (length t) (length l)) work work′ t t′ l l′ b b′ p r) where
-  sheet-left : (s : Sheet) → readSheetAnswer sheet (length work) (length t) (length l) ≡ value s
+  pub sheet-left : (s : Sheet) → readSheetAnswer sheet (length work) (length t) (length l) ≡ value s
       → (r ≡ 0) × (take (2 * taskCount s) t′ ≡ taskValues (s .tasks)) × (take (4 * linkCount s) l′ ≡ linkValues (s .links)) × (b′ ≡ boardOf s)
   unfolding taskCount linkCount
   sheet-left s e = (
@@ -116,7 +116,7 @@ module _ (sheet bundle : List ℕ) {work work′ c c′ : List ℕ} {t t′ p r 
       let y = andThen-value (fitting (length c) (bundleValues (x .0))) (λ w. value (x .0)) (v .0) (x .2) in
       (q .0, v .0, v .1, q .1, x .1 ∙ y .2)
 
-read-sheet-is : (sheet : List ℕ) (s : Sheet) (work t l : ℕ) → fixed ≤ work → 2 * taskCount s ≤ t → 4 * linkCount s ≤ l → readSheet sheet ≡ value s → readSheetAnswer sheet work t l ≡ value s
+pub read-sheet-is : (sheet : List ℕ) (s : Sheet) (work t l : ℕ) → fixed ≤ work → 2 * taskCount s ≤ t → 4 * linkCount s ≤ l → readSheet sheet ≡ value s → readSheetAnswer sheet work t l ≡ value s
 unfolding readSheetAnswer
 read-sheet-is sheet s work t l h i j e = enough (andThen (readSheet sheet) (tabled t l)) work h ∙ ap (λ (a : Answer Sheet). andThen a (tabled t l)) e ∙ tabled-value t l s i j
 

@@ -4,3 +4,4 @@ pub mod Demand
 pub mod RoundTrips
 pub mod Choosing
 pub mod Formulas
+pub mod Loads

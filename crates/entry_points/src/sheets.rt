@@ -7,12 +7,15 @@ ghost use Rattle.numbers.specs.Number.{stored};
 ghost use Rattle.workspace.specs.Area.{fixed};
 ghost use Rattle.sheet.specs.Sheet.{taskCount};
 ghost use Rattle.sheet.specs.Tables.{sheetIn, Loaded};
-ghost use Rattle.sheet.specs.Writing.{valueBytes};
+ghost use Rattle.sheet.specs.Writing.{valueBytes, sheetBytes};
+ghost use Rattle.generator.specs.Load.{generated};
 ghost use Rattle.graph.specs.Graph.{readSheet};
 ghost use Rattle.levelling.specs.Found.{Levelled};
 ghost use Rattle.entry_points.specs.Values.{levelsOf, tabled, boardOf};
 ghost use Rattle.entry_points.specs.Parts.{PartIs, SheetIs};
 use crate::ending::Outcome;
+use generator::bytes;
+use generator::loads;
 use levelling::open;
 use sheet::tables;
 use sheet_reader::Reading;
@@ -80,6 +83,31 @@ pub fn write(
             Outcome::Done(need)
         }
     }
+}
+
+// The bytes of the sheet that a seed gives.
+pub fn generate(
+    seed: u32,
+    tasks: u32,
+    tries: u32,
+    processors: u32,
+    limit: u32,
+    work: &mut [u32],
+    out: &mut [u8],
+) -> Outcome
+    requires { ⌜ fixed ≤ length (now work) ⌝ }
+    ensures { λ o. ⌜ PartIs (andThen (generated seed tasks tries processors limit) (λ s. fitting (length (now (out .entry))) (sheetBytes s))) (now (work .entry)) (now (work .exit)) (now (out .entry)) (now (out .exit)) o ⌝ }
+{
+    if loads::are_outside(seed, tasks, tries, processors) {
+        return Outcome::Refused(6, 0);
+    }
+    loads::fill(seed, tasks, tries, processors, limit, work);
+    let need = bytes::byte_count(work);
+    if out.len() < need {
+        return Outcome::Refused(12, need);
+    }
+    bytes::put_sheet(work, out);
+    Outcome::Done(need)
 }
 
 // Processors, limit, tasks and links.

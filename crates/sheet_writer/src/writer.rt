@@ -7,7 +7,7 @@ ghost use Rattle.numbers.specs.Number.{numberBytes, stored};
 ghost use Rattle.folds.specs.Folds.{listed};
 ghost use Rattle.sheet.specs.Writing.{boardBytes, taskBytes, linkBytes, taskValue, linkValue, valueBytes, Narrow};
 
-fn put_task(out: &mut [u8], at: usize, work: u16, store: u16)
+pub fn put_task(out: &mut [u8], at: usize, work: u16, store: u16)
     requires { ⌜ at + 5 ≤ length (now out) ⌝ }
     ensures { λ _. ⌜ now (out .exit) ≡ stored (now (out .entry)) at (0x54 ∷ (numberBytes 2 work ++ numberBytes 2 store)) ⌝ }
 {
@@ -29,7 +29,7 @@ fn put_tasks(out: &mut [u8], tasks: &[u16])
     }
 }
 
-fn put_link(out: &mut [u8], at: usize, source: u16, target: u16, cost: u16, bytes: u16)
+pub fn put_link(out: &mut [u8], at: usize, source: u16, target: u16, cost: u16, bytes: u16)
     requires { ⌜ (at + 7 ≤ length (now out)) × (source < 256) × (target < 256) ⌝ }
     ensures { λ _. ⌜ now (out .exit) ≡ stored (now (out .entry)) at (0x45 ∷ source ∷ target ∷ (numberBytes 2 cost ++ numberBytes 2 bytes)) ⌝ }
 {
@@ -61,7 +61,7 @@ fn put_links(out: &mut [u8], links: &[u16])
     }
 }
 
-fn put_board(out: &mut [u8], processors: u8, limit: u32)
+pub fn put_board(out: &mut [u8], processors: u8, limit: u32)
     requires { ⌜ 6 ≤ length (now out) ⌝ }
     ensures { λ _. ⌜ now (out .exit) ≡ stored (now (out .entry)) 0 (boardBytes processors limit) ⌝ }
 {

@@ -11,6 +11,7 @@ use Rattle.folds.specs.Answers.{Answer, value, andThen, longEnough, fitting, nu
 use Rattle.workspace.specs.Area.{fixed}
 use Rattle.sheet.specs.Sheet.{Sheet}
 use Rattle.sheet.specs.Writing as sheets
+use Rattle.generator.specs.Load.{generated}
 use Rattle.graph.specs.Graph.{readSheet}
 use Rattle.bundle.specs.Bundle.{Bundle}
 use Rattle.bundle.specs.Format.{readBundle}
@@ -43,6 +44,15 @@ unfoldable pub writeSheetAnswer : ℕ → ℕ → List ℕ → List ℕ → ℕ 
 writeSheetAnswer processors limit tasks links work out =
     let bytes = sheets.valueBytes processors limit tasks links in
     longEnough fixed work (andThen (readSheet bytes) (λ s. fitting out bytes))
+
+-- zeldrupa_generate: the bytes of the sheet that a seed gives
+unfoldable pub generateAnswer : ℕ → ℕ → ℕ → ℕ → ℕ → ℕ → ℕ → Answer (List ℕ)
+generateAnswer seed tasks tries processors limit work out =
+    longEnough fixed work (andThen (generated seed tasks tries processors limit) (λ s. fitting out (sheets.sheetBytes s)))
+
+abbrev pub GivesGenerated : ℕ → ℕ → ℕ → ℕ → ℕ → List ℕ → List ℕ → List ℕ → List ℕ → ℕ → ℕ → Type 0
+GivesGenerated seed tasks tries processors limit work work′ out =
+    Gives (generateAnswer seed tasks tries processors limit (length work) (length out)) work work′ out
 
 -- zeldrupa_read_sheet: two values a task, four a link, and the board
 unfoldable pub readSheetAnswer : List ℕ → ℕ → ℕ → ℕ → Answer Sheet

@@ -2,7 +2,7 @@
 // output but `kept` of zeldrupa_better, and the work area is all zero afterwards, except under 13, where it is untouched. What each of them gives is in
 // specs/Promises.antt, and of the stepping machine in specs/Stepping.antt.
 ghost use lib.ListN.{length};
-ghost use Rattle.zeldrupa.specs.Promises.{Gives, GivesSheet, GivesBundle, GivesCheck, GivesBetter, GivesPlan, GivesListing, GivesWeight, levelsAnswer, writeSheetAnswer, readSheetAnswer, readBundleAnswer, writeBundleAnswer};
+ghost use Rattle.zeldrupa.specs.Promises.{Gives, GivesSheet, GivesBundle, GivesCheck, GivesBetter, GivesPlan, GivesListing, GivesWeight, GivesGenerated, levelsAnswer, writeSheetAnswer, readSheetAnswer, readBundleAnswer, writeBundleAnswer};
 ghost use Rattle.zeldrupa.specs.Stepping.{GivesStart, GivesRun, GivesStep, GivesLeft, GivesProcessor, GivesStamp};
 use entry_points::bundles;
 use entry_points::ending;
@@ -49,6 +49,29 @@ pub extern "C" fn zeldrupa_write_sheet(
         return 13;
     }
     let o = sheets::write(processors, limit, tasks, links, work, out);
+    workspace::clear(work);
+    ending::conclude(o, place)
+}
+
+// Writes the sheet that a seed gives, with so many tasks and tries for links.
+#[no_mangle]
+pub extern "C" fn zeldrupa_generate(
+    seed: u32,
+    tasks: u32,
+    tries: u32,
+    processors: u32,
+    limit: u32,
+    work: &mut [u32],
+    out: &mut [u8],
+    place: &mut u64,
+) -> u8
+    ensures { λ r. ⌜ GivesGenerated seed tasks tries processors limit (now (work .entry)) (now (work .exit)) (now (out .entry)) (now (out .exit)) (now (place .exit)) r ⌝ }
+{
+    if work.len() < workspace::LENGTH {
+        *place = workspace::LENGTH as u64;
+        return 13;
+    }
+    let o = sheets::generate(seed, tasks, tries, processors, limit, work, out);
     workspace::clear(work);
     ending::conclude(o, place)
 }

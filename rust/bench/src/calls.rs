@@ -4,6 +4,7 @@ use crate::cases::{self, Case, Input, MOST_BYTES};
 use crate::steps::{product_steps, rewrite_steps};
 use crate::timing::{alone, in_turns, Calls, Pair, Times};
 use reference::interface;
+use reference::load::Load;
 use reference::machine::Machine;
 use reference::sheet::{Sheet, MOST_LINKS, MOST_TASKS};
 use reference::Refusal;
@@ -18,13 +19,17 @@ pub const REFUSAL: &str = "check, 32";
 pub const ONE_STEP: &str = "one step";
 /// The call on formulas, which is the only one on them.
 pub const WEIGHT: &str = "weight";
+/// The calls on test loads, of which the first needs them.
+pub const GENERATE: &str = "generate";
+pub const PLAN: &str = "plan";
+pub const CHECK: &str = "check";
 
 /// The name of each call, and how it is measured.
-pub const CALLS: [(&str, Measure); 11] = [
+pub const CALLS: [(&str, Measure); 12] = [
     ("reading", reading),
     ("levels", levels),
-    ("plan", plan),
-    ("check", check),
+    (PLAN, plan),
+    (CHECK, check),
     (REFUSAL, refusal),
     ("better", better),
     (ONE_STEP, one_step),
@@ -32,6 +37,7 @@ pub const CALLS: [(&str, Measure); 11] = [
     ("start", start),
     ("run", run),
     (WEIGHT, weight),
+    (GENERATE, generate),
 ];
 
 /// Times a call of the product and one of the rewrite on each input.
@@ -151,6 +157,25 @@ fn weight(case: &Case) -> Pair {
         Calls {
             inputs: texts.len(),
             call: |i: usize| passes(interface::weight(&texts[i], &letters)),
+        },
+    )
+}
+
+fn generate(case: &Case) -> Pair {
+    let (mut work, mut out, mut own) = (area(), [0; MOST_BYTES], [0; MOST_BYTES]);
+    let loads = &case.loads;
+    in_turns(
+        Calls {
+            inputs: loads.len(),
+            call: |i: usize| {
+                let Load { seed, tasks, tries, processors, limit } = loads[i];
+                let (work, out) = (&mut work, &mut out);
+                succeeds(product::generate(seed, tasks, tries, processors, limit, work, out));
+            },
+        },
+        Calls {
+            inputs: loads.len(),
+            call: |i: usize| passes(interface::generate(loads[i], &mut own)),
         },
     )
 }

@@ -3,6 +3,7 @@
 use inputs::shapes::{self, LARGEST};
 use inputs::{sheets, Random};
 use reference::interface;
+use reference::load::Load;
 use reference::machine::Machine;
 use reference::sheet::Sheet;
 use reference::trials;
@@ -41,6 +42,8 @@ pub struct Case {
     pub name: String,
     pub inputs: Vec<Input>,
     pub formulas: Vec<Vec<u8>>,
+    /// What the sheets are made from, where they are test loads.
+    pub loads: Vec<Load>,
 }
 
 impl Case {
@@ -48,19 +51,29 @@ impl Case {
     fn made(name: impl Into<String>, make: impl Fn(&mut Random) -> sheets::Sheet) -> Case {
         let sheets = (1..).map(|seed| make(&mut Random::new(seed)).encode());
         let inputs = sheets.filter_map(Input::new).take(SHEETS).collect();
-        Case { name: name.into(), inputs, formulas: Vec::new() }
+        Case { name: name.into(), inputs, formulas: Vec::new(), loads: Vec::new() }
     }
 
     /// One sheet that has a plan.
     fn of(name: &str, sheet: Vec<u8>) -> Case {
         let inputs = vec![Input::new(sheet).expect("it has a plan")];
-        Case { name: name.into(), inputs, formulas: Vec::new() }
+        Case { name: name.into(), inputs, formulas: Vec::new(), loads: Vec::new() }
     }
 
     /// Formulas.
     fn weighed(name: &str, formulas: impl IntoIterator<Item = Vec<u8>>) -> Case {
         let formulas = formulas.into_iter().collect();
-        Case { name: name.into(), inputs: Vec::new(), formulas }
+        Case { name: name.into(), inputs: Vec::new(), formulas, loads: Vec::new() }
+    }
+
+    /// The test loads of the first seeds, which all have a plan.
+    fn loads(name: &str, tasks: u32, tries: u32, processors: u32) -> Case {
+        let seeds = 1..=SHEETS as u32;
+        let loads = seeds.map(|seed| Load { seed, tasks, tries, processors, limit: u32::MAX });
+        let loads: Vec<Load> = loads.collect();
+        let sheets = loads.iter().map(|load| load.to_bytes().expect("a load in range"));
+        let inputs = sheets.map(|sheet| Input::new(sheet).expect("it has a plan")).collect();
+        Case { name: name.into(), inputs, formulas: Vec::new(), loads }
     }
 
     /// Whether there is a command to be stepped, or to be wrong.
@@ -103,14 +116,18 @@ fn long_formulas() -> impl Iterator<Item = Vec<u8>> {
     })
 }
 
-/// Each shape of the largest sheet, the typical sheet, K1 and a bare board; and formulas.
+/// Each shape of the largest sheet, the typical sheet, K1, a bare board; formulas; and test loads of
+/// seeds 1 to 8 of the largest and the typical size.
 pub fn all() -> Vec<Case> {
     let largest = LARGEST.map(|shape| Case::made(shape.name(), |random| shape.sheet(random)));
     let typical = Case::made("typical", shapes::typical);
     let small = [Case::of("K1", trials::k1_sheet()), Case::of("bare", trials::bare_sheet())];
     let short = Case::weighed("formulas", FORMULAS.map(|text| text.as_bytes().to_vec()));
     let formulas = [short, Case::weighed("long formulas", long_formulas())];
-    largest.into_iter().chain([typical]).chain(small).chain(formulas).collect()
+    let loads =
+        [Case::loads("largest loads", 256, 1024, 16), Case::loads("typical loads", 40, 80, 8)];
+    let others = small.into_iter().chain(formulas).chain(loads);
+    largest.into_iter().chain([typical]).chain(others).collect()
 }
 
 /// So many tasks with four links a task, of the random shape on 16 processors.

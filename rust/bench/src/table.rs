@@ -1,6 +1,6 @@
 //! The tables that are measured: calls on cases, a line for each.
 
-use crate::calls::{self, Measure, CALLS, ONE_STEP, REFUSAL, WEIGHT};
+use crate::calls::{self, Measure, CALLS, CHECK, GENERATE, ONE_STEP, PLAN, REFUSAL, WEIGHT};
 use crate::cases::{self, Case};
 
 /// The numbers of tasks by which growth is shown.
@@ -28,7 +28,7 @@ impl Table {
 
     /// Plan and check by the number of tasks.
     pub fn of_growth() -> Table {
-        let calls = vec![("plan", calls::plan as Measure), ("check", calls::check)];
+        let calls = vec![(PLAN, calls::plan as Measure), (CHECK, calls::check)];
         Table { name: "growth", cases: SIZES.map(cases::of_size).into(), calls }
     }
 
@@ -42,11 +42,17 @@ impl Table {
     }
 
     /// Its lines, case by case, but for calls that need a command where there is none; formulas are
-    /// weighed, and nothing else is.
+    /// weighed, and nothing else is; test loads are made, planned and checked.
     pub fn lines(&self) -> impl Iterator<Item = Line<'_>> {
         let of = |case| self.calls.iter().map(move |&(call, measure)| Line { case, call, measure });
         let lines = self.cases.iter().flat_map(of);
-        let fitting = lines.filter(|line| line.case.formulas.is_empty() != (line.call == WEIGHT));
+        let fitting = lines.filter(|line| {
+            match (line.case.formulas.is_empty(), line.case.loads.is_empty()) {
+                (false, _) => line.call == WEIGHT,
+                (true, false) => [GENERATE, PLAN, CHECK].contains(&line.call),
+                (true, true) => ![WEIGHT, GENERATE].contains(&line.call),
+            }
+        });
         fitting.filter(|line| line.case.has_commands() || ![REFUSAL, ONE_STEP].contains(&line.call))
     }
 }

@@ -81,7 +81,7 @@ fn transcripts_are_tidy_and_whole() {
     }
     for name in [
         "plan", "check", "better", "list", "run", "gantt", "levels", "weight", "compare", "pack",
-        "show",
+        "show", "generate",
     ] {
         for what in [format!("$ zeldrupa {name} --help"), format!("$ zeldrupa {name}\n")] {
             assert!(all.contains(&what), "{what}");

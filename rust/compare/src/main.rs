@@ -7,6 +7,7 @@ mod comparison;
 mod families;
 mod formats;
 mod lent;
+mod loads;
 mod machine;
 mod planner;
 mod rules;
@@ -31,6 +32,8 @@ const FEWEST_PAIRS: usize = 200_000;
 const FEWEST_STUCK: usize = 3000;
 /// The fewest formulas that are weighed.
 const FEWEST_FORMULAS: usize = 1_000_000;
+/// The fewest test loads.
+const FEWEST_LOADS: usize = 50_000;
 /// The fewest calls of each function that are held against the literal rules.
 const FEWEST_OF_EACH: usize = 1_000_000;
 /// How often each family of small inputs is run, so that they share the threads evenly.
@@ -105,6 +108,7 @@ fn fast_shortfalls(tally: &Tally) -> Vec<String> {
         ("pairs", tally.calls_of(Function::Check), FEWEST_PAIRS),
         ("pairs that get stuck", tally.answers(Function::Check, STUCK), FEWEST_STUCK),
         ("formulas", tally.calls_of(Function::Weight), FEWEST_FORMULAS),
+        ("test loads", tally.calls_of(Function::Generate), FEWEST_LOADS),
     ];
     counts.into_iter().filter_map(shortfall).collect()
 }

@@ -1,6 +1,7 @@
 //! What the library is held against, the fast rewrite and the literal rules, in the same words.
 
 use crate::tally::Tally;
+use inputs::loads::Load;
 use inputs::{bundles, sheets};
 use literal::better::Decided;
 use literal::interface::Tables;
@@ -22,6 +23,7 @@ pub trait Rules {
 
     fn read_sheet(sheet: &[u8]) -> Answered<Tables>;
     fn write_sheet(values: &sheets::Sheet) -> Answered<Vec<u8>>;
+    fn generate(load: Load) -> Answered<Vec<u8>>;
     fn levels(sheet: &[u8]) -> Answered<Vec<u32>>;
     fn read_bundle(sheet: &[u8], bundle: &[u8]) -> Answered<(Vec<u16>, u32)>;
     fn write_bundle(sheet: &[u8], values: &bundles::Bundle) -> Answered<Vec<u8>>;
@@ -93,6 +95,12 @@ impl Rules for Fast {
         let sheets::Sheet { processors, limit, ref tasks, ref links } = *values;
         let sheet = Sheet::from_values(processors, limit, tasks, links);
         sheet.map(|sheet| sheet.to_bytes()).map_err(refusal)
+    }
+
+    fn generate(load: Load) -> Answered<Vec<u8>> {
+        let Load { seed, tasks, tries, processors, limit } = load;
+        let load = reference::load::Load { seed, tasks, tries, processors, limit };
+        load.to_bytes().map_err(refusal)
     }
 
     fn levels(sheet: &[u8]) -> Answered<Vec<u32>> {
@@ -218,6 +226,11 @@ impl Rules for Literal {
     fn write_sheet(values: &sheets::Sheet) -> Answered<Vec<u8>> {
         let sheets::Sheet { processors, limit, ref tasks, ref links } = *values;
         literal::interface::write_sheet(processors, limit, tasks, links)
+    }
+
+    fn generate(load: Load) -> Answered<Vec<u8>> {
+        let Load { seed, tasks, tries, processors, limit } = load;
+        literal::interface::generate(seed, tasks, tries, processors, limit)
     }
 
     fn levels(sheet: &[u8]) -> Answered<Vec<u32>> {

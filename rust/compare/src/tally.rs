@@ -6,6 +6,7 @@
 pub enum Function {
     ReadSheet,
     WriteSheet,
+    Generate,
     Levels,
     Plan,
     Listing,
@@ -23,9 +24,10 @@ pub enum Function {
 }
 
 /// Every function that is compared.
-pub const FUNCTIONS: [Function; 16] = [
+pub const FUNCTIONS: [Function; 17] = [
     Function::ReadSheet,
     Function::WriteSheet,
+    Function::Generate,
     Function::Levels,
     Function::Plan,
     Function::Listing,
@@ -51,6 +53,7 @@ impl Function {
         match self {
             Function::ReadSheet => "read_sheet",
             Function::WriteSheet => "write_sheet",
+            Function::Generate => "generate",
             Function::Levels => "levels",
             Function::Plan => "plan",
             Function::Listing => "listing",
@@ -74,6 +77,7 @@ impl Function {
         match self {
             Function::ReadSheet | Function::Levels => sheet || number == 12,
             Function::WriteSheet => matches!(number, 0 | 1 | 5..=8 | 10 | 12 | 13),
+            Function::Generate => matches!(number, 0 | 6 | 12 | 13),
             Function::Plan => sheet || matches!(number, 11 | 12),
             Function::Listing => matches!(number, 0 | 12 | 13),
             Function::ReadBundle | Function::WriteBundle => {

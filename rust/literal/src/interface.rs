@@ -8,10 +8,11 @@ use crate::checker;
 use crate::formulas;
 use crate::levels;
 use crate::listing::lines;
+use crate::load;
 use crate::machine::Machine;
 use crate::placing::{place, Placed, Rules};
 use crate::refusal::{output, Refusal};
-use crate::sheet::Sheet;
+use crate::sheet::{Link, Sheet, Task};
 
 /// The tables of a sheet, as docs/INTERFACE.md has them.
 #[derive(Clone, Debug, PartialEq, Eq)]
@@ -36,15 +37,10 @@ impl Tables {
 /// Reads a sheet.
 pub fn read_sheet(sheet: &[u8]) -> Result<Tables, Refusal> {
     let sheet = Sheet::read(sheet)?;
-    let tasks =
-        sheet.tasks.iter().flat_map(|task| [task.work, task.store].map(|value| value as u16));
-    let links = sheet
-        .links
-        .iter()
-        .flat_map(|link| [link.from as u16, link.to as u16, link.cost as u16, link.bytes as u16]);
+    let (tasks, links) = values(&sheet.tasks, &sheet.links);
     Ok(Tables {
-        tasks: tasks.collect(),
-        links: links.collect(),
+        tasks,
+        links,
         board: [
             sheet.processors as u32,
             sheet.limit as u32,
@@ -52,6 +48,14 @@ pub fn read_sheet(sheet: &[u8]) -> Result<Tables, Refusal> {
             sheet.links.len() as u32,
         ],
     })
+}
+
+/// "two values a task (work, store)", "four a link (source, target, cost, bytes)".
+fn values(tasks: &[Task], links: &[Link]) -> (Vec<u16>, Vec<u16>) {
+    let of_task = |task: &Task| [task.work, task.store].map(|value| value as u16);
+    let of_link =
+        |link: &Link| [link.from as u64, link.to as u64, link.cost, link.bytes].map(|v| v as u16);
+    (tasks.iter().flat_map(of_task).collect(), links.iter().flat_map(of_link).collect())
 }
 
 /// The bytes of a sheet's values.
@@ -62,6 +66,19 @@ pub fn write_sheet(
     links: &[u16],
 ) -> Result<Vec<u8>, Refusal> {
     Sheet::write(processors, limit, tasks, links)
+}
+
+/// The bytes of the sheet that a seed gives, which no rule of the reader refuses.
+pub fn generate(
+    seed: u32,
+    tasks: u32,
+    tries: u32,
+    processors: u32,
+    limit: u32,
+) -> Result<Vec<u8>, Refusal> {
+    let (tasks, links) = load::made(seed, tasks, tries, processors)?;
+    let (tasks, links) = values(&tasks, &links);
+    Ok(Sheet::write(processors as u8, limit, &tasks, &links).expect("read without refusal"))
 }
 
 /// The b-level of each task.

@@ -14,6 +14,7 @@ pub mod formulas;
 pub mod interface;
 pub mod levels;
 pub mod listing;
+pub mod load;
 pub mod machine;
 pub mod placing;
 pub mod refusal;

@@ -1,6 +1,7 @@
 //! The rules from bytes to lent buffers, as the product's C interface has them, without a work area.
 
 use crate::bundle::{self, Bundle};
+use crate::load::Load;
 use crate::refusal::{lend, Refusal};
 use crate::sheet::Sheet;
 use crate::{better, checker, formula, graph, listing, planner};
@@ -21,6 +22,11 @@ pub fn write_sheet(
     out: &mut [u8],
 ) -> Result<usize, Refusal> {
     lend(&Sheet::from_values(processors, limit, tasks, links)?.to_bytes(), out)
+}
+
+/// Writes the sheet that a seed gives and gives its length (6, 12).
+pub fn generate(load: Load, out: &mut [u8]) -> Result<usize, Refusal> {
+    lend(&load.to_bytes()?, out)
 }
 
 /// Writes the level of each task and gives their count (1 to 8, 10, 12).

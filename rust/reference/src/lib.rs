@@ -14,6 +14,7 @@ pub mod formula;
 pub mod graph;
 pub mod interface;
 pub mod listing;
+pub mod load;
 pub mod machine;
 pub mod messages;
 pub mod planner;

@@ -2,6 +2,7 @@
 //! prints.
 
 use crate::bundle::{write_claim, Command};
+use crate::load::Load;
 use crate::sheet::Sheet;
 use crate::{figures, listing, planner};
 use Command::{Open, Receive, Run, Send};
@@ -90,6 +91,18 @@ pub fn free_link_sheet() -> Vec<u8> {
     valid_sheet(2, 0, &[1, 0, 1, 0], &[0, 1, 0, 0])
 }
 
+/// A load whose six tries have each way to go: 2 to 2 twice, 2 to 1, 1 to 2, which is written, 1 to 2
+/// again, and 0 to 2.
+pub const SMALL_LOAD: Load = Load { seed: 3, tasks: 3, tries: 6, processors: 2, limit: 100 };
+
+/// A load of some tasks on four processors.
+pub const LOAD: Load = Load { seed: 21, tasks: 24, tries: 60, processors: 4, limit: 600 };
+
+/// The sheet of a load.
+fn load_sheet(load: Load) -> Vec<u8> {
+    load.to_bytes().expect("the load is in range")
+}
+
 /// K9 and K10 by name: K1's sheet a byte shorter and longer, with other processors, and no bytes.
 pub fn k9_and_k10() -> Vec<(String, Vec<u8>)> {
     let whole = k1_sheet();
@@ -165,6 +178,8 @@ pub fn files() -> Vec<(String, Vec<u8>)> {
         ("bare.bundle", BARE_BUNDLE.to_vec()),
         ("free-link.sheet", free_link_sheet()),
         ("free-link.bundle", planned(&free_link_sheet())),
+        ("load-small.sheet", load_sheet(SMALL_LOAD)),
+        ("load.sheet", load_sheet(LOAD)),
         ("figures/001-F6.1.bundle", figures::gauss_jordan_bundle()),
     ]
     .into_iter()

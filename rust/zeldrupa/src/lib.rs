@@ -1,9 +1,10 @@
 //! The proved planner for boards of small processors, from Rust.
 //!
 //! A [`WorkArea`] has every call: it reads and writes a [`Sheet`] of tasks and a [`Bundle`] of
-//! programmes, plans, checks, chooses, lists, and starts a [`Machine`]; [`weight`] alone needs none, and turns
-//! a formula into a task's work. Each answer is the static library's own; a [`Refusal`] has document
-//! 01's number, place and word, and [`Refusal::explain`] tells it in the user's terms.
+//! programmes, makes a sheet from a seed ([`Load`]), plans, checks, chooses, lists, and starts a
+//! [`Machine`]; [`weight`] alone needs none, and turns a formula into a task's work. Each answer is
+//! the static library's own; a [`Refusal`] has document 01's number, place and word, and
+//! [`Refusal::explain`] tells it in the user's terms.
 //!
 //! ```
 //! use zeldrupa::{Link, Refusal, Task, WorkArea};
@@ -35,6 +36,7 @@
 
 mod bundle;
 mod formula;
+mod load;
 mod machine;
 pub mod raw;
 mod refusal;
@@ -48,6 +50,7 @@ struct Readme;
 
 pub use bundle::{bundle_values, Bundle, Command};
 pub use formula::{letter_values, weight};
+pub use load::Load;
 pub use machine::{Machine, Processor, Wait};
 pub use refusal::{About, Explanation, Refusal, Subject};
 pub use sheet::{Link, Sheet, Task};

@@ -35,6 +35,13 @@ interface! {
         processors: u8, limit: u32, tasks: &[u16], links: &[u16], work: &mut [u32], out: &mut [u8]
     );
 
+    /// Writes the sheet that a seed gives, with so many tasks and tries for links; the place is its
+    /// length.
+    generate = zeldrupa_generate(
+        seed: u32, tasks: u32, tries: u32, processors: u32, limit: u32, work: &mut [u32],
+        out: &mut [u8]
+    );
+
     /// Writes the level of each task; the place is their count.
     levels = zeldrupa_levels(sheet: &[u8], work: &mut [u32], out: &mut [u32]);
 

@@ -4,6 +4,7 @@ mod explanation;
 mod form;
 mod formula;
 mod kinds;
+mod load;
 mod programmes;
 mod seen;
 

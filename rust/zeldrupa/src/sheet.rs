@@ -37,8 +37,9 @@ impl Link {
 }
 
 /// A sheet to which none of the refusals 1 to 8 and 10 applies, made by
-/// [`WorkArea::read_sheet`](crate::WorkArea::read_sheet) or
-/// [`WorkArea::write_sheet`](crate::WorkArea::write_sheet).
+/// [`WorkArea::read_sheet`](crate::WorkArea::read_sheet),
+/// [`WorkArea::write_sheet`](crate::WorkArea::write_sheet) or
+/// [`WorkArea::generate`](crate::WorkArea::generate).
 #[derive(Clone, Debug, PartialEq, Eq, Hash)]
 pub struct Sheet {
     pub(crate) bytes: Vec<u8>,

@@ -2,7 +2,7 @@
 //! listing.
 
 use crate::bundle::from_values;
-use crate::{bundle_values, raw, Bundle, Command, Link, Machine, Refusal, Sheet, Task};
+use crate::{bundle_values, raw, Bundle, Command, Link, Load, Machine, Refusal, Sheet, Task};
 
 /// The most tasks and links of a sheet.
 const MOST_TASKS: usize = 256;
@@ -75,6 +75,30 @@ impl WorkArea {
         })?;
         let (tasks, links) = (tasks.to_vec(), links.to_vec());
         Ok(Sheet { bytes: bytes.to_vec(), processors, limit, tasks, links })
+    }
+
+    /// Makes the sheet of a test load (6). The same load gives the same bytes.
+    ///
+    /// ```
+    /// # use zeldrupa::{Link, Load, Refusal, Task, WorkArea};
+    /// # fn main() -> Result<(), Refusal> {
+    /// let mut work = WorkArea::new();
+    /// let load = Load { seed: 3, tasks: 3, tries: 6, processors: 2, limit: 100 };
+    /// let sheet = work.generate(load)?;
+    /// assert_eq!(sheet.tasks()[0], Task { work: 45, store: 13 });
+    /// assert_eq!(sheet.links()[0], Link { source: 1, target: 2, cost: 32, bytes: 15 });
+    /// assert_eq!(sheet.links().len(), 2);
+    /// assert_eq!(sheet.bytes(), include_bytes!("../../../examples/load-small.sheet"));
+    /// # Ok(())
+    /// # }
+    /// ```
+    pub fn generate(&mut self, load: Load) -> Result<Sheet, Refusal> {
+        let (words, Load { seed, tasks, tries, processors, limit }) = (&mut self.words, load);
+        let bytes = filled(&mut self.bytes, |out| {
+            raw::generate(seed, tasks, tries, processors, limit, words, out)
+        })?;
+        let bytes = bytes.to_vec();
+        self.read_sheet(&bytes)
     }
 
     /// The b-level of each task, in number order (1 to 8, 10).

@@ -2,7 +2,7 @@
 
 use std::collections::BTreeMap;
 use std::fs;
-use zeldrupa::{raw, About, Refusal, Sheet, Subject, WorkArea};
+use zeldrupa::{raw, About, Load, Refusal, Sheet, Subject, WorkArea};
 
 /// The example files by name, the figures among them.
 fn files() -> BTreeMap<String, Vec<u8>> {
@@ -149,6 +149,35 @@ fn the_better_bundle_is_the_lent_one() {
     let (bare, none) = (&files["bare.sheet"], &files["bare.bundle"][..]);
     let opened = [&[0x50, 0, 0x50, 1], none].concat();
     assert!(std::ptr::eq(work.better(bare, none, &opened).unwrap(), &opened[..]));
+}
+
+/// C-21: the stored loads are made again, byte for byte, and refused loads have number and place.
+#[test]
+fn loads_are_made_again() {
+    let (mut work, files) = (WorkArea::new(), files());
+    let small = Load { seed: 3, tasks: 3, tries: 6, processors: 2, limit: 100 };
+    let load = Load { seed: 21, tasks: 24, tries: 60, processors: 4, limit: 600 };
+    for (name, load) in [("load-small.sheet", small), ("load.sheet", load)] {
+        let sheet = work.generate(load).unwrap();
+        assert_eq!(sheet.bytes(), files[name]);
+        assert_eq!(work.generate(load).as_ref(), Ok(&sheet));
+        assert_eq!(sheet.tasks().len(), load.tasks as usize);
+        assert!(sheet.links().len() <= load.tries as usize);
+        let other = work.generate(Load { seed: load.seed + 1, ..load }).unwrap();
+        assert_ne!(other, sheet);
+    }
+    for outside in [
+        Load { seed: 0, ..load },
+        Load { tasks: 0, ..load },
+        Load { tasks: 257, ..load },
+        Load { tries: 1025, ..load },
+        Load { processors: 0, ..load },
+        Load { processors: 17, ..load },
+        Load { processors: 257, ..load },
+    ] {
+        assert_eq!(number_and_place(work.generate(outside)), Some((6, 0)), "{outside:?}");
+        assert!(!work.generate(outside).unwrap_err().explain_load(outside).place.is_empty());
+    }
 }
 
 #[test]

@@ -4,6 +4,7 @@ mod better;
 mod check;
 mod compare;
 mod gantt;
+mod generate;
 mod levels;
 mod list;
 mod pack;
@@ -34,7 +35,7 @@ pub struct Command {
     pub answer: fn(&mut Loader, &Arguments) -> Result<Answer, Fault>,
 }
 
-pub static COMMANDS: [Command; 11] = [
+pub static COMMANDS: [Command; 12] = [
     plan::COMMAND,
     check::COMMAND,
     better::COMMAND,
@@ -46,7 +47,11 @@ pub static COMMANDS: [Command; 11] = [
     compare::COMMAND,
     pack::COMMAND,
     show::COMMAND,
+    generate::COMMAND,
 ];
+
+/// The least width of the column of options in a help.
+const NARROWEST: usize = 9;
 
 /// What holds for every command.
 const COMMON: &str = "\
@@ -76,17 +81,20 @@ impl Command {
         if !self.options.is_empty() {
             text.push('\n');
         }
+        let longest = self.options.iter().map(|(option, _)| option.len()).max();
+        let width = longest.unwrap_or(0).max(NARROWEST);
         for (option, meaning) in self.options {
-            text += &format!("  {option:<9} {meaning}\n");
+            text += &format!("  {option:<width$} {meaning}\n");
         }
         text + "\n" + COMMON
     }
 
     /// What its arguments are.
     pub fn takes(&self) -> &'static str {
-        match self.usage.starts_with("FORMULA") {
-            true => "formula",
-            false => "file",
+        match self.usage.split_whitespace().next() {
+            Some("FORMULA") => "formula",
+            Some("SEED") => "seed",
+            _ => "file",
         }
     }
 

@@ -5,6 +5,7 @@ mod bare;
 mod choices;
 mod formats;
 mod formulas;
+mod loads;
 mod machine;
 mod plans;
 mod small;
@@ -76,6 +77,12 @@ pub const FAST: &[Family<Fast>] = &[
     ("nested formulas", formulas::nested),
     ("formulas of edges", formulas::edges),
     ("long texts", formulas::long_texts),
+    ("loads of the first seeds", loads::first_seeds),
+    ("small loads", loads::small),
+    ("loads of edges", loads::edges),
+    ("loads out of range", loads::outside),
+    ("any loads", loads::any),
+    ("planned loads", loads::planned),
 ];
 
 /// The families of small inputs, each of which is for several runs.
@@ -98,6 +105,10 @@ pub const LITERAL: &[Family<Literal>] = &[
     ("small formulas", formulas::small),
     ("nested formulas", formulas::few_nested),
     ("formulas of edges", formulas::edges),
+    ("loads of the first seeds", loads::first_seeds),
+    ("small loads", loads::small),
+    ("loads of edges", loads::edges),
+    ("loads out of range", loads::outside),
 ];
 
 /// What came of a family.

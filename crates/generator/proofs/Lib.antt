@@ -1,0 +1,6 @@
+-- The laws of `generator`.
+pub mod Steps
+pub mod Fills
+pub mod Stores
+pub mod Ranges
+pub mod Readable
