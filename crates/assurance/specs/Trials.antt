@@ -40,7 +40,7 @@ link a b c d = record { source = a; target = b; cost = c; bytes = d }
 -- K1's graph on p processors of store limit m, with work w for task 2
 abbrev pub sheetK : ℕ → ℕ → ℕ → Sheet
 sheetK p m w =
-    record { processors = p; limit = m; tasks = task 1 10 ∷ task 3 10 ∷ task w 10 ∷ task 2 10 ∷ []; links = link 3 2 1 4 ∷ link 3 1 2 4 ∷ link 0 1 1 4 ∷ [] }
+    record { processors = p; limit = m; unpacking = 0; tasks = task 1 10 ∷ task 3 10 ∷ task w 10 ∷ task 2 10 ∷ []; links = link 3 2 1 4 ∷ link 3 1 2 4 ∷ link 0 1 1 4 ∷ [] }
 
 abbrev pub k1 : Sheet
 k1 = sheetK 3 100 2
@@ -90,28 +90,28 @@ abbrev unguarded : Sheet → Schedule → ℕ → ℕ → Bool
 unguarded s σ t k = false
 
 abbrev pub k5 : Sheet
-k5 = record { processors = 2; limit = 6; tasks = task 1 3 ∷ task 1 3 ∷ task 1 2 ∷ task 1 2 ∷ task 1 2 ∷ []; links = [] }
+k5 = record { processors = 2; limit = 6; unpacking = 0; tasks = task 1 3 ∷ task 1 3 ∷ task 1 2 ∷ task 1 2 ∷ task 1 2 ∷ []; links = [] }
 
 abbrev pub bundleK5 : Bundle
 bundleK5 = record { programmes = (run 0 ∷ run 1 ∷ []) ∷ (run 2 ∷ run 3 ∷ run 4 ∷ []) ∷ []; claim = 3 }
 
 abbrev pub k6 : Sheet
-k6 = record { processors = 2; limit = 0; tasks = task 1 0 ∷ task 1 0 ∷ task 1 0 ∷ task 1 0 ∷ []; links = link 0 1 0 0 ∷ link 2 3 0 0 ∷ [] }
+k6 = record { processors = 2; limit = 0; unpacking = 0; tasks = task 1 0 ∷ task 1 0 ∷ task 1 0 ∷ task 1 0 ∷ []; links = link 0 1 0 0 ∷ link 2 3 0 0 ∷ [] }
 
 abbrev pub bundleK6 : Bundle
 bundleK6 =
     record { programmes = (receive 1 ∷ run 3 ∷ run 0 ∷ send 0 ∷ []) ∷ (receive 0 ∷ run 1 ∷ run 2 ∷ send 1 ∷ []) ∷ []; claim = 3 }
 
 abbrev pub k8 : List Link → Sheet
-k8 ls = record { processors = 2; limit = 0; tasks = task 1 0 ∷ task 1 0 ∷ task 1 0 ∷ []; links = ls }
+k8 ls = record { processors = 2; limit = 0; unpacking = 0; tasks = task 1 0 ∷ task 1 0 ∷ task 1 0 ∷ []; links = ls }
 
 -- the smallest sheet that C-17 changes: "two tasks joined by a link of cost 0"
 abbrev pub freeLink : Sheet
-freeLink = record { processors = 2; limit = 0; tasks = task 1 0 ∷ task 1 0 ∷ []; links = link 0 1 0 0 ∷ [] }
+freeLink = record { processors = 2; limit = 0; unpacking = 0; tasks = task 1 0 ∷ task 1 0 ∷ []; links = link 0 1 0 0 ∷ [] }
 
 -- a board with no jobs yet, its plan, and "PLAN 0 0"
 abbrev pub bare : Sheet
-bare = record { processors = 2; limit = 0; tasks = []; links = [] }
+bare = record { processors = 2; limit = 0; unpacking = 0; tasks = []; links = [] }
 
 abbrev pub bundleBare : ℕ → List ℕ
 bundleBare c = 0x5A ∷ c ∷ 0x00 ∷ 0x00 ∷ 0x00 ∷ []
@@ -124,7 +124,7 @@ abbrev pub aloneK : List ℕ
 aloneK = 0x50 ∷ 0 ∷ 0x52 ∷ 3 ∷ 0x52 ∷ 0 ∷ 0x52 ∷ 1 ∷ 0x52 ∷ 2 ∷ 0x5A ∷ 8 ∷ 0 ∷ 0 ∷ 0 ∷ []
 
 abbrev pub two : Sheet
-two = record { processors = 3; limit = 0; tasks = task 1 0 ∷ task 1 0 ∷ []; links = link 0 1 0 0 ∷ [] }
+two = record { processors = 3; limit = 0; unpacking = 0; tasks = task 1 0 ∷ task 1 0 ∷ []; links = link 0 1 0 0 ∷ [] }
 
 abbrev pub together : List ℕ
 together = 0x50 ∷ 0 ∷ 0x52 ∷ 0 ∷ 0x52 ∷ 1 ∷ 0x5A ∷ 2 ∷ 0 ∷ 0 ∷ 0 ∷ []

@@ -28,8 +28,8 @@ pub judge-known : (p : Progress) (b : List ℕ) (at v : ℕ) → at < length b �
 judge-known p b at v h e = judge-at sheetFormat p b at h ∙ ap (λ (x : ℕ). judgeKind sheetFormat p (kindOf x) (drop (at + 1) b)) e
 
 pub judge-strange : (p : Progress) (b : List ℕ) (at : ℕ) → at < length b
-    → getD b at 0 ≢ 0x4D → getD b at 0 ≢ 0x54 → getD b at 0 ≢ 0x45 → getD b at 0 ≢ 0x51 → judge sheetFormat p (drop at b) ≡ refuse 2
-judge-strange p b at h m t l e = judge-at sheetFormat p b at h ∙ simp (ne-eqb _ _ m, ne-eqb _ _ t, ne-eqb _ _ l, ne-eqb _ _ e)
+    → getD b at 0 ≢ 0x4D → getD b at 0 ≢ 0x55 → getD b at 0 ≢ 0x54 → getD b at 0 ≢ 0x45 → getD b at 0 ≢ 0x51 → judge sheetFormat p (drop at b) ≡ refuse 2
+judge-strange p b at h m u t l e = judge-at sheetFormat p b at h ∙ simp (ne-eqb _ _ m, ne-eqb _ _ u, ne-eqb _ _ t, ne-eqb _ _ l, ne-eqb _ _ e)
 
 -- 3 and 1, and then what the numbers say
 pub fault-task : (s : Sheet) (ops : List ℕ) → fault (begun s) task ops ≡ pick (not (eqb (linkCount s) 0)) (some 3) (pick (ltb (length ops) 4) (some 1) (taskFault (taskCount s) (numberAt 2 ops 0)))

@@ -13,6 +13,7 @@ use workspace::PROCESSORS;
 use workspace::SIZES;
 use workspace::TASK_COUNT;
 use workspace::TASKS;
+use workspace::UNPACKING;
 
 pub fn tasks(w: &[u32]) -> usize
     requires { ⌜ Loaded (now w) ⌝ }
@@ -40,6 +41,13 @@ pub fn limit(w: &[u32]) -> usize
     ensures { λ r. ⌜ (r ≡ sheetIn (now (w .entry)) .limit) × (r < 4294967296) ⌝ }
 {
     workspace::word(w, LIMIT)
+}
+
+pub fn unpacking(w: &[u32]) -> usize
+    requires { ⌜ Loaded (now w) ⌝ }
+    ensures { λ r. ⌜ (r ≡ sheetIn (now (w .entry)) .unpacking) × (r ≤ 65535) ⌝ }
+{
+    workspace::word(w, UNPACKING)
 }
 
 pub fn work(w: &[u32], t: usize) -> usize
@@ -90,15 +98,16 @@ pub fn size(w: &[u32], l: usize) -> usize
     workspace::word(w, SIZES + l)
 }
 
-// A sheet without tasks.
+// A sheet without tasks, and without a time for unpacking.
 pub fn put_board(w: &mut [u32], processors: u8, limit: u32)
     requires { ⌜ (fixed ≤ length (now w)) × (processors ≤ 16) ⌝ }
-    ensures { λ _. ⌜ LoadedOf (record { processors = processors; limit = limit; tasks = []; links = [] }) (now (w .entry)) (now (w .exit)) ⌝ }
+    ensures { λ _. ⌜ LoadedOf (record { processors = processors; limit = limit; unpacking = 0; tasks = []; links = [] }) (now (w .entry)) (now (w .exit)) ⌝ }
 {
     w[TASK_COUNT] = 0;
     w[LINK_COUNT] = 0;
     w[PROCESSORS] = processors as u32;
     w[LIMIT] = limit;
+    w[UNPACKING] = 0;
 }
 
 // Task n, behind those before it.

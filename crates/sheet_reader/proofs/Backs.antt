@@ -92,7 +92,7 @@ link-back l X h =
     λ i. record { source = l .source; target = l .target; cost = a i; bytes = b i }
 
 abbrev made : ℕ → ℕ → List Task → List Link → Sheet
-made p l ts ls = record { processors = p; limit = l; tasks = ts; links = ls }
+made p l ts ls = record { processors = p; limit = l; unpacking = 0; tasks = ts; links = ls }
 
 -- the element behind a front
 behind : {X : Type 0} (pre : List X) (x : X) (post all : List X) (d : X) → pre ++ x ∷ post ≡ all → (length pre < length all) × (getD all (length pre) d ≡ x)

@@ -240,15 +240,15 @@ board-refused p l v u w h =
     outside (inl q) = rw (lt-leb 1 p q)
     outside (inr q) = rw (lt-leb p 16 q) (both-false (leb 1 p))
 
-pub board-read : (p l : ℕ) (v u w w′ : List ℕ) → 1 ≤ p → p ≤ 16 → l < 4294967296 → LoadedOf (record { processors = p; limit = l; tasks = []; links = [] }) w w′
+pub board-read : (p l : ℕ) (v u w w′ : List ℕ) → 1 ≤ p → p ≤ 16 → l < 4294967296 → LoadedOf (record { processors = p; limit = l; unpacking = 0; tasks = []; links = [] }) w w′
     → readForm (valueBytes p l v u) ≡ readOn w′ (taskValueBytes v u) 6
 unfolding readForm valueBytes readOn
 board-read p l v u w w′ h k small f =
     let X : List ℕ = taskValueBytes v u in
     let j : judge sheetFormat fresh (boardBytes p l ++ X) ≡ go board = opening p l X ∙ rw (le-leb 1 p h, le-leb p 16 k) in
     let limit : numberAt 4 (p ∷ (numberBytes 4 l ++ X)) 1 ≡ l = numberAt-cons 4 p (numberBytes 4 l ++ X) 0 ∙ number-of-bytes 4 l X small in
-    let here : begun (record { processors = p; limit = numberAt 4 (p ∷ (numberBytes 4 l ++ X)) 1; tasks = []; links = [] }) ≡ begun (sheetIn w′) =
-    ap (λ (y : ℕ). begun (record { processors = p; limit = y; tasks = []; links = [] })) limit ∙ sym (ap begun (f .sheet)) in
+    let here : begun (record { processors = p; limit = numberAt 4 (p ∷ (numberBytes 4 l ++ X)) 1; unpacking = 0; tasks = []; links = [] }) ≡ begun (sheetIn w′) =
+    ap (λ (y : ℕ). begun (record { processors = p; limit = y; unpacking = 0; tasks = []; links = [] })) limit ∙ sym (ap begun (f .sheet)) in
     going-is sheetFormat
     (subst (λ (q : Progress). Going sheetFormat (readAll sheetFormat fresh (boardBytes p l ++ X)) q 6 X) here
     (goes sheetFormat (starts sheetFormat fresh (boardBytes p l ++ X)) board refl j))

@@ -79,11 +79,11 @@ module _ (f : Outcome Kind → Bool) (p : Progress) (b : List ℕ) (at : ℕ) {c
   pub its-byte : (v : ℕ) {r n : Next} → at < length b → c ≡ v → outcomeOf r ≡ judgeKind sheetFormat p (kindOf v) (drop (at + 1) b) → r ≡ n → f (outcomeOf n) ≡ f (judge sheetFormat p (drop at b))
   its-byte v h q found is = ap f (sym (ap outcomeOf is) ∙ found ∙ sym (judge-known p b at v h (sym e ∙ q)))
 
-no-tasks : (p l : ℕ) → taskCount (record { processors = p; limit = l; tasks = []; links = [] }) ≡ 0
+no-tasks : (p l : ℕ) → taskCount (record { processors = p; limit = l; unpacking = 0; tasks = []; links = [] }) ≡ 0
 unfolding taskCount
 no-tasks p l = refl
 
-no-links : (p l : ℕ) → linkCount (record { processors = p; limit = l; tasks = []; links = [] }) ≡ 0
+no-links : (p l : ℕ) → linkCount (record { processors = p; limit = l; unpacking = 0; tasks = []; links = [] }) ≡ 0
 unfolding linkCount
 no-links p l = refl
 
@@ -132,7 +132,7 @@ module _ {a : Answer Sheet} {d w₀ w : List ℕ} {n m e : ℕ} (s : Scanning a 
       (task-count w n work store long few)
       (task-away w n work store long few 1 (λ q. omega arith) (λ q. omega arith) ∙ s .links)
       (sheet-task w n work store long few (s .tasks) h₁
-      ∙ ap (λ (t : Task). record { processors = sheetIn w .processors; limit = sheetIn w .limit; tasks = sheetIn w .tasks ++ t ∷ []; links = sheetIn w .links }) (sym from))
+      ∙ ap (λ (t : Task). record { processors = sheetIn w .processors; limit = sheetIn w .limit; unpacking = sheetIn w .unpacking; tasks = sheetIn w .tasks ++ t ∷ []; links = sheetIn w .links }) (sym from))
 
   -- the ends of a link
   module _ (x y : ℕ) (j : judge sheetFormat (begun (sheetIn w)) d ≡ go link) (p : x ≡ getD d 1 0) (q : y ≡ getD d 2 0) where
@@ -180,7 +180,7 @@ module _ {a : Answer Sheet} {d w₀ w : List ℕ} {n m e : ℕ} (s : Scanning a 
         ∙ pair-away w x y long (small .0) (small .1) 0 (omega arith) ∙ s .tasks)
         (link-count (pairWords w x y) m x y c b v-fixed few)
         (link-sheet w m x y c b f (s .links) few source-small target-small h₁ h₂
-        ∙ ap (λ (l : Link). record { processors = sheetIn w .processors; limit = sheetIn w .limit; tasks = sheetIn w .tasks; links = sheetIn w .links ++ l ∷ [] }) (sym from))
+        ∙ ap (λ (l : Link). record { processors = sheetIn w .processors; limit = sheetIn w .limit; unpacking = sheetIn w .unpacking; tasks = sheetIn w .tasks; links = sheetIn w .links ++ l ∷ [] }) (sym from))
 
   pub scan-refuse : (r : ℕ) → judge sheetFormat (begun (sheetIn w)) d ≡ refuse r → ReadIs a w₀ w (Refused r e)
   scan-refuse r j = read-refused a w₀ w r e (s .long) (refuses sheetFormat (s .going) r j)
@@ -320,10 +320,10 @@ module _ {a : Answer Sheet} {b w₀ w : List ℕ} {n m at : ℕ} (s : Linking a 
   link-from v e = record { walking = walk-from (s .walking) v e; filling = s .filling; no-task = s .no-task }
 
 -- behind the board command
-pub bare-counts : {p l : ℕ} {u w : List ℕ} → LoadedOf (record { processors = p; limit = l; tasks = []; links = [] }) u w → (getD w 0 0 ≡ 0) × (getD w 1 0 ≡ 0)
+pub bare-counts : {p l : ℕ} {u w : List ℕ} → LoadedOf (record { processors = p; limit = l; unpacking = 0; tasks = []; links = [] }) u w → (getD w 0 0 ≡ 0) × (getD w 1 0 ≡ 0)
 bare-counts {p} {l} {u} {w} f = (sym (tasks-in w) ∙ ap taskCount (f .sheet) ∙ no-tasks p l, sym (links-in w) ∙ ap linkCount (f .sheet) ∙ no-links p l)
 
-pub scan-board : {a : Answer Sheet} {d u : List ℕ} {e : ℕ} (v w : List ℕ) (p l : ℕ) → length w ≡ length v → LoadedOf (record { processors = p; limit = l; tasks = []; links = [] }) u w
+pub scan-board : {a : Answer Sheet} {d u : List ℕ} {e : ℕ} (v w : List ℕ) (p l : ℕ) → length w ≡ length v → LoadedOf (record { processors = p; limit = l; unpacking = 0; tasks = []; links = [] }) u w
     → Going sheetFormat a (begun (sheetIn w)) e d → Scanning a d v w 0 0 e
 scan-board v w p l long f g =
     record {
@@ -349,14 +349,14 @@ open-room b j =
     (omega (arith, simp length-drop at (k .room), comes sheetFormat _ _ board j .more), omega (arith, leb-true (getD (drop 1 b) 0 0) 16 (inside .1), getD-drop 1 b 0 0))
 
 pub walk-starts : (b w : List ℕ) (p l : ℕ) → judge sheetFormat fresh b ≡ go board → p ≡ getD b 1 0 → l ≡ numberAt 4 b 2 → (v : List ℕ)
-    → LoadedOf (record { processors = p; limit = l; tasks = []; links = [] }) v w → Walking (readForm b) b w w 0 0 6
+    → LoadedOf (record { processors = p; limit = l; unpacking = 0; tasks = []; links = [] }) v w → Walking (readForm b) b w w 0 0 6
 unfolding readForm
 walk-starts b w p l j e₁ e₂ v f =
     let room = open-room b j in
     let p′ : getD (drop 1 b) 0 0 ≡ p = getD-drop 1 b 0 0 ∙ sym e₁ in
     let l′ : numberAt 4 (drop 1 b) 1 ≡ l = numberAt-drop 4 1 b 1 ∙ sym e₂ in
-    let here : begun (record { processors = getD (drop 1 b) 0 0; limit = numberAt 4 (drop 1 b) 1; tasks = []; links = [] }) ≡ begun (sheetIn w) =
-    ap₂ (λ (x y : ℕ). begun (record { processors = x; limit = y; tasks = []; links = [] })) p′ l′ ∙ sym (ap begun (f .sheet)) in
+    let here : begun (record { processors = getD (drop 1 b) 0 0; limit = numberAt 4 (drop 1 b) 1; unpacking = 0; tasks = []; links = [] }) ≡ begun (sheetIn w) =
+    ap₂ (λ (x y : ℕ). begun (record { processors = x; limit = y; unpacking = 0; tasks = []; links = [] })) p′ l′ ∙ sym (ap begun (f .sheet)) in
     record {
       room = room .0;
       scanning = scan-board w w p l refl f (subst (λ (q : Progress). Going sheetFormat (readAll sheetFormat fresh b) q 6 (drop 6 b)) here (goes sheetFormat (starts sheetFormat fresh b) board refl j));
