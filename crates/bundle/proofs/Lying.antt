@@ -8,7 +8,7 @@ use native.Mathlib.Nat.{le-of-suc-le-suc}
 use lib.ListN.{length, getD, length-append, List·getD-append, set}
 use lib.Seq.{getD-set-same, getD-set-other}
 use Rattle.folds.proofs.Tests.{below-suc}
-use Rattle.bundle.specs.Bundle.{Command, run, send, receive}
+use Rattle.bundle.specs.Bundle.{Command, run, send, receive, release, discard}
 use Rattle.bundle.specs.Format.{within}
 use Rattle.bundle.specs.Lies.{sizeOf, Stands, Lies, over, more, Laid}
 use Rattle.bundle.proofs.Parts.{length-within}
@@ -17,6 +17,8 @@ pub size-some : (c : Command) → 2 ≤ sizeOf c
 size-some (run x) = omega arith
 size-some (send x) = omega arith
 size-some (receive x) = omega arith
+size-some (release x) = omega arith
+size-some (discard x) = omega arith
 
 module _ (t l : ℕ) (b : List ℕ) where
   -- the first of the commands from o to e, and those behind it
