@@ -11,6 +11,7 @@ use Rattle.sheet.specs.Sheet.{Sheet}
 use Rattle.bundle.specs.Bundle.{Bundle}
 use Rattle.bundle.specs.Format.{readBundle}
 use Rattle.bundle.specs.Writing.{bundleValues}
+use Rattle.bundle.specs.Sizes.{shortSize, longSize}
 use Rattle.bundle.specs.Counts.{Sized}
 use Rattle.bundle_writer.specs.Whole.{readValues}
 use Rattle.bundle.specs.Kinds.{isMessage}
@@ -48,4 +49,4 @@ unfoldable pub operandIn : List ℕ → ℕ → ℕ
 operandIn b at = pick (isMessage (getD b at 0)) (numberAt 2 b (at + 1)) (getD b (at + 1) 0)
 
 unfoldable pub sizeBy : ℕ → ℕ
-sizeBy c = pick (isMessage c) 3 2
+sizeBy c = pick (isMessage c) longSize shortSize

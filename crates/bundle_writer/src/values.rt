@@ -4,6 +4,9 @@ ghost use Prim.Native.Nat.{_+_, _≤_, _<_};
 ghost use lib.ListN.{length};
 ghost use Rattle.bundle_writer.specs.Writes.{Counted};
 ghost use Rattle.bundle_writer.specs.Copies.{Copyable, CopyIs, ValuesIs, operandIn, sizeBy};
+use bundle::CLAIM_SIZE;
+use bundle::LONG_SIZE;
+use bundle::SHORT_SIZE;
 use bundle::kinds::is_message;
 use bundle_reader::bytes::Reading;
 use bundle_reader::bytes::read;
@@ -31,9 +34,9 @@ fn size_of(command: u8) -> usize
     ensures { λ r. ⌜ r ≡ sizeBy command ⌝ }
 {
     if is_message(command as u16) {
-        return 3;
+        return LONG_SIZE;
     }
-    2
+    SHORT_SIZE
 }
 
 // Puts the values of the bundle in these bytes at the front of `out`, and leaves what stands behind them.
@@ -41,7 +44,7 @@ pub fn copy(bytes: &[u8], out: &mut [u16])
     requires { ⌜ Copyable (now bytes) (now out) ⌝ }
     ensures { λ _. ⌜ CopyIs (now (bytes .entry)) (now (out .entry)) (now (out .exit)) ⌝ }
 {
-    let end = bytes.len() - 5;
+    let end = bytes.len() - CLAIM_SIZE;
     let mut at = 0;
     let mut i = 0;
     while at < end {
