@@ -13,9 +13,9 @@ use Rattle.sheet.specs.Sheet.{Sheet}
 use Rattle.bundle.specs.Bundle.{Bundle}
 use Rattle.bundle.specs.Format.{kindOf, readBundle}
 use Rattle.bundle.specs.Writing.{bundleValues, operandBytes, valueBytes}
-use Rattle.bundle.specs.Kinds.{isMessage}
+use Rattle.bundle.specs.Kinds.{isMessage, sizeBy}
 use Rattle.bundle_writer.specs.Writes.{Small}
-use Rattle.bundle_writer.specs.Copies.{Copyable, CopyIs, operandIn, sizeBy}
+use Rattle.bundle_writer.specs.Copies.{Copyable, CopyIs, operandIn}
 use Rattle.bundle.proofs.Rounds.{read-fits, bytes-again, values-again, bytes-of-values}
 use Rattle.bundle_writer.proofs.Plain.{Pair, opens, runs, sends, receives, releases, discards, Plain, plain-bundle}
 
