@@ -5,7 +5,7 @@ ghost use Prim.Native.Nat.{_<_, _≤_};
 ghost use lib.ListN.{length};
 ghost use Rattle.workspace.specs.Area.{fixed};
 ghost use Rattle.sheet.specs.Sheet.{taskCount, linkCount, workOf, storeOf, sourceOf, targetOf, costOf, bytesOf};
-ghost use Rattle.sheet.specs.Tables.{sheetIn, Loaded, LoadedOf, taskWords, linkWords};
+ghost use Rattle.sheet.specs.Tables.{sheetIn, Loaded, LoadedOf, taskWords, linkWords, unpackingWords};
 use workspace::LIMIT;
 use workspace::LINK_COUNT;
 use workspace::LINKS;
@@ -108,6 +108,14 @@ pub fn put_board(w: &mut [u32], processors: u8, limit: u32)
     w[PROCESSORS] = processors as u32;
     w[LIMIT] = limit;
     w[UNPACKING] = 0;
+}
+
+// The time for unpacking.
+pub fn put_unpacking(w: &mut [u32], unpacking: u16)
+    requires { ⌜ fixed ≤ length (now w) ⌝ }
+    ensures { λ _. ⌜ now (w .exit) ≡ unpackingWords (now (w .entry)) unpacking ⌝ }
+{
+    w[UNPACKING] = unpacking as u32;
 }
 
 // Task n, behind those before it.
