@@ -5,6 +5,7 @@ ghost use lib.Dec.{eqb};
 ghost use Rattle.folds.specs.Folds.{pick};
 ghost use Rattle.sheet.specs.Sizes.{boardSize, unpackingSize, cubeSize, frontBy};
 
+pub mod hops; // hops.rt: how far processors of a cube are apart
 pub mod pairs; // pairs.rt: a bit for each pair of tasks that a link joins
 pub mod tables; // tables.rt: the tables' numbers
 
