@@ -1,17 +1,19 @@
 -- Between processors of a board there are at most four hops; there is one where they differ, and none else. By all of the sixteen times sixteen.
-use Prim.Native.Nat.{ℕ, _≤_, _<_}
-use mathlib.Core.Path.{_≡_, refl, sym, _∙_}
-use mathlib.Core.Bool.{Bool, true}
+use Prim.Native.Nat.{ℕ, _*_, _≤_, _<_}
+use mathlib.Core.Path.{_≡_, refl}
+use mathlib.Core.Bool.{Bool, true, false}
 use mathlib.Core.Logic.{⊎-elim}
 use native.Mathlib.Omega.{arith}
 use borrow.Author.Tests.{eqb-true, ltb-true, leb-true}
 use lib.Bits.{bitXor}
 use lib.Count.{ones, onesIn}
 use lib.Dec.{eqb, ltb, leb}
-use Rattle.folds.specs.Folds.{both, either, all}
-use Rattle.folds.proofs.Tests.{both-parts, either-part}
+use native.Mathlib.Nat.{mul-comm, mul-le-mul, le-refl}
+use Rattle.folds.specs.Folds.{pick, either, all}
+use Rattle.folds.proofs.Tests.{either-part}
 use Rattle.folds.proofs.Laws.{all-each}
-use Rattle.sheet.specs.Hops.{hops}
+use Rattle.sheet.specs.Sheet.{Sheet, costOf}
+use Rattle.sheet.specs.Hops.{hops, linkTime}
 
 -- of one pair
 few : ℕ → ℕ → Bool
@@ -48,3 +50,20 @@ some-hop j k h g d =
 pub no-hop : (k : ℕ) → k < 16 → hops k k ≡ 0
 unfolding home
 no-hop k h = eqb-true (hops k k) 0 (all-each 16 home all-home k h)
+
+-- so a message between two processors of a board takes at most four times its cost
+pub time-most : (s : Sheet) (l j k : ℕ) → j < 16 → k < 16 → linkTime s l j k ≤ 4 * costOf s l
+unfolding linkTime
+time-most s l j k h g = by (s .cube)
+  where
+    times : (c n : ℕ) → n ≤ 4 → c * n ≤ 4 * c
+    times c n m = rw (mul-comm c n) (mul-le-mul m (le-refl c))
+
+    by : (t : Bool) → pick t (costOf s l * hops j k) (costOf s l) ≤ 4 * costOf s l
+    by true = times (costOf s l) (hops j k) (few-hops j k h g)
+    by false = omega arith
+
+-- .. and just its cost where the board is no cube
+pub flat-time : (s : Sheet) (l j k : ℕ) → s .cube ≡ false → linkTime s l j k ≡ costOf s l
+unfolding linkTime
+flat-time s l j k e = rw e
