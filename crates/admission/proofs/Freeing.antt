@@ -32,7 +32,7 @@ use Rattle.bundle.proofs.Rounds.{read-formed}
 use Rattle.admission.specs.Counting.{weigh, wholeOf, whole, is}
 use Rattle.admission.specs.Releases.{isRelease, gets, uses, held, right, wrong, wrongFrom, wrongIn, at37}
 use Rattle.admission.specs.Messages.{at26, atMessage}
-use Rattle.admission.specs.Notes.{slotsAt, releasesAt, discardsAt, slotsEnd, Notable, slotOf, sofar, rank, ahead, Kept}
+use Rattle.admission.specs.Notes.{slotsAt, releasesAt, discardsAt, slotsEnd, Notable, slotOf, sofar, rank, ahead, Apart}
 use Rattle.admission.specs.Lasts.{noteOf, lastOf, messageOf, Lasts, LastsIs, freeAt, WrongIs}
 use Rattle.admission.specs.Rules.{Given}
 use Rattle.admission.specs.declared.view.View.{View}
@@ -216,11 +216,11 @@ free-slot t l b o (release x) h f = rw (h .0, h .1) (omega arith)
 free-slot t l b o (discard x) h f = rw (h .0, h .1) (omega arith)
 
 -- where those words stand
-free-low : (b : List ℕ) (at : ℕ) → slotsAt ≤ freeAt b at
+free-low : (b : List ℕ) (at : ℕ) → releasesAt ≤ freeAt b at
 unfolding freeAt
 free-low b at = by (eqb (getD b at 0) 0x46)
   where
-    by : (y : Bool) → slotsAt ≤ pick y (releasesAt + getD b (at + 1) 0) (discardsAt + numberAt 2 b (at + 1))
+    by : (y : Bool) → releasesAt ≤ pick y (releasesAt + getD b (at + 1) 0) (discardsAt + numberAt 2 b (at + 1))
     by true = omega arith
     by false = omega arith
 
@@ -251,7 +251,7 @@ pub record Ready (s : Sheet) (b : Bundle) (bundle v : List ℕ) : Type 0 where
 
 -- .. and for all
 pub record Freeing (bundle v w : List ℕ) (at k r : ℕ) : Type 0 where
-  pub kept : Kept v w
+  pub kept : Apart v w
   pub few : 2 * k ≤ at
   pub less : 2 * r ≤ at
   pub long : slotsEnd ≤ length v
@@ -259,7 +259,7 @@ pub record Freeing (bundle v w : List ℕ) (at k r : ℕ) : Type 0 where
 
 -- 37 is found
 pub record Tried (bundle v w : List ℕ) (r : Found) : Type 0 where
-  pub kept : Kept v w
+  pub kept : Apart v w
   pub is : (s : Sheet) (b : Bundle) → Ready s b bundle v → foundOf r ≡ at37 s b
 
 trying-starts : (s : Sheet) (b : Bundle) (bundle w : List ℕ) → Ready s b bundle w → Trying s b w 0 0 0 shortSize
@@ -400,7 +400,7 @@ module _ {bundle v w : List ℕ} {at k r : ℕ} (end : ℕ) (far : end ≡ lengt
               });
         }
       where
-        low-word : (i : ℕ) → i < slotsAt → i ≡ x → ⊥
+        low-word : (i : ℕ) → i < releasesAt → i ≡ x → ⊥
         low-word i l e = omega (arith, free-low bundle at)
 
         words-on : (s : Sheet) (b : Bundle) → Ready s b bundle v → (y : Here s b bundle (λ k i at. Trying s b w r k i at) at k)
@@ -451,7 +451,7 @@ module _ {bundle v w : List ℕ} {at k r : ℕ} (end : ℕ) (far : end ≡ lengt
 pub wrong-after : {sheet bundle v w u : List ℕ} {view : View} {r : Found} → LastsIs sheet v w view → Tried bundle w u r → WrongIs sheet bundle v u view r
 wrong-after {sheet} {view = view} g h =
     record {
-      kept = record { long = h .kept .long ∙ g .apart .long; low = λ i l. h .kept .low i l ∙ g .apart .low i (omega arith) };
+      kept = record { long = h .kept .long ∙ g .apart .long; low = λ i l. h .kept .low i l ∙ g .apart .low i l };
       is-37 =
           λ s b y small bytes e once messages.
           h .is s b

@@ -18,8 +18,8 @@ use Rattle.folds.proofs.Loops.{greatest-zero, greatest-one}
 use Rattle.sheet.specs.Sheet.{Sheet, taskCount, linkCount, sourceOf, targetOf}
 use Rattle.bundle.specs.Bundle.{run, send, Bundle, programmeCount}
 use Rattle.admission.specs.Fields.{sourceAt, targetAt, Known}
-use Rattle.admission.specs.Notes.{slotsAt, sendsAt, releasesAt, discardsAt, slotsEnd, slotOf, Noted}
-use Rattle.admission.specs.Lasts.{noteOf, together, useOf, messageOf, usedBy, lastOf, Apart, CopyIs, keptWords, LastIs, Lasts, LastsIs}
+use Rattle.admission.specs.Notes.{slotsAt, sendsAt, releasesAt, discardsAt, slotsEnd, slotOf, Apart, Noted}
+use Rattle.admission.specs.Lasts.{noteOf, together, useOf, messageOf, usedBy, lastOf, CopyIs, keptWords, LastIs, Lasts, LastsIs}
 use Rattle.admission.specs.Rules.{Given}
 use Rattle.admission.specs.declared.view.View.{View}
 use Rattle.admission.proofs.Ranks.{slot-small}

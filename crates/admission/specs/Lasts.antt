@@ -18,7 +18,7 @@ use Rattle.bundle.specs.Format.{readBundle}
 use Rattle.admission.specs.Releases.{at37}
 use Rattle.admission.specs.Messages.{at26, atMessage}
 use Rattle.admission.specs.Fields.{Known}
-use Rattle.admission.specs.Notes.{slotsAt, releasesAt, discardsAt, slotsEnd, slotOf, Kept}
+use Rattle.admission.specs.Notes.{slotsAt, releasesAt, discardsAt, slotsEnd, slotOf, Apart}
 use Rattle.admission.specs.Rules.{Given}
 use Rattle.admission.specs.declared.view.View.{View}
 
@@ -42,11 +42,6 @@ usedBy s w t l = pick (eqb (sourceOf s l) t) (useOf s w l) 0
 
 unfoldable pub lastOf : Sheet → List ℕ → ℕ → ℕ → ℕ
 lastOf s w t n = max (noteOf w (run t)) (greatest n (usedBy s w t))
-
--- the words before those for releases are as they were
-pub record Apart (w last : List ℕ) : Type 0 where
-  pub long : length last ≡ length w
-  pub low : (i : ℕ) → i < releasesAt → getD last i 0 ≡ getD w i 0
 
 -- the notes of n runs are copied
 pub record CopyIs (w last : List ℕ) (n : ℕ) : Type 0 where
@@ -76,6 +71,6 @@ freeAt b at = pick (eqb (getD b at 0) 0x46) (releasesAt + getD b (at + 1) 0) (di
 
 -- 37 of a bundle, by the notes of its commands
 pub record WrongIs (sheet bundle w last : List ℕ) (v : View) (r : Found) : Type 0 where
-  pub kept : Kept w last
+  pub kept : Apart w last
   pub is-37 : (s : Sheet) (b : Bundle) → Given s b sheet w v → programmeCount b ≤ 16 → Bytes bundle → readBundle s bundle ≡ value b → at26 s b ≡ none → atMessage s b ≡ none
       → foundOf r ≡ at37 s b

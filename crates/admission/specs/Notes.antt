@@ -22,22 +22,22 @@ use Rattle.admission.specs.Counting.{weigh, wholeOf, is}
 -- the notes stand in the words from slotsAt on: of runs first, then of sends, then of receives; behind them, up to slotsEnd, what is kept for the releases of results and
 -- of messages
 abbrev pub slotsAt : ℕ
-slotsAt = 1024
+slotsAt = 1376
 
 abbrev pub sendsAt : ℕ
-sendsAt = 1280
+sendsAt = 1632
 
 abbrev pub receivesAt : ℕ
-receivesAt = 2304
+receivesAt = 2656
 
 abbrev pub releasesAt : ℕ
-releasesAt = 3328
+releasesAt = 3680
 
 abbrev pub discardsAt : ℕ
-discardsAt = 3584
+discardsAt = 3936
 
 abbrev pub slotsEnd : ℕ
-slotsEnd = 4608
+slotsEnd = 4960
 
 -- how many commands have a note
 abbrev pub notable : ℕ
@@ -79,6 +79,10 @@ pub data Noted (b : Bundle) (k i : ℕ) (c : Command) (x : ℕ) : Type 0 where
   again : x ≡ 1 → 2 ≤ sofar b k i c → Noted b k i c x
   once : (j p : ℕ) → x ≡ 4096 * suc j + rank b j p → sofar b k i c ≡ 1 → getElem? (programmeOf b j) p ≡ some c → Noted b k i c x
 
+-- the programme that runs task t, by its note
+abbrev pub homeIn : List ℕ → ℕ → ℕ
+homeIn w t = getD w (slotsAt + slotOf (run t)) 0 / 4096 - 1
+
 -- words from slotsAt on have the notes of all commands, and r were met
 pub record Notes (s : Sheet) (b : Bundle) (k i r : ℕ) (w : List ℕ) : Type 0 where
   pub note : (c : Command) → Notable s c → Noted b k i c (getD w (slotsAt + slotOf c) 0)
@@ -103,6 +107,11 @@ notedWords w x k r = set w (slotsAt + x) (pick (eqb (getD w (slotsAt + x) 0) 0) 
 pub record Kept (w last : List ℕ) : Type 0 where
   pub long : length last ≡ length w
   pub low : (i : ℕ) → i < slotsAt → getD last i 0 ≡ getD w i 0
+
+-- the words before those for releases are as they were
+pub record Apart (w last : List ℕ) : Type 0 where
+  pub long : length last ≡ length w
+  pub low : (i : ℕ) → i < releasesAt → getD last i 0 ≡ getD w i 0
 
 -- no command is noted of n tasks and l links
 pub record BlankIs (w last : List ℕ) (n l : ℕ) : Type 0 where

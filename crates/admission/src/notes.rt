@@ -4,22 +4,22 @@ ghost use Prim.Native.Nat.{_+_, _*_, _≤_, _<_};
 ghost use lib.ListN.{length, getD};
 ghost use lib.Dec.{eqb};
 ghost use Rattle.folds.specs.Folds.{bit};
-ghost use Rattle.admission.specs.Notes.{slotsAt, slotsEnd, messageAt, notedWords, BlankIs, NotesIs};
+ghost use Rattle.admission.specs.Notes.{slotsAt, slotsEnd, homeIn, messageAt, notedWords, BlankIs, NotesIs};
 use bundle::CLAIM_SIZE;
 use bundle::LONG_SIZE;
 use bundle::SHORT_SIZE;
 use bundle::kinds::size_of;
 
 // Where the notes of runs, of sends and of receives stand, and behind them what is kept for the releases of results and of messages (specs/Notes).
-pub const NOTES: usize = 1024;
+pub const NOTES: usize = 1376;
 
-pub const SENDS: usize = 1280;
+pub const SENDS: usize = 1632;
 
-pub const RECEIVES: usize = 2304;
+pub const RECEIVES: usize = 2656;
 
-pub const RELEASES: usize = 3328;
+pub const RELEASES: usize = 3680;
 
-pub const DISCARDS: usize = 3584;
+pub const DISCARDS: usize = 3936;
 
 // The slot of the send or receive at `at`. A sum and no test: which of them stands there cannot be foretold.
 fn message(bundle: &[u8], at: usize) -> usize
@@ -84,4 +84,12 @@ pub fn note_all(bundle: &[u8], w: &mut [u32], n: usize, l: usize) -> usize
         }
     }
     r
+}
+
+// The programme that runs task t, by its note.
+pub fn home(w: &[u32], t: usize) -> usize
+    requires { ⌜ (t < 256) × (slotsEnd ≤ length (now w)) ⌝ }
+    ensures { λ r. ⌜ (r ≡ homeIn (now (w .entry)) t) × (r < 1048576) ⌝ }
+{
+    numbers::minus(workspace::word(w, NOTES + t) / 4096, 1)
 }

@@ -87,6 +87,7 @@ module _ (sheet bundle w u : List ℕ) (v : View) (f : Judged) (h : JudgeIs shee
           few = few;
           short = few-of-read s bundle b (k .ranged .few-tasks) (k .ranged .few-links) few bytes (p .0) (p .1);
           laid = h .laid s k b q;
+          homes = h .homes s k b q;
         }
       where
         first-of : (b : Bundle) → Fit m c claim ≡ Fit (programmeCount b) (commandCount b) (b .claim) → programmeCount b ≡ m
