@@ -1,4 +1,4 @@
--- The bundle of a plan: 26, 31 to 33 and 28 do not apply to it, and its bytes can hold it.
+-- The bundle of a plan: 26, 31 to 33, 37 and 28 do not apply to it, and its bytes can hold it.
 use Prim.Native.Nat.{ℕ, _+_, _*_, _≤_, _<_}
 use native.Mathlib.Omega.{arith}
 use mathlib.Core.Bool.{Bool, true, false, not}

@@ -131,7 +131,7 @@ good-clock claim a e = rw (eq-eqb claim a (sym e))
 pub bad-clock : (claim a : ℕ) → (a ≡ claim → ⊥) → Refused 30 a ≡ onClock claim a
 bad-clock claim a e = rw (ne-eqb claim a (λ q. e (sym q)))
 
--- the checker's answer goes on where 26, 31 to 33 and 28 do not apply
+-- the checker's answer goes on where 26, 31 to 33, 37 and 28 do not apply
 checked-refused : (s : Sheet) (b : Bundle) (n at : ℕ) → admitted s b ≡ refused n at → checked s b ≡ refused n at
 unfolding admitted checked
 checked-refused s b n at e = by (at26 s b) (atMessage s b) (at28 s b) e

@@ -1,4 +1,4 @@
--- The checker's answer: 26, 31 to 33 and 28 to 30 behind the readers, or the bundle.
+-- The checker's answer: 26, 31 to 33, 37 and 28 to 30 behind the readers, or the bundle.
 use Prim.Native.Nat.{ℕ}
 use mathlib.Core.Bool.{Bool}
 use mathlib.Core.Option.{Option, none, some}
