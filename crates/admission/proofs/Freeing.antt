@@ -41,6 +41,7 @@ use Rattle.admission.proofs.Rights.{release-plain}
 use Rattle.admission.proofs.Splits.{message-once}
 use Rattle.admission.proofs.Messages.{run-once}
 use Rattle.admission.proofs.Few.{each-at}
+use Rattle.admission.proofs.Walking.{drop-at, take-at, each-elem}
 use Rattle.admission.proofs.Rows.{rows}
 use Rattle.admission.proofs.Ranks.{is-or, sofar-more, sofar-next, sofar-none, sofar-less, rank-small, rank-more, rank-idle, rank-next, rank-none}
 use Rattle.admission.proofs.Places.{placed-programme, whole-stands}
@@ -124,16 +125,6 @@ pub pending : Sheet → Bundle → ℕ → ℕ → ℕ → Option ℕ
 pending s b k i at =
     orElse (wrongFrom s at (take i (programmeOf b k)) (drop i (programmeOf b k))) (wrongIn s (at + weigh sizeOf (drop i (programmeOf b k))) (drop (suc k) (b .programmes)))
 
-drop-at : (p : List Command) (i : ℕ) (c : Command) → getElem? p i ≡ some c → drop i p ≡ c ∷ drop (suc i) p
-drop-at [] i c e = not-some e
-drop-at (x ∷ p) zero c e = ap (λ (y : Command). y ∷ p) (Option·some-injective x c e)
-drop-at (x ∷ p) (suc i) c e = drop-at p i c e
-
-take-at : (p : List Command) (i : ℕ) (c : Command) → getElem? p i ≡ some c → take (suc i) p ≡ take i p ++ c ∷ []
-take-at [] i c e = not-some e
-take-at (x ∷ p) zero c e = ap (λ (y : Command). y ∷ []) (Option·some-injective x c e)
-take-at (x ∷ p) (suc i) c e = ap (λ (y : List Command). x ∷ y) (take-at p i c e)
-
 module _ (s : Sheet) (b : Bundle) (k i at : ℕ) where
   abbrev q : List Command
   q = programmeOf b k
@@ -168,13 +159,8 @@ pending-open : (s : Sheet) (b : Bundle) (k at : ℕ) → k < programmeCount b �
 unfolding pending wrongIn programmeOf programmeCount
 pending-open s b k at l = rw (drop-cons (b .programmes) k [] l)
 
-each-elem : {A : Type 0} (P : A → Type 0) (xs : List A) (i : ℕ) (x : A) → fits.Each P xs → getElem? xs i ≡ some x → P x
-each-elem P [] i x h e = not-some e
-each-elem P (y ∷ xs) zero x h e = subst P (Option·some-injective y x e) (h .0)
-each-elem P (y ∷ xs) (suc i) x h e = each-elem P xs i x (h .1) e
-
 -- the commands of a bundle that was read are declared
-known-all : (s : Sheet) (bundle : List ℕ) (b : Bundle) → readBundle s bundle ≡ value b → (k i : ℕ) (c : Command) → getElem? (programmeOf b k) i ≡ some c → fits.Known s c
+pub known-all : (s : Sheet) (bundle : List ℕ) (b : Bundle) → readBundle s bundle ≡ value b → (k i : ℕ) (c : Command) → getElem? (programmeOf b k) i ≡ some c → fits.Known s c
 unfolding programmeOf programmeCount
 known-all s bundle b e k i c f =
     each-elem (fits.Known s) (programmeOf b k) i c

@@ -1,0 +1,1 @@
+// The pass that gives back store: definitions and laws.
