@@ -102,16 +102,25 @@ module _ (w : List ℕ) where
     pub unpack-turn : (ops : List ℕ) → both (eqb u 0) (both (eqb n 0) (eqb m 0)) ≡ false → fault (begun (sheetIn w)) unpack ops ≡ some 3
     unpack-turn ops h = fault-unpack (sheetIn w) ops ∙ rw (bare-in false h)
 
-    module _ (b : List ℕ) (at : ℕ) (first : both (eqb u 0) (both (eqb n 0) (eqb m 0)) ≡ true) where
-      pub unpack-cut : at < length b → length b - at < unpackingSize → fault (begun (sheetIn w)) unpack (drop (at + 1) b) ≡ some 1
-      unpack-cut l h = fault-unpack (sheetIn w) (drop (at + 1) b) ∙ rw (bare-in true first, length-drop (at + 1) b, lt-ltb (length b - (at + 1)) 2 (omega arith))
+    module _ (b : List ℕ) (at : ℕ) (first : (u ≡ 0) × (n ≡ 0) × (m ≡ 0)) where
+      bare-here : bare (sheetIn w) ≡ true
+      bare-here = bare-in true (simp (eq-eqb u 0 (first .0), eq-eqb n 0 (first .1), eq-eqb m 0 (first .2)))
 
-      pub unpack-number : (time : ℕ) → unpackingSize ≤ length b - at → time ≡ numberAt 2 b (at + 1)
+      pub unpack-cut : at < length b → length b - at < unpackingSize → fault (begun (sheetIn w)) unpack (drop (at + 1) b) ≡ some 1
+      unpack-cut l h = fault-unpack (sheetIn w) (drop (at + 1) b) ∙ rw (bare-here, length-drop (at + 1) b, lt-ltb (length b - (at + 1)) 2 (omega arith))
+
+      unpack-number : (time : ℕ) → unpackingSize ≤ length b - at → time ≡ numberAt 2 b (at + 1)
           → fault (begun (sheetIn w)) unpack (drop (at + 1) b) ≡ pick (eqb time 0) (some 6) none
       unpack-number time h q =
           let same : numberAt 2 (drop (at + 1) b) 0 ≡ time = numberAt-drop 2 (at + 1) b 0 ∙ ap (numberAt 2 b) (add-zero (at + 1)) ∙ sym q in
           fault-unpack (sheetIn w) (drop (at + 1) b)
-          ∙ rw (bare-in true first, length-drop (at + 1) b, le-ltb (length b - (at + 1)) 2 (omega arith), same)
+          ∙ rw (bare-here, length-drop (at + 1) b, le-ltb (length b - (at + 1)) 2 (omega arith), same)
+
+      pub unpack-zero : (time : ℕ) → unpackingSize ≤ length b - at → time ≡ numberAt 2 b (at + 1) → time ≡ 0 → fault (begun (sheetIn w)) unpack (drop (at + 1) b) ≡ some 6
+      unpack-zero time h q z = unpack-number time h q ∙ rw (eq-eqb time 0 z)
+
+      pub unpack-clear : (time : ℕ) → unpackingSize ≤ length b - at → time ≡ numberAt 2 b (at + 1) → time ≢ 0 → fault (begun (sheetIn w)) unpack (drop (at + 1) b) ≡ none
+      unpack-clear time h q z = unpack-number time h q ∙ rw (ne-eqb time 0 z)
 
   pub task-turn : (m : ℕ) (ops : List ℕ) → m ≡ getD w linkCountAt 0 → m ≢ 0 → fault (begun (sheetIn w)) task ops ≡ some 3
   task-turn m ops e h = fault-task (sheetIn w) ops ∙ rw (ne-eqb (linkCount (sheetIn w)) 0 (λ q. h (e ∙ sym (links-in w) ∙ q)))

@@ -1,32 +1,54 @@
--- `load` (src/values.rt) keeps its contract.
-use Rattle.sheet_reader.proofs.Given.{board-read, board-refused, read-as}
-use Rattle.sheet_reader.proofs.Scans.{bare-counts, read-through}
 use borrow.Author.Needs.{needs}
-use denote.Ref.{now}
-use mathlib.Core.Logic.{inl, inr}
-use native.Mathlib.Omega.{arith}
 use Rattle.sheet_reader.proofs.values.load.Statement.{statement}
 use Rattle.sheet_reader.proofs.values.load.Tie as tie
+use Rattle.sheet_reader.proofs.values.load.Reads as reads
+use Rattle.sheet_reader.proofs.values.load.Lts as lts
+use Rattle.sheet.proofs.front.Reads as front-reads
+use Rattle.sheet.proofs.tables.put_board.Reads as put-board-reads
+use Rattle.sheet.proofs.tables.put_unpacking.Reads as put-unpacking-reads
+use Rattle.sheet_reader.proofs.values.load_tasks.Reads as load-tasks-reads
 
+-- src/values.rt:104:9
 returns : tie.Need-returns
-returns c = let s = c .before .before .before .before in board-refused (s .args .processors) (s .args .limit) (now (s .args .tasks)) (now (s .args .links)) (now (s .args .w)) (inl (c .if1 .taken))
+returns c = ?
 
+-- src/values.rt:107:9
 returns-2 : tie.Need-returns-2
-returns-2 c = let s = c .before .before .before .before .before in board-refused (s .args .processors) (s .args .limit) (now (s .args .tasks)) (now (s .args .links)) (now (s .args .w)) (inr (c .if2 .taken))
+returns-2 c = ?
 
+-- src/values.rt:109:5
 put-board-requires : tie.Need-put-board-requires
-put-board-requires c κs = (c .before .before .before .before .before .before .pre, c .before .if2 .left)
+put-board-requires c κs = search needs
 
+-- src/values.rt:110:5
+put-unpacking-requires : tie.Need-put-unpacking-requires
+put-unpacking-requires c κs = search needs
+
+-- src/values.rt:111:30
+front-requires : tie.Need-front-requires
+front-requires c κs = search needs
+
+-- src/values.rt:111:5
 load-tasks-requires : tie.Need-load-tasks-requires
-load-tasks-requires c κs = let f = c .before .before .before .put-board .ensures in (f .loaded, bare-counts f)
+load-tasks-requires c κs = ?
 
+-- src/values.rt:92:1
+same-length : tie.Need-same-length
+same-length c = search needs
+
+-- src/values.rt:92:1
 returns-3 : tie.Need-returns-3
-returns-3 c =
-    let s = c .before .before .before .before .before .before .before .before .before .before .before .before .before in
-    read-through
-    (read-as (board-read (s .args .processors) (s .args .limit) (now (s .args .tasks)) (now (s .args .links)) (now (s .args .w)) _ (c .before .before .before .before .before .before .before .before .before .if1 .left) (c .before .before .before .before .before .before .before .before .if2 .left) (omega (arith, s .fits .limit)) (c .before .before .before .before .before .before .put-board .ensures)) (c .before .before .load-tasks .ensures))
-    (c .before .before .before .before .before .before .put-board .ensures .long)
+returns-3 c = ?
 
 pub load-spec : {M : Type 1} → statement M
 load-spec =
-    tie.close (tie.spec returns returns-2 put-board-requires load-tasks-requires (λ c. search needs) returns-3)
+    tie.close
+    (tie.spec
+    returns
+    returns-2
+    put-board-requires
+    put-unpacking-requires
+    front-requires
+    load-tasks-requires
+    same-length
+    returns-3)
