@@ -24,7 +24,7 @@ use Rattle.sheet.specs.Sheet.{Sheet, Task, Link, taskCount, linkCount}
 use Rattle.sheet.specs.Sizes.{boardSize, unpackingSize, taskSize, linkSize, frontBy}
 use Rattle.sheet.specs.Format.{board, unpack, task, link, end, Progress, fresh, fault, sheetFormat, readForm}
 use Rattle.sheet.specs.Writing.{unpackingBytes, boardBytes, taskBytes, linkBytes, taskValue, linkValue, linkValueBytes, taskValueBytes, valueBytes}
-use Rattle.sheet.specs.Tables.{sheetIn, pairIn, Loaded, Filling, LoadedOf, taskWords, linkWords, pairWords}
+use Rattle.sheet.specs.Tables.{sheetIn, pairIn, Loaded, Filling, LoadedOf, taskWords, linkWords, pairWords, unpackingWords}
 use Rattle.sheet.specs.Faults.{begun, taskFault, linkFault}
 use Rattle.sheet_reader.specs.Answers.{ReadIs, valuesClosed}
 use Rattle.sheet_reader.specs.Scanning.{Scanning, readOn}
@@ -33,6 +33,7 @@ use Rattle.sheet_reader.specs.declared.Reading.the-variants.{Read, Refus
 use Rattle.sheet.proofs.Rows.{tasks-in, links-in}
 use Rattle.sheet.proofs.Judging.{fault-unpack, fault-task, fault-link, fault-end}
 use Rattle.sheet.proofs.Fronts.{front-none, front-some}
+use Rattle.sheet.proofs.Joins.{unpacking-loaded-of}
 use Rattle.sheet_reader.proofs.Scans.{read-refused, task-few, link-few, source-small, target-small, link-single, link-filling, scan-task, scan-link, scan-refuse, scan-whole}
 
 pub scan-at : {a : Answer Sheet} {d w₀ w : List ℕ} {n m e : ℕ} (e′ : ℕ) → Scanning a d w₀ w n m e → e ≡ e′ → Scanning a d w₀ w n m e′
@@ -268,6 +269,10 @@ board-on a p l u X g j h k =
     let Y : List ℕ = unpackingBytes u ++ X in
     let limit : numberAt 4 (p ∷ (numberBytes 4 l ++ Y)) 1 ≡ l = numberAt-cons 4 p (numberBytes 4 l ++ Y) 0 ∙ number-of-bytes 4 l Y h in
     unpacking-on a p l u X k (subst (λ (x : ℕ). Going sheetFormat a (begun (made p x 0 [] [])) boardSize Y) limit (goes sheetFormat g board refl j))
+
+-- the board's words, and then its unpacking time
+pub board-timed : {p l : ℕ} {w v v′ : List ℕ} (u : ℕ) → LoadedOf (made p l 0 [] []) w v → v′ ≡ unpackingWords v u → u < 65536 → LoadedOf (made p l u [] []) w v′
+board-timed {p} {l} {w} u h e small = subst (LoadedOf (made p l u [] []) w) (sym e) (unpacking-loaded-of u h small)
 
 pub board-refused : (p l x : ℕ) (v u w : List ℕ) → (p < 1) ⊎ (16 < p) → ReadIs (readForm (valueBytes p l x v u)) w w (Refused 6 0)
 unfolding readForm valueBytes

@@ -263,14 +263,15 @@ module _ {a : Answer Sheet} {b w₀ w : List ℕ} {n m at : ℕ} (s : Walking a 
   unpacking-added w′ u j small q e =
       let here : u ≡ numberAt 2 (drop at b) 1 = q ∙ sym (operand16 1 (at + 1) refl) in
       let time : u ≢ 0 = λ z. eqb-false _ 0 (sound-of _ (drop at b) unpack j .range) (numberAt-drop 2 1 (drop at b) 0 ∙ sym here ∙ z) in
-      subst (λ (v : List ℕ). Walking a b w₀ v n m (at + unpackingSize) × Absent unpack b v (at + unpackingSize)) (sym e)
-      (record {
-        room = walk-room unpack j;
-        scanning =
-            subst (λ (d : List ℕ). Scanning a d w₀ (unpackingWords w u) n m (at + unpackingSize)) (drop-drop unpackingSize at b)
-            (scan-unpack (s .scanning) u j here (omega (arith, number-lt 2 b (at + 1) small)));
-      },
-      λ k. time (sym (unpacking-here w u (s .scanning .loaded .long)) ∙ unpack-first (unpackingWords w u) (drop (at + unpackingSize) b) k .0))
+      subst (λ (v : List ℕ). Walking a b w₀ v n m (at + unpackingSize) × Absent unpack b v (at + unpackingSize)) (sym e) (
+        record {
+          room = walk-room unpack j;
+          scanning =
+              subst (λ (d : List ℕ). Scanning a d w₀ (unpackingWords w u) n m (at + unpackingSize)) (drop-drop unpackingSize at b)
+              (scan-unpack (s .scanning) u j here (omega (arith, number-lt 2 b (at + 1) small)));
+        },
+        λ k. time (sym (unpacking-here w u (s .scanning .loaded .long)) ∙ unpack-first (unpackingWords w u) (drop (at + unpackingSize) b) k .0),
+      )
 
   pub walk-task : judge sheetFormat (begun (sheetIn w)) (drop at b) ≡ go task → ((k : ℕ) → getD b k 0 < 256)
       → Walking a b w₀ (taskWords w n (numberAt 2 b (at + 1)) (numberAt 2 b (at + 3))) (n + 1) m (at + taskSize)

@@ -5,10 +5,10 @@ ghost use mathlib.Core.Bool.{false};
 ghost use Prim.Native.Nat.{_+_, _*_, _/_, _≤_, _<_};
 ghost use lib.ListN.{length, getD};
 ghost use Rattle.workspace.specs.Area.{fixed, linkCountAt, taskCountAt};
-ghost use Rattle.sheet.specs.Sizes.{frontOf, middleOf};
+ghost use Rattle.sheet.specs.Sizes.{boardSize, unpackingSize, taskSize};
 ghost use Rattle.sheet.specs.Format.{readForm};
 ghost use Rattle.sheet.specs.Writing.{valueBytes, taskValueBytes, linkValueBytes};
-ghost use Rattle.sheet.specs.Tables.{sheetIn, pairIn, Loaded, Filling, linkWords, pairWords};
+ghost use Rattle.sheet.specs.Tables.{pairIn, Loaded, Filling, linkWords, pairWords};
 ghost use Rattle.sheet_reader.specs.Answers.{ReadIs, valuesClosed};
 ghost use Rattle.sheet_reader.specs.Scanning.{readOn};
 use crate::Reading;
@@ -47,7 +47,7 @@ fn closing(links: &[u16], start: usize) -> Reading
 // The links' values, behind so many tasks: their commands begin at `start`.
 fn load_links(links: &[u16], start: usize, tasks: usize, w: &mut [u32]) -> Reading
     requires { ⌜ Filling (now w) ⌝ }
-    requires { ⌜ (tasks ≡ getD (now w) taskCountAt 0) × (getD (now w) linkCountAt 0 ≡ 0) × (start ≡ middleOf (sheetIn (now w))) ⌝ }
+    requires { ⌜ (tasks ≡ getD (now w) taskCountAt 0) × (getD (now w) linkCountAt 0 ≡ 0) × (start ≤ boardSize + unpackingSize + taskSize * tasks) ⌝ }
     ensures { λ r. ⌜ ReadIs (readOn (now (w .entry)) (linkValueBytes (now (links .entry))) start) (now (w .entry)) (now (w .exit)) r ⌝ }
 {
     let m = links.len() / 4;
@@ -67,7 +67,7 @@ fn load_links(links: &[u16], start: usize, tasks: usize, w: &mut [u32]) -> Readi
 // The tasks' values, whose commands begin at `start`, and then the links'.
 fn load_tasks(tasks: &[u16], links: &[u16], start: usize, w: &mut [u32]) -> Reading
     requires { ⌜ Loaded (now w) ⌝ }
-    requires { ⌜ (getD (now w) taskCountAt 0 ≡ 0) × (getD (now w) linkCountAt 0 ≡ 0) × (start ≡ frontOf (sheetIn (now w))) ⌝ }
+    requires { ⌜ (getD (now w) taskCountAt 0 ≡ 0) × (getD (now w) linkCountAt 0 ≡ 0) × (start ≤ boardSize + unpackingSize) ⌝ }
     ensures { λ r. ⌜ ReadIs (readOn (now (w .entry)) (taskValueBytes (now (tasks .entry)) (now (links .entry))) start) (now (w .entry)) (now (w .exit)) r ⌝ }
 {
     let n = tasks.len() / 2;

@@ -1,24 +1,17 @@
+-- `closing` (src/values.rt) keeps its contract.
+use Rattle.sheet_reader.specs.Answers.{valuesClosed}
 use borrow.Author.Needs.{needs}
+use borrow.Author.Tests.{eq-eqb, ne-eqb}
 use Rattle.sheet_reader.proofs.values.closing.Statement.{statement}
 use Rattle.sheet_reader.proofs.values.closing.Tie as tie
-use Rattle.sheet_reader.proofs.values.closing.Reads as reads
-use Rattle.sheet_reader.proofs.values.closing.Lts as lts
 
--- src/values.rt:40:23
-mul-end : tie.Need-mul-end
-mul-end c = search needs
-
--- src/values.rt:40:15
-add-end : tie.Need-add-end
-add-end c = search needs
-
--- src/values.rt:42:9
 returns : tie.Need-returns
-returns c = ?
+unfolding valuesClosed
+returns c = simp (ne-eqb _ _ (c .if1 .taken))
 
--- src/values.rt:36:1
 returns-2 : tie.Need-returns-2
-returns-2 c = ?
+unfolding valuesClosed
+returns-2 c = simp (eq-eqb _ _ (c .if1 .left))
 
 pub closing-spec : {M : Type 1} → statement M
-closing-spec = tie.close (tie.spec mul-end add-end returns returns-2)
+closing-spec = tie.close (tie.spec (λ c. search needs) (λ c. search needs) returns returns-2)

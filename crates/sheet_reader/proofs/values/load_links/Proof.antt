@@ -1,101 +1,99 @@
+-- `load_links` (src/values.rt) keeps its contract.
+use Prim.Native.Nat.{_*_, _+_, _-_, _/_, _≤_, ℕ}
+use Rattle.folds.proofs.Lists.{rest}
+use Rattle.sheet_reader.proofs.Given.{link-fits, linkTail, links-closed, links-start, refuse-link, scan-at, take-link}
+use Rattle.commands.proofs.Numbered.{numbered-none, numbered-some}
+use Rattle.sheet_reader.specs.Scanning.{Scanning, readOn}
+use Rattle.sheet.specs.Tables.{Filling}
+use Rattle.sheet.specs.Writing.{linkBytes, linkValue, linkValueBytes}
 use borrow.Author.Needs.{needs}
+use denote.Ref.{now}
+use Rattle.sheet.specs.Sizes.{linkSize}
+use lib.ListN.{length}
+use mathlib.Core.List.{List, _++_}
+use mathlib.Core.Path.{_≡_, refl, subst, sym}
+use native.Mathlib.Omega.{arith}
 use Rattle.sheet_reader.proofs.values.load_links.Statement.{statement}
 use Rattle.sheet_reader.proofs.values.load_links.Tie as tie
-use Rattle.sheet_reader.proofs.values.load_links.Reads as reads
-use Rattle.sheet_reader.proofs.values.load_links.Lts as lts
-use Rattle.sheet_reader.proofs.bytes.link_fault.Reads as link-fault-reads
-use Rattle.sheet_reader.proofs.values.add_link.Reads as add-link-reads
-use Rattle.sheet_reader.proofs.values.closing.Reads as closing-reads
 
 abbrev Inv-loop : tie.InvT-loop
-Inv-loop links start tasks w₀ m j₀ w j = ?
+Inv-loop links start tasks w₀ m j₀ w j = (m ≡ length links / 4) × (j ≤ m) × Filling w × Scanning (readOn w₀ (linkValueBytes links) start) (linkBytes (rest j (length links / 4 - j) (linkValue links)) ++ linkTail links) w₀ w tasks j (start + linkSize * j)
 
 abbrev μ-loop : tie.MeasureT-loop
-μ-loop links start tasks w₀ m j₀ w j = ?
+μ-loop links start tasks w₀ m j₀ w j = m - j
 
--- src/values.rt:55:5
 loop-holds : tie.Need-loop-holds Inv-loop μ-loop
-loop-holds c = search needs
+loop-holds c =
+    let s = c .before .before in
+    (refl, omega arith, s .pre .0, scan-at (s .args .start + linkSize * 0) (links-start (now (s .args .links)) (now (s .args .w)) (s .args .tasks) (s .args .start) (s .pre .0) (s .pre .1 .0) (s .pre .1 .1)) (omega arith))
 
--- src/values.rt:56:17
-mul-k : tie.Need-mul-k Inv-loop μ-loop
-mul-k c = search needs
-
--- src/values.rt:57:52
-mul-link-fault : tie.Need-mul-link-fault Inv-loop μ-loop
-mul-link-fault c = search needs
-
--- src/values.rt:57:52
-shared-slice-read-link-fault : tie.Need-shared-slice-read-link-fault Inv-loop μ-loop
-shared-slice-read-link-fault c = search needs
-
--- src/values.rt:57:52
 cast-link-fault : tie.Need-cast-link-fault Inv-loop μ-loop
-cast-link-fault c = search needs
+cast-link-fault c = omega (arith, c .shared-slice-known2 .given (4 * c .before .before .before .loop .j))
 
--- src/values.rt:57:77
-add-link-fault : tie.Need-add-link-fault Inv-loop μ-loop
-add-link-fault c = search needs
-
--- src/values.rt:57:71
-mul-link-fault-2 : tie.Need-mul-link-fault-2 Inv-loop μ-loop
-mul-link-fault-2 c = search needs
-
--- src/values.rt:57:71
-shared-slice-read-link-fault-2 : tie.Need-shared-slice-read-link-fault-2 Inv-loop μ-loop
-shared-slice-read-link-fault-2 c = search needs
-
--- src/values.rt:57:71
 cast-link-fault-2 : tie.Need-cast-link-fault-2 Inv-loop μ-loop
-cast-link-fault-2 c = search needs
+cast-link-fault-2 c = omega (arith, c .shared-slice-known3 .given (4 * c .before .before .before .before .loop .j + 1))
 
--- src/values.rt:57:13
 link-fault-requires : tie.Need-link-fault-requires Inv-loop μ-loop
-link-fault-requires c κs = search needs
+link-fault-requires c κs = let i = c .before .before .before .before .loop .inv in (i .2, (sym (i .3 .tasks), sym (i .3 .links)))
 
--- src/values.rt:59:52
 mul-t22 : tie.Need-mul-t22 Inv-loop μ-loop
-mul-t22 c = search needs
+mul-t22 c = let s = c .before .before .before .before .before .before .loop .inv .3 in omega (arith, s .links, s .loaded .links)
 
--- src/values.rt:59:44
 add-t23 : tie.Need-add-t23 Inv-loop μ-loop
-add-t23 c = search needs
+add-t23 c =
+    let l = c .before .before .before .before .before .before in
+    let s = l .loop .inv .3 in
+    omega (arith, l .before .before .before .pre .1 .2, s .tasks, s .loaded .tasks, s .links, s .loaded .links)
 
--- src/values.rt:59:13
 same-length : tie.Need-same-length Inv-loop μ-loop
-same-length c = search needs
+same-length c = c .before .before .before .before .before .before .loop .inv .3 .long
 
--- src/values.rt:59:13
 returns : tie.Need-returns Inv-loop μ-loop
-returns c = search needs
+returns c =
+    let l = c .before .before .before .before .before .before in
+    let v = now (l .before .before .before .args .links) in
+    refuse-link (linkValue v) (length v / 4) (linkTail v) (l .loop .inv .3) (c .before .before .before .before .before .loop-test .taken) _ (numbered-some _ _ (c .before .link-fault .ensures) (c .if1 .taken))
 
--- src/values.rt:61:9
 add-link-requires : tie.Need-add-link-requires Inv-loop μ-loop
-add-link-requires c κs = search needs
+add-link-requires c κs =
+    let l = c .before .before .before .before .before .before .before in
+    let v = now (l .before .before .before .args .links) in
+    let f = link-fits (linkValue v) (length v / 4) (linkTail v) (l .loop .inv .3) (c .before .before .before .before .before .before .loop-test .taken) (l .loop .inv .2) (numbered-none _ _ (c .before .before .link-fault .ensures) (c .before .if1 .left)) in
+    ((omega (arith, c .before .before .before .before .before .before .loop-test .taken), l .loop .inv .3 .loaded .long, f .0), ((f .1, f .2), f .3))
 
--- src/values.rt:62:9
-add-j : tie.Need-add-j Inv-loop μ-loop
-add-j c = search needs
-
--- src/values.rt:55:5
-loop-less : tie.Need-loop-less Inv-loop μ-loop
-loop-less c = search needs
-
--- src/values.rt:55:5
 loop-again : tie.Need-loop-again Inv-loop μ-loop
-loop-again c = search needs
+loop-again c =
+    let l = c .before .before .before .before .before .before .before .before .before .before in
+    let s = l .before .before .before in
+    let v = now (s .args .links) in
+    let w₀ = now (s .args .w) in
+    let e = s .args .start in
+    let n = s .args .tasks in
+    let j = l .loop .j in
+    let i = l .loop .inv in
+    let clear = numbered-none _ _ (c .before .before .before .before .before .link-fault .ensures) (c .before .before .before .before .if1 .left) in
+    let t =
+    take-link (linkValue v) (length v / 4) (linkTail v) (i .3) (c .before .before .before .before .before .before .before .before .before .loop-test .taken) (i .2) clear
+    (omega (arith, l .before .before .shared-slice-known .given (4 * j + 2))) (omega (arith, l .before .before .shared-slice-known .given (4 * j + 3))) in
+    let u =
+    subst (λ (u : List ℕ). Filling u × Scanning (readOn w₀ (linkValueBytes v) e) (linkBytes (rest (j + 1) (length v / 4 - (j + 1)) (linkValue v)) ++ linkTail v) w₀ u n (j + 1) (e + linkSize * (j + 1)))
+    (sym (c .before .before .add-link .ensures)) (t .0, scan-at (e + linkSize * (j + 1)) (t .1) (omega arith)) in
+    (refl, omega (arith, c .before .before .before .before .before .before .before .before .before .loop-test .taken), u .0, u .1)
 
--- src/values.rt:64:5
 closing-requires : tie.Need-closing-requires Inv-loop μ-loop
-closing-requires c κs = search needs
+closing-requires c κs =
+    let l = c .before in
+    let s = l .loop .inv .3 in
+    (omega (arith, l .before .before .before .pre .1 .2, s .tasks, s .loaded .tasks), omega (arith, s .links, s .loaded .links, c .loop-test .left))
 
--- src/values.rt:48:1
 same-length-2 : tie.Need-same-length-2 Inv-loop μ-loop
-same-length-2 c = search needs
+same-length-2 c = c .before .before .loop .inv .3 .long
 
--- src/values.rt:48:1
 returns-2 : tie.Need-returns-2 Inv-loop μ-loop
-returns-2 c = search needs
+returns-2 c =
+    let l = c .before .before in
+    let s = l .before .before .before in
+    links-closed (now (s .args .links)) (l .loop .inv .3) (omega (arith, c .before .loop-test .left)) _ (s .args .start) refl (c .closing .ensures)
 
 pub load-links-spec : {M : Type 1} → statement M
 load-links-spec =
@@ -104,13 +102,13 @@ load-links-spec =
     Inv-loop
     μ-loop
     loop-holds
-    mul-k
-    mul-link-fault
-    shared-slice-read-link-fault
+    (λ c. search needs)
+    (λ c. search needs)
+    (λ c. search needs)
     cast-link-fault
-    add-link-fault
-    mul-link-fault-2
-    shared-slice-read-link-fault-2
+    (λ c. search needs)
+    (λ c. search needs)
+    (λ c. search needs)
     cast-link-fault-2
     link-fault-requires
     mul-t22
@@ -118,8 +116,8 @@ load-links-spec =
     same-length
     returns
     add-link-requires
-    add-j
-    loop-less
+    (λ c. search needs)
+    (λ c. search needs)
     loop-again
     closing-requires
     same-length-2

@@ -1,130 +1,132 @@
+-- `load_tasks` (src/values.rt) keeps its contract.
+use Prim.Native.Nat.{_*_, _+_, _-_, _/_, _≤_, ℕ}
+use Rattle.folds.proofs.Lists.{rest}
+use Rattle.sheet_reader.proofs.Given.{read-as, refuse-task, scan-at, take-task, task-fits, taskTail, tasks-cut, tasks-done, tasks-start}
+use Rattle.commands.proofs.Numbered.{numbered-none, numbered-some}
+use Rattle.sheet_reader.proofs.Scans.{read-through, scan-blank}
+use Rattle.sheet_reader.specs.Scanning.{Scanning, readOn}
+use Rattle.sheet.specs.Writing.{taskBytes, taskValue, taskValueBytes}
 use borrow.Author.Needs.{needs}
+use denote.Ref.{now}
+use Rattle.sheet.specs.Sizes.{taskSize}
+use lib.ListN.{length}
+use mathlib.Core.List.{List, _++_}
+use mathlib.Core.Path.{_∙_, _≡_, refl, subst, sym}
+use native.Mathlib.Omega.{arith}
 use Rattle.sheet_reader.proofs.values.load_tasks.Statement.{statement}
 use Rattle.sheet_reader.proofs.values.load_tasks.Tie as tie
-use Rattle.sheet_reader.proofs.values.load_tasks.Reads as reads
-use Rattle.sheet_reader.proofs.values.load_tasks.Lts as lts
-use Rattle.sheet.proofs.pairs.blank.Reads as blank-reads
-use Rattle.sheet.proofs.tables.put_task.Reads as put-task-reads
-use Rattle.sheet_reader.proofs.bytes.task_fault.Reads as task-fault-reads
-use Rattle.sheet_reader.proofs.values.load_links.Reads as load-links-reads
 
 abbrev Inv-loop : tie.InvT-loop
-Inv-loop tasks links start w₀ n i₀ w i = ?
+Inv-loop tasks links start w₀ n i₀ w i = (n ≡ length tasks / 2) × (i ≤ n) × Scanning (readOn w₀ (taskValueBytes tasks links) start) (taskBytes (rest i (length tasks / 2 - i) (taskValue tasks)) ++ taskTail tasks links) w₀ w i 0 (start + taskSize * i)
 
 abbrev μ-loop : tie.MeasureT-loop
-μ-loop tasks links start w₀ n i₀ w i = ?
+μ-loop tasks links start w₀ n i₀ w i = n - i
 
--- src/values.rt:75:5
 loop-holds : tie.Need-loop-holds Inv-loop μ-loop
-loop-holds c = search needs
+loop-holds c =
+    let s = c .before .before .before in
+    (refl, omega arith, scan-at (s .args .start + taskSize * 0) (tasks-start (now (s .args .tasks)) (now (s .args .links)) (now (s .args .w)) (s .args .start) (s .pre .0) (s .pre .1 .0) (s .pre .1 .1)) (omega arith))
 
--- src/values.rt:76:17
-mul-k : tie.Need-mul-k Inv-loop μ-loop
-mul-k c = search needs
-
--- src/values.rt:77:42
-mul-task-fault : tie.Need-mul-task-fault Inv-loop μ-loop
-mul-task-fault c = search needs
-
--- src/values.rt:77:42
-shared-slice-read-task-fault : tie.Need-shared-slice-read-task-fault Inv-loop μ-loop
-shared-slice-read-task-fault c = search needs
-
--- src/values.rt:77:13
-task-fault-requires : tie.Need-task-fault-requires Inv-loop μ-loop
-task-fault-requires c κs = search needs
-
--- src/values.rt:79:52
 mul-t14 : tie.Need-mul-t14 Inv-loop μ-loop
-mul-t14 c = search needs
+mul-t14 c = let s = c .before .before .before .before .loop .inv .2 in omega (arith, s .tasks, s .loaded .tasks)
 
--- src/values.rt:79:44
 add-t15 : tie.Need-add-t15 Inv-loop μ-loop
-add-t15 c = search needs
+add-t15 c =
+    let l = c .before .before .before .before in
+    let s = l .loop .inv .2 in
+    omega (arith, l .before .before .before .before .pre .1 .2, s .tasks, s .loaded .tasks)
 
--- src/values.rt:79:13
 same-length : tie.Need-same-length Inv-loop μ-loop
-same-length c = search needs
+same-length c = c .before .before .before .before .loop .inv .2 .long
 
--- src/values.rt:79:13
 returns : tie.Need-returns Inv-loop μ-loop
-returns c = search needs
+returns c =
+    let l = c .before .before .before .before in
+    let a = l .before .before .before .before .args in
+    let v = now (a .tasks) in
+    refuse-task (taskValue v) (length v / 2) (taskTail v (now (a .links))) (l .loop .inv .2) (c .before .before .before .loop-test .taken) (omega (arith, l .before .before .before .shared-slice-known .given (2 * l .loop .i))) _
+    (numbered-some _ _ (c .before .task-fault .ensures) (c .if1 .taken))
 
--- src/values.rt:81:32
-mul-put-task : tie.Need-mul-put-task Inv-loop μ-loop
-mul-put-task c = search needs
-
--- src/values.rt:81:32
-shared-slice-read-put-task : tie.Need-shared-slice-read-put-task Inv-loop μ-loop
-shared-slice-read-put-task c = search needs
-
--- src/values.rt:81:48
-add-put-task : tie.Need-add-put-task Inv-loop μ-loop
-add-put-task c = search needs
-
--- src/values.rt:81:42
-mul-put-task-2 : tie.Need-mul-put-task-2 Inv-loop μ-loop
-mul-put-task-2 c = search needs
-
--- src/values.rt:81:42
-shared-slice-read-put-task-2 : tie.Need-shared-slice-read-put-task-2 Inv-loop μ-loop
-shared-slice-read-put-task-2 c = search needs
-
--- src/values.rt:81:9
 put-task-requires : tie.Need-put-task-requires Inv-loop μ-loop
-put-task-requires c κs = search needs
+put-task-requires c κs =
+    let l = c .before .before .before .before .before .before .before in
+    let a = l .before .before .before .before .args in
+    let v = now (a .tasks) in (
+      l .loop .inv .2 .loaded .long,
+      task-fits (taskValue v) (length v / 2) (taskTail v (now (a .links))) (l .loop .inv .2) (c .before .before .before .before .before .before .loop-test .taken) (omega (arith, l .before .before .before .shared-slice-known .given (2 * l .loop .i)))
+          (numbered-none _ _ (c .before .before .before .before .task-fault .ensures) (c .before .before .before .if1 .left)),
+    )
 
--- src/values.rt:82:9
-add-i : tie.Need-add-i Inv-loop μ-loop
-add-i c = search needs
-
--- src/values.rt:75:5
-loop-less : tie.Need-loop-less Inv-loop μ-loop
-loop-less c = search needs
-
--- src/values.rt:75:5
 loop-again : tie.Need-loop-again Inv-loop μ-loop
-loop-again c = search needs
+loop-again c =
+    let l = c .before .before .before .before .before .before .before .before .before .before in
+    let a = l .before .before .before .before .args in
+    let v = now (a .tasks) in
+    let u = now (a .links) in
+    let w₀ = now (a .w) in
+    let e = a .start in
+    let i = l .loop .i in
+    let clear = numbered-none _ _ (c .before .before .before .before .before .before .before .task-fault .ensures) (c .before .before .before .before .before .before .if1 .left) in (
+      refl,
+      omega (arith, c .before .before .before .before .before .before .before .before .before .loop-test .taken),
+      subst (λ (x : List ℕ). Scanning (readOn w₀ (taskValueBytes v u) e) (taskBytes (rest (i + 1) (length v / 2 - (i + 1)) (taskValue v)) ++ taskTail v u) w₀ x (i + 1) 0 (e + taskSize * (i + 1)))
+          (sym (c .before .before .put-task .ensures))
+          (scan-at (e + taskSize * (i + 1))
+          (take-task (taskValue v) (length v / 2) (taskTail v u) (l .loop .inv .2) (c .before .before .before .before .before .before .before .before .before .loop-test .taken) (omega (arith, l .before .before .before .shared-slice-known .given (2 * i))) clear
+          (omega (arith, l .before .before .before .shared-slice-known .given (2 * i + 1)))) (omega arith)),
+    )
 
--- src/values.rt:85:44
 mul-t26 : tie.Need-mul-t26 Inv-loop μ-loop
-mul-t26 c = search needs
+mul-t26 c = let s = c .before .before .loop .inv .2 in omega (arith, s .tasks, s .loaded .tasks, c .before .loop-test .left)
 
--- src/values.rt:85:36
 add-t27 : tie.Need-add-t27 Inv-loop μ-loop
-add-t27 c = search needs
+add-t27 c =
+    let l = c .before .before in
+    let s = l .loop .inv .2 in
+    omega (arith, l .before .before .before .before .pre .1 .2, s .tasks, s .loaded .tasks, c .before .loop-test .left)
 
--- src/values.rt:85:9
 same-length-2 : tie.Need-same-length-2 Inv-loop μ-loop
-same-length-2 c = search needs
+same-length-2 c = c .before .before .loop .inv .2 .long
 
--- src/values.rt:85:9
 returns-2 : tie.Need-returns-2 Inv-loop μ-loop
-returns-2 c = search needs
+returns-2 c =
+    let l = c .before .before in
+    let a = l .before .before .before .before .args in
+    let v = now (a .tasks) in
+    let here : l .loop .i ≡ length v / 2 = omega (arith, c .before .loop-test .left) in
+    tasks-cut v (now (a .links)) (scan-at (a .start + taskSize * (length v / 2)) (l .loop .inv .2) (omega arith)) here (c .if2 .taken)
 
--- src/values.rt:87:5
 blank-requires : tie.Need-blank-requires Inv-loop μ-loop
-blank-requires c κs = search needs
+blank-requires c κs = let s = c .before .before .before .loop .inv .2 in (s .loaded .long, omega (arith, s .loaded .tasks, s .tasks, c .before .before .loop-test .left))
 
--- src/values.rt:88:31
 mul-load-links : tie.Need-mul-load-links Inv-loop μ-loop
-mul-load-links c = search needs
+mul-load-links c = let s = c .before .before .before .before .before .before .loop .inv .2 in omega (arith, s .tasks, s .loaded .tasks, c .before .before .before .before .before .loop-test .left)
 
--- src/values.rt:88:23
 add-load-links : tie.Need-add-load-links Inv-loop μ-loop
-add-load-links c = search needs
+add-load-links c =
+    let l = c .before .before .before .before .before .before in
+    let s = l .loop .inv .2 in
+    omega (arith, l .before .before .before .before .pre .1 .2, s .tasks, s .loaded .tasks, c .before .before .before .before .before .loop-test .left)
 
--- src/values.rt:88:5
 load-links-requires : tie.Need-load-links-requires Inv-loop μ-loop
-load-links-requires c κs = search needs
+load-links-requires c κs =
+    let l = c .before .before .before .before .before .before .before in
+    let s = l .before .before .before .before in
+    let v = now (s .args .tasks) in
+    let r = scan-blank (l .loop .inv .2) (length v / 2) (omega (arith, c .before .before .before .before .before .before .loop-test .left)) (c .before .before .before .blank .ensures) in
+    (r .0, (omega (arith, c .before .before .before .before .before .before .loop-test .left, r .1 .tasks), r .1 .links, omega (arith, s .pre .1 .2)))
 
--- src/values.rt:68:1
 same-length-3 : tie.Need-same-length-3 Inv-loop μ-loop
-same-length-3 c = search needs
+same-length-3 c = c .before .before .load-links .ensures .long ∙ c .before .before .before .before .before .before .blank .ensures .long ∙ c .before .before .before .before .before .before .before .before .before .before .loop .inv .2 .long
 
--- src/values.rt:68:1
 returns-3 : tie.Need-returns-3 Inv-loop μ-loop
-returns-3 c = search needs
+returns-3 c =
+    let l = c .before .before .before .before .before .before .before .before .before .before in
+    let a = l .before .before .before .before .args in
+    let v = now (a .tasks) in
+    let here : l .loop .i ≡ length v / 2 = omega (arith, c .before .before .before .before .before .before .before .before .before .loop-test .left) in
+    let r = scan-blank (l .loop .inv .2) (length v / 2) here (c .before .before .before .before .before .before .blank .ensures) in
+    read-through (read-as (tasks-done v (now (a .links)) (scan-at (a .start + taskSize * (length v / 2)) (r .1) (omega arith)) here (c .before .before .before .before .before .before .before .before .if2 .left)) (c .before .before .load-links .ensures)) (c .before .before .before .before .before .before .blank .ensures .long ∙ l .loop .inv .2 .long)
 
 pub load-tasks-spec : {M : Type 1} → statement M
 load-tasks-spec =
@@ -133,22 +135,22 @@ load-tasks-spec =
     Inv-loop
     μ-loop
     loop-holds
-    mul-k
-    mul-task-fault
-    shared-slice-read-task-fault
-    task-fault-requires
+    (λ c. search needs)
+    (λ c. search needs)
+    (λ c. search needs)
+    (λ c κs. search needs)
     mul-t14
     add-t15
     same-length
     returns
-    mul-put-task
-    shared-slice-read-put-task
-    add-put-task
-    mul-put-task-2
-    shared-slice-read-put-task-2
+    (λ c. search needs)
+    (λ c. search needs)
+    (λ c. search needs)
+    (λ c. search needs)
+    (λ c. search needs)
     put-task-requires
-    add-i
-    loop-less
+    (λ c. search needs)
+    (λ c. search needs)
     loop-again
     mul-t26
     add-t27
