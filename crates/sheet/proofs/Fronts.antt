@@ -29,6 +29,10 @@ front-most u = by (eqb u 0)
     by true = omega arith
     by false = omega arith
 
+pub front-least : (u : ℕ) → boardSize ≤ frontBy u
+unfolding frontBy
+front-least u = omega arith
+
 pub board-length : (p l u : ℕ) → length (boardBytes p l u) ≡ frontBy u
 unfolding frontBy
 board-length p l u = by (eqb u 0)
