@@ -1,10 +1,11 @@
 // The tables of a sheet in the work area: accessors that speak of the sheet, and the stores that add a task or a link.
 ghost use mathlib.Core.Path.{_≡_};
 ghost use mathlib.Core.List.{[]};
-ghost use Prim.Native.Nat.{_<_, _≤_};
+ghost use Prim.Native.Nat.{_+_, _<_, _≤_};
 ghost use lib.ListN.{length};
 ghost use Rattle.workspace.specs.Area.{fixed};
 ghost use Rattle.sheet.specs.Sheet.{taskCount, linkCount, workOf, storeOf, sourceOf, targetOf, costOf, bytesOf};
+ghost use Rattle.sheet.specs.Sizes.{boardSize, unpackingSize, frontOf};
 ghost use Rattle.sheet.specs.Tables.{sheetIn, Loaded, LoadedOf, taskWords, linkWords, unpackingWords};
 use workspace::LIMIT;
 use workspace::LINK_COUNT;
@@ -48,6 +49,14 @@ pub fn unpacking(w: &[u32]) -> usize
     ensures { λ r. ⌜ (r ≡ sheetIn (now (w .entry)) .unpacking) × (r ≤ 65535) ⌝ }
 {
     workspace::word(w, UNPACKING)
+}
+
+// Where the tasks begin in the sheet's bytes.
+pub fn front(w: &[u32]) -> usize
+    requires { ⌜ Loaded (now w) ⌝ }
+    ensures { λ r. ⌜ (r ≡ frontOf (sheetIn (now (w .entry)))) × (r ≤ boardSize + unpackingSize) ⌝ }
+{
+    crate::front(unpacking(w))
 }
 
 pub fn work(w: &[u32], t: usize) -> usize
