@@ -1,16 +1,16 @@
--- The starred trial sheets of document 01, K1 to K8, a bare board and choices between two bundles, as one statement about the definitions, which compute them.
+-- The starred trial sheets of document 01, K1 to K8, a bare board, boards with an unpacking time and choices between two bundles, as one statement about the definitions, which compute them.
 use Prim.Native.Nat.{ℕ}
 use mathlib.Core.Bool.{Bool, true, false}
 use mathlib.Core.Option.{Option, none, some}
 use mathlib.Core.Path.{_≡_, refl}
-use mathlib.Core.List.{List, [], _∷_}
+use mathlib.Core.List.{List, [], _∷_, _++_}
 use Rattle.folds.specs.Folds.{all, any, sum, greatest, first, firstWith, leading, least, listed, gather}
 use Rattle.folds.specs.Answers.{Answer, value, refused, andThen}
 use Rattle.numbers.specs.Number.{numberAt}
 use Rattle.commands.specs.Commands.{judge, readFrom, readAll}
 use Rattle.sheet.specs.Sheet.{Sheet, Task, Link, taskCount, linkCount, workOf, storeOf, sourceOf, targetOf, costOf, bytesOf}
 use Rattle.sheet.specs.Format.{joinsBy, joins, readForm}
-use Rattle.sheet.specs.Writing.{sheetBytes}
+use Rattle.sheet.specs.Writing.{boardBytes, taskBytes, linkBytes, sheetBytes}
 use Rattle.graph.specs.Graph.{reachesBy, reaches, onCircle, circle, levelBy, levelWithin, level, readSheet}
 use Rattle.bundle.specs.Bundle.{run, send, receive, Bundle, programmeCount, programmeOf}
 use Rattle.bundle.specs.Format.{readBundle}
@@ -119,6 +119,16 @@ bundleBare c = 0x5A ∷ c ∷ 0x00 ∷ 0x00 ∷ 0x00 ∷ []
 abbrev pub listingBare : List ℕ
 listingBare = 0x50 ∷ 0x4C ∷ 0x41 ∷ 0x4E ∷ 0x20 ∷ 0x30 ∷ 0x20 ∷ 0x30 ∷ 0x0A ∷ []
 
+-- K1's graph on a board that unpacks a message in u; and K1's bytes without their end, up to the tasks and up to the links, before others
+abbrev pub timedK : ℕ → Sheet
+timedK u = record { processors = 3; limit = 100; unpacking = u; tasks = k1 .tasks; links = k1 .links }
+
+abbrev pub behindTasks : List ℕ → List ℕ
+behindTasks b = boardBytes 3 100 0 ++ (taskBytes (k1 .tasks) ++ b)
+
+abbrev pub behindLinks : List ℕ → List ℕ
+behindLinks b = behindTasks (linkBytes (k1 .links) ++ b)
+
 -- K1's tasks on one processor, in the order of K2; and two tasks with a free link between them, on one processor, behind an empty programme, and on two
 abbrev pub aloneK : List ℕ
 aloneK = 0x50 ∷ 0 ∷ 0x52 ∷ 3 ∷ 0x52 ∷ 0 ∷ 0x52 ∷ 1 ∷ 0x52 ∷ 2 ∷ 0x5A ∷ 8 ∷ 0 ∷ 0 ∷ 0 ∷ []
@@ -165,6 +175,18 @@ pub record Trials : Type 0 where
   -- "formerly on two processors, now on one with the same claim"
   pub free-before : scheduleBefore (sheetBytes freeLink) ≡ value (record { on = 0 ∷ 1 ∷ []; start = 0 ∷ 1 ∷ []; finish = 1 ∷ 2 ∷ []; order = 0 ∷ 1 ∷ []; opened = 2 })
   pub free-now : scheduleBy barred (sheetBytes freeLink) ≡ value (record { on = 0 ∷ 0 ∷ []; start = 0 ∷ 1 ∷ []; finish = 1 ∷ 2 ∷ []; order = 0 ∷ 1 ∷ []; opened = 1 })
+  -- 55 is written, read and levelled; the levels are K1's
+  pub timed-written : sheetBytes (record { processors = 2; limit = 0; unpacking = 258; tasks = []; links = [] }) ≡ 0x4D ∷ 2 ∷ 0 ∷ 0 ∷ 0 ∷ 0 ∷ 0x55 ∷ 2 ∷ 1 ∷ 0x51 ∷ []
+  pub timed-read : readSheet (sheetBytes (timedK 258)) ≡ value (timedK 258)
+  pub timed-most : readSheet (sheetBytes (timedK 65535)) ≡ value (timedK 65535)
+  pub timed-levels : levels (sheetBytes (timedK 258)) ≡ value (5 ∷ 3 ∷ 2 ∷ 7 ∷ [])
+  -- "a value of 0 gives 6, a wrong position gives 3", which comes before 1 and 6: first of all, a second time, behind a task and behind a link
+  pub timed-zero : readSheet (boardBytes 3 100 0 ++ 0x55 ∷ 0 ∷ 0 ∷ 0x51 ∷ []) ≡ refused 6 6
+  pub timed-cut : readSheet (boardBytes 3 100 0 ++ 0x55 ∷ 0 ∷ []) ≡ refused 1 6
+  pub timed-first : readSheet (0x55 ∷ 1 ∷ []) ≡ refused 3 0
+  pub timed-twice : readSheet (boardBytes 3 100 1 ++ 0x55 ∷ 0 ∷ 0 ∷ []) ≡ refused 3 9
+  pub timed-behind-task : readSheet (behindTasks (0x55 ∷ 1 ∷ 0 ∷ 0x51 ∷ [])) ≡ refused 3 26
+  pub timed-behind-link : readSheet (behindLinks (0x55 ∷ [])) ≡ refused 3 47
   pub k6-stuck : check (sheetBytes k6) (bundleBytes bundleK6) ≡ refused 29 0
   pub k7-claim : check (sheetBytes k1) (bundleK 6) ≡ refused 30 5
   pub k8-self : readSheet (sheetBytes (k8 (link 0 0 0 0 ∷ []))) ≡ refused 10 0
@@ -220,6 +242,16 @@ trials =
       k5-same = refl;
       free-before = refl;
       free-now = refl;
+      timed-written = refl;
+      timed-read = refl;
+      timed-most = refl;
+      timed-levels = refl;
+      timed-zero = refl;
+      timed-cut = refl;
+      timed-first = refl;
+      timed-twice = refl;
+      timed-behind-task = refl;
+      timed-behind-link = refl;
       k6-stuck = refl;
       k7-claim = refl;
       k8-self = refl;
