@@ -17,7 +17,7 @@ use Rattle.sheet.specs.Sheet.{Sheet, taskCount, linkCount, sourceOf, targetOf, 
 use Rattle.sheet.specs.Times.{linkTime}
 use Rattle.graph.proofs.Forms.{Sized}
 use Rattle.graph.proofs.Proper.{Proper}
-use Rattle.planner.specs.Schedule.{Schedule, nowhere, latestFinish, empty, finishOf, placed, stands, put}
+use Rattle.planner.specs.Schedule.{Schedule, nowhere, latestFinish, latestStart, empty, finishOf, placed, stands, put}
 use Rattle.planner.specs.Placing.{comes, reachBy, unpacked, readyArrival, elsewhere, nearBy, endBy, endOf, startOn}
 use Rattle.planner.proofs.Ready.{ready-free}
 use Rattle.planner.proofs.Schedules.{Fair, place, Placing, Built, built, placing, finish-other, once-put, fair-place, empty-fair}
@@ -50,9 +50,13 @@ module _ (s : Sheet) where
         let c = ap (λ u. pick u (linkLoad l) 0) (both-parts (eqb (targetOf s l) t) (placed σ (sourceOf s l)) e .0) in
         (omega (arith, early (sourceOf s l), c), omega (arith, c))
 
+    -- the receives of the links below n, on a fresh processor and on k
+    pub fresh-early : (n : ℕ) → unpacked s (comes s σ t) (reachBy s σ) 0 n ≤ b + sum n (loadInto t)
+    fresh-early = unpacked-le s (comes s σ t) (reachBy s σ) 0 b (loadInto t) (omega arith) reach-le
+
     pub arrival-early : readyArrival s σ t ≤ b + sum (linkCount s) (loadInto t)
     unfolding readyArrival
-    arrival-early = unpacked-le s (comes s σ t) (reachBy s σ) 0 b (loadInto t) (omega arith) reach-le (linkCount s)
+    arrival-early = fresh-early (linkCount s)
 
     module _ (k : ℕ) where
       pub end-early : endOf s σ k ≤ b
@@ -63,14 +67,14 @@ module _ (s : Sheet) where
       unfolding nearBy
       near-early l h = pick-le (both (comes s σ t l) (stands σ (sourceOf s l) k)) (finishOf σ (sourceOf s l)) 0 b (early (sourceOf s l)) (omega arith)
 
+      pub receives-early : (n : ℕ) → unpacked s (elsewhere s σ t k) (reachBy s σ) (endOf s σ k) n ≤ b + sum n (loadInto t)
+      unfolding elsewhere
+      receives-early =
+          unpacked-le s (elsewhere s σ t k) (reachBy s σ) (endOf s σ k) b (loadInto t) end-early (λ l e. reach-le l (both-parts (comes s σ t l) (not (stands σ (sourceOf s l) k)) e .0))
+
       pub start-early : startOn s σ t k ≤ b + sum (linkCount s) (loadInto t)
-      unfolding startOn elsewhere
-      start-early =
-          omega (
-            arith,
-            unpacked-le s (elsewhere s σ t k) (reachBy s σ) (endOf s σ k) b (loadInto t) end-early (λ l e. reach-le l (both-parts (comes s σ t l) (not (stands σ (sourceOf s l) k)) e .0)) (linkCount s),
-            greatest-le (linkCount s) (nearBy s σ t k) b near-early,
-          )
+      unfolding startOn
+      start-early = omega (arith, receives-early (linkCount s), greatest-le (linkCount s) (nearBy s σ t k) b near-early)
 
   -- t, which was not placed, stands on k until f
   module _ (σ : Schedule) (t k a f : ℕ) (free : placed σ t ≡ false) (t-in : t < taskCount s) (on-long : length (σ .on) ≡ taskCount s) (board : k < nowhere) where
@@ -106,8 +110,8 @@ module _ (s : Sheet) where
     load-le : (l : ℕ) → l < linkCount s → (b : Bool) → pick b (linkLoad l) 0 ≤ 327675
     load-le l m b = pick-le b (linkLoad l) 0 327675 (omega (arith, costs l m)) (omega arith)
 
-    pub into-le : (t : ℕ) → sum (linkCount s) (loadInto t) ≤ 335539200
-    into-le t = omega (arith, sum-le (linkCount s) 327675 (loadInto t) (λ l m. load-le l m (eqb (targetOf s l) t)))
+    pub into-le : (t n : ℕ) → n ≤ linkCount s → latestFinish + sum n (loadInto t) ≤ latestStart
+    into-le t n h = omega (arith, sum-le n 327675 (loadInto t) (λ l m. load-le l (omega arith) (eqb (targetOf s l) t)))
 
     pub load-small : taskCount s ≤ 256 → ((t : ℕ) → t < taskCount s → workOf s t ≤ 65535) → (φ : Schedule) → loadOf φ ≤ latestFinish
     unfolding loadOf
