@@ -12,9 +12,9 @@ use Rattle.sheet.specs.Sheet.{Sheet, taskCount, linkCount, sourceOf, targetOf}
 use Rattle.sheet.specs.Times.{linkTime}
 use Rattle.sheet.specs.Tables.{Ranged}
 use Rattle.planner.specs.Schedule.{Schedule, latestStart, placed, placeOf, finishOf}
-use Rattle.planner.specs.Placing.{comes, reachBy, unpacked, readyArrival}
-use Rattle.planner.proofs.Unpacking.{unpacked-one, unpacked-skip}
-use Rattle.planner.proofs.Finishes.{fresh-early, into-le}
+use Rattle.planner.specs.Placing.{comes, reachBy, arrival, unpacked, readyArrival}
+use Rattle.planner.proofs.Unpacking.{unpacked-one, unpacked-skip, arrival-le}
+use Rattle.planner.proofs.Finishes.{fresh-early, arrival-early, into-le}
 use Rattle.adjacency.specs.Chains.{headOf, nextOf, Chained}
 use Rattle.adjacency.specs.declared.End.the-variants.{Target}
 use Rattle.arrivals.specs.Lanes.{freshPast, Early}
@@ -65,7 +65,19 @@ module _ {s : Sheet} {σ : Schedule} {w : List ℕ} (chained : Chained Target s 
             unpacked-next chained t t-in (comes s σ t) (comes-else s σ t) (reachBy s σ) 0 h own q more few;
       }
 
--- it stays small
+-- arrivals are small
+pub ready-small : (s : Sheet) (σ : Schedule) (t : ℕ) → Ranged s → Early σ → readyArrival s σ t ≤ latestStart
+ready-small s σ t ranged early =
+    omega (
+      arith,
+      arrival-early s σ t _ (early .early),
+      into-le s (ranged .few-links) (λ i m. omega (arith, ranged .costs i m)) (omega (arith, ranged .unpacks)) t (linkCount s) (omega arith),
+    )
+
+pub arrival-small : (s : Sheet) (σ : Schedule) (t : ℕ) → Ranged s → Early σ → arrival s σ t ≤ latestStart
+arrival-small s σ t ranged early = omega (arith, arrival-le s σ t, ready-small s σ t ranged early)
+
+-- the walk's time stays small
 pub receive-small : {s : Sheet} {σ : Schedule} {t l x : ℕ} → Receiving s σ t l x → Ranged s → Early σ → x ≤ latestStart
 receive-small {s} {σ} {t} {l} g ranged early =
     omega (

@@ -48,8 +48,8 @@ module _ (s : Sheet) (none-takes : s .unpacking ≡ 0) (σ : Schedule) where
   unfolding startOn startThen startFrom startBy elsewhere nearBy
   start-same t k =
       let z =
-          greatest-max (linkCount s) (λ l. pick (elsewhere s σ t k l) (reachBy s σ l) 0) (nearBy s σ t k) ∙
-          greatest-cong (linkCount s) (λ l. max (pick (elsewhere s σ t k l) (reachBy s σ l) 0) (nearBy s σ t k l)) (startBy s σ t k) (λ l h. by l (comes s σ t l) (stands σ (sourceOf s l) k))
+      greatest-max (linkCount s) (λ l. pick (elsewhere s σ t k l) (reachBy s σ l) 0) (nearBy s σ t k) ∙
+      greatest-cong (linkCount s) (λ l. max (pick (elsewhere s σ t k l) (reachBy s σ l) 0) (nearBy s σ t k l)) (startBy s σ t k) (λ l h. by l (comes s σ t l) (stands σ (sourceOf s l) k))
       in
       omega (arith, unpacked-none s (elsewhere s σ t k) (reachBy s σ) (endOf s σ k) none-takes (linkCount s), z)
     where

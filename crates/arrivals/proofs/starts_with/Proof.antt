@@ -28,8 +28,7 @@ add-starts-unpacked c = record { fits = omega (arith, c .before .before .before 
 
 starts-unpacked-requires : tie.Need-starts-unpacked-requires
 starts-unpacked-requires c κs =
-    let p = c .before .before .before .before .before .before .before .before in
-    (
+    let p = c .before .before .before .before .before .before .before .before in (
       p .pre .1 .1,
       omega (arith, c .before .before .before .narrow .ensures, c .before .before .before .before .finish .ensures .0, p .pre .1 .0 .early (c .before .before .before .before .before .before .source .result), c .before .narrow2 .ensures, c .before .before .cost .ensures .1),
       omega (arith, p .pre .1 .2, ranged (now (p .args .w)) (p .pre .0 .0) .unpacks),
