@@ -13,9 +13,9 @@ use Rattle.folds.specs.Folds.{listed}
 use Rattle.folds.proofs.Tests.{equal-or}
 use Rattle.folds.proofs.Loops.{listed-one}
 use Rattle.folds.proofs.Lists.{listed-cong}
-use Rattle.workspace.specs.Area.{fixed, ClearIs, linksAt, pairsAt, sizesAt, tasksAt, unpackingAt}
+use Rattle.workspace.specs.Area.{fixed, ClearIs, limitAt, linkCountAt, linksAt, pairsAt, processorsAt, sizesAt, taskCountAt, tasksAt, unpackingAt}
 use Rattle.sheet.specs.Sheet.{Task, Link}
-use Rattle.sheet.specs.Tables.{taskOfWord, linkOfWords, taskIn, linkIn, sheetIn, bitAt, pairIn, taskWords, linkWords, pairWords, Blanked}
+use Rattle.sheet.specs.Tables.{taskOfWord, linkOfWords, taskIn, linkIn, sheetIn, bitAt, pairIn, taskWords, linkWords, pairWords, unpackingWords, Blanked}
 use Rattle.sheet.proofs.Bits.{bit-set, bit-other, bit-room, bit-le}
 
 -- a bit that is not set leaves room for it
@@ -74,6 +74,39 @@ link-packed a b c d h k =
     let q : (a + 256 * b + 65536 * c) / 256 % 256 ≡ b = rw high (omega arith) in
     let r : (a + 256 * b + 65536 * c) / 65536 ≡ c = omega arith in
     λ x. record { source = p x; target = q x; cost = r x; bytes = d }
+
+-- another time for unpacking: the words elsewhere, and the sheet
+module _ (w : List ℕ) (u : ℕ) (long : fixed ≤ length w) where
+  pub unpacking-away : (i : ℕ) → i ≢ unpackingAt → getD (unpackingWords w u) i 0 ≡ getD w i 0
+  unfolding unpackingWords
+  unpacking-away i h = getD-set-other w unpackingAt i u 0 h
+
+  pub unpacking-here : getD (unpackingWords w u) unpackingAt 0 ≡ u
+  unfolding unpackingWords
+  unpacking-here = getD-set-same w unpackingAt u 0 (omega arith)
+
+  pub unpacking-long : length (unpackingWords w u) ≡ length w
+  unfolding unpackingWords
+  unpacking-long = length-set w unpackingAt u
+
+  pub unpacking-tasks : (t : ℕ) → taskIn (unpackingWords w u) t ≡ taskIn w t
+  unpacking-tasks t = ap taskOfWord (unpacking-away (tasksAt + t) (λ q. omega arith))
+
+  pub unpacking-links : (l : ℕ) → linkIn (unpackingWords w u) l ≡ linkIn w l
+  unpacking-links l = ap₂ linkOfWords (unpacking-away (linksAt + l) (λ q. omega arith)) (unpacking-away (sizesAt + l) (λ q. omega arith))
+
+  pub sheet-unpacking : sheetIn (unpackingWords w u) ≡ record { processors = sheetIn w .processors; limit = sheetIn w .limit; unpacking = u; tasks = sheetIn w .tasks; links = sheetIn w .links }
+  unfolding sheetIn
+  sheet-unpacking =
+      let tasks : listed (getD (unpackingWords w u) taskCountAt 0) (taskIn (unpackingWords w u)) ≡ listed (getD w taskCountAt 0) (taskIn w) =
+      ap (λ (k : ℕ). listed k (taskIn (unpackingWords w u))) (unpacking-away taskCountAt (λ q. omega arith))
+      ∙ listed-cong (getD w taskCountAt 0) _ (taskIn w) (λ t k. unpacking-tasks t) in
+      let links : listed (getD (unpackingWords w u) linkCountAt 0) (linkIn (unpackingWords w u)) ≡ listed (getD w linkCountAt 0) (linkIn w) =
+      ap (λ (k : ℕ). listed k (linkIn (unpackingWords w u))) (unpacking-away linkCountAt (λ q. omega arith))
+      ∙ listed-cong (getD w linkCountAt 0) _ (linkIn w) (λ l k. unpacking-links l) in
+      let p : getD (unpackingWords w u) processorsAt 0 ≡ getD w processorsAt 0 = unpacking-away processorsAt (λ q. omega arith) in
+      let l : getD (unpackingWords w u) limitAt 0 ≡ getD w limitAt 0 = unpacking-away limitAt (λ q. omega arith) in
+      λ x. record { processors = p x; limit = l x; unpacking = unpacking-here x; tasks = tasks x; links = links x }
 
 -- one task more: the words elsewhere, and the sheet
 module _ (w : List ℕ) (n work store : ℕ) (long : fixed ≤ length w) (n-small : n < 256) where

@@ -14,13 +14,13 @@ use Rattle.folds.specs.Folds.{both, either, any, listed}
 use Rattle.folds.proofs.Tests.{equal-or, both-false, either-true, either-false}
 use Rattle.folds.proofs.Loops.{any-one, any-zero, listed-zero}
 use Rattle.folds.proofs.Laws.{any-cong}
-use Rattle.workspace.specs.Area.{fixed, pairsAt, unpackingAt}
+use Rattle.workspace.specs.Area.{fixed, linkCountAt, pairsAt, processorsAt, taskCountAt, unpackingAt}
 use Rattle.sheet.specs.Sheet.{Sheet, Task, Link, noLink, linkCount, sourceOf, targetOf}
 use Rattle.sheet.specs.Format.{joins, joinsBy}
-use Rattle.sheet.specs.Tables.{taskIn, linkIn, sheetIn, Loaded, bitAt, pairIn, Filling, taskWords, linkWords, pairWords, boardWords, Blanked, LoadedOf}
+use Rattle.sheet.specs.Tables.{taskIn, linkIn, sheetIn, Loaded, bitAt, pairIn, Filling, taskWords, linkWords, pairWords, boardWords, unpackingWords, Blanked, LoadedOf}
 use Rattle.sheet.proofs.Rows.{links-in, task-frame, link-frame, sheet-frame, loaded-frame}
 use Rattle.sheet.proofs.Bits.{bit-none}
-use Rattle.sheet.proofs.Fills.{pair-away, pair-long, pair-same, pair-other, task-away, task-long, task-count, task-old, task-new, task-links, link-away, link-long, link-count, link-old, link-new, link-tasks, sheet-link}
+use Rattle.sheet.proofs.Fills.{pair-away, pair-long, pair-same, pair-other, task-away, task-long, task-count, task-old, task-new, task-links, link-away, link-long, link-count, link-old, link-new, link-tasks, sheet-link, unpacking-away, unpacking-here, unpacking-long, unpacking-tasks, unpacking-links, sheet-unpacking}
 
 joins-more : (ls : List Link) (x : Link) (a b : ℕ)
     → any (length (ls ++ x ∷ [])) (λ l. both (eqb (getD (ls ++ x ∷ []) l noLink .source) a) (eqb (getD (ls ++ x ∷ []) l noLink .target) b))
@@ -206,6 +206,38 @@ module _ (w : List ℕ) (p l : ℕ) (long : fixed ≤ length w) (few : p ≤ 16)
 
   pub board-loaded-of : LoadedOf (record { processors = p; limit = l; unpacking = 0; tasks = []; links = [] }) w (boardWords w p l)
   board-loaded-of = record { long = board-long; loaded = board-loaded; sheet = board-sheet }
+
+-- another time for unpacking
+pub unpacking-loaded : (w : List ℕ) (u : ℕ) → Loaded w → u < 65536 → Loaded (unpackingWords w u)
+unpacking-loaded w u h small =
+    let away = unpacking-away w u (h .long) in
+    let n : getD (unpackingWords w u) taskCountAt 0 ≡ getD w taskCountAt 0 = away taskCountAt (λ q. omega arith) in
+    let m : getD (unpackingWords w u) linkCountAt 0 ≡ getD w linkCountAt 0 = away linkCountAt (λ q. omega arith) in
+    let task = unpacking-tasks w u (h .long) in
+    let link = unpacking-links w u (h .long) in
+    record {
+      long = omega (arith, unpacking-long w u (h .long), h .long);
+      tasks = omega (arith, h .tasks);
+      links = omega (arith, h .links);
+      processors = omega (arith, away processorsAt (λ q. omega arith), h .processors);
+      unpacks = omega (arith, unpacking-here w u (h .long));
+      stores = λ t k. omega (arith, ap (λ (x : Task). x .store) (task t), h .stores t (omega arith));
+      source = λ l k. omega (arith, ap (λ (x : Link). x .source) (link l), h .source l (omega arith));
+      target = λ l k. omega (arith, ap (λ (x : Link). x .target) (link l), h .target l (omega arith));
+      costs = λ l k. omega (arith, ap (λ (x : Link). x .cost) (link l), h .costs l (omega arith));
+      sizes = λ l k. omega (arith, ap (λ (x : Link). x .bytes) (link l), h .sizes l (omega arith));
+    }
+
+pub unpacking-loaded-of : {s : Sheet} {w v : List ℕ} (u : ℕ) → LoadedOf s w v → u < 65536
+    → LoadedOf (record { processors = s .processors; limit = s .limit; unpacking = u; tasks = s .tasks; links = s .links }) w (unpackingWords v u)
+unpacking-loaded-of {s} {w} {v} u h small =
+    record {
+      long = unpacking-long v u (h .loaded .long) ∙ h .long;
+      loaded = unpacking-loaded v u (h .loaded) small;
+      sheet =
+          sheet-unpacking v u (h .loaded .long)
+          ∙ ap (λ (x : Sheet). record { processors = x .processors; limit = x .limit; unpacking = u; tasks = x .tasks; links = x .links }) (h .sheet);
+    }
 
 -- without links, the rows of the tasks are blank
 joins-none : (s : Sheet) (a b : ℕ) → linkCount s ≡ 0 → joins s a b ≡ false

@@ -2,7 +2,7 @@
 use Prim.Native.Nat.{ℕ, _+_, _*_}
 use lib.Dec.{eqb}
 use Rattle.folds.specs.Folds.{pick}
-use Rattle.sheet.specs.Sheet.{Sheet, taskCount}
+use Rattle.sheet.specs.Sheet.{Sheet, taskCount, linkCount}
 
 abbrev pub boardSize : ℕ
 boardSize = 6
@@ -26,3 +26,7 @@ frontOf s = frontBy (s .unpacking)
 -- .. and the links behind the tasks
 abbrev pub middleOf : Sheet → ℕ
 middleOf s = frontOf s + taskSize * taskCount s
+
+-- .. and the end command, which is one byte, behind the links
+abbrev pub sizeOf : Sheet → ℕ
+sizeOf s = middleOf s + linkSize * linkCount s + 1

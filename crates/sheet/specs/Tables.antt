@@ -81,6 +81,10 @@ pairWords w a b = set w (pairsAt + (8 * a + b / 32)) (getD w (pairsAt + (8 * a +
 unfoldable pub boardWords : List ℕ → ℕ → ℕ → List ℕ
 boardWords w processors limit = set (set (set (set (set w taskCountAt 0) linkCountAt 0) processorsAt processors) limitAt limit) unpackingAt 0
 
+-- the words with this time for unpacking
+unfoldable pub unpackingWords : List ℕ → ℕ → List ℕ
+unpackingWords w unpacking = set w unpackingAt unpacking
+
 -- the pair words below word n are 0, and the words before them as they were
 pub record Blanked (n : ℕ) (w last : List ℕ) : Type 0 where
   pub long : length last ≡ length w

@@ -1,4 +1,8 @@
 // A task sheet in the tables of the work area.
+ghost use mathlib.Core.Path.{_≡_};
+ghost use Prim.Native.Nat.{_+_, _≤_};
+ghost use Rattle.sheet.specs.Sizes.{boardSize, unpackingSize, frontBy};
+
 pub mod pairs; // pairs.rt: a bit for each pair of tasks that a link joins
 pub mod tables; // tables.rt: the tables' numbers
 
@@ -10,3 +14,13 @@ pub const UNPACKING_SIZE: usize = 3;
 pub const TASK_SIZE: usize = 5;
 
 pub const LINK_SIZE: usize = 7;
+
+// Where the tasks begin.
+pub fn front(unpacking: usize) -> usize
+    ensures { λ r. ⌜ (r ≡ frontBy unpacking) × (r ≤ boardSize + unpackingSize) ⌝ }
+{
+    if unpacking == 0 {
+        return BOARD_SIZE;
+    }
+    BOARD_SIZE + UNPACKING_SIZE
+}
