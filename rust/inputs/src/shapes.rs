@@ -169,6 +169,7 @@ fn weighed(random: &mut Random, processors: u8, tasks: usize, pairs: &[Pair]) ->
     Sheet {
         processors,
         limit: u32::MAX,
+        unpacking: 0,
         tasks: (0..tasks).flat_map(|_| [weight(1, 100), weight(0, 200)]).collect(),
         links: pairs
             .iter()

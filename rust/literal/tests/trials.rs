@@ -30,8 +30,8 @@ fn k1_whole() {
     assert_eq!(levels(&sheet), Ok(vec![5, 3, 2, 7]));
     assert_eq!(check(&sheet, &bundle), Ok(()));
     let tables = read_sheet(&sheet).unwrap();
-    assert_eq!(tables.board, [3, 100, 4, 3]);
-    assert_eq!(write_sheet(3, 100, &tables.tasks, &tables.links), Ok(sheet.clone()));
+    assert_eq!(tables.board, [3, 100, 4, 3, 0]);
+    assert_eq!(write_sheet(3, 100, 0, &tables.tasks, &tables.links), Ok(sheet.clone()));
     let (commands, claim) = read_bundle(&sheet, &bundle).unwrap();
     assert_eq!(write_bundle(&sheet, &commands, claim), Ok(bundle.clone()));
     start(&sheet, &bundle, |machine| {
@@ -77,15 +77,15 @@ fn bare_board() {
     let (sheet, bundle) = (example("bare.sheet"), example("bare.bundle"));
     assert_eq!((&sheet[..], &bundle[..]), (&b"\x4D\x03\x64\0\0\0\x51"[..], &b"\x5A\0\0\0\0"[..]));
     let tables = read_sheet(&sheet).unwrap();
-    assert_eq!((tables.board, tables.tasks.len(), tables.links.len()), ([3, 100, 0, 0], 0, 0));
-    assert_eq!(write_sheet(3, 100, &[], &[]), Ok(sheet.clone()));
+    assert_eq!((tables.board, tables.tasks.len(), tables.links.len()), ([3, 100, 0, 0, 0], 0, 0));
+    assert_eq!(write_sheet(3, 100, 0, &[], &[]), Ok(sheet.clone()));
     assert_eq!(levels(&sheet), Ok(Vec::new()));
     assert_eq!(plan(&sheet), Ok(bundle.clone()));
     assert_eq!(listing(&sheet), b"PLAN 0 0\n");
     assert_eq!(read_bundle(&sheet, &bundle), Ok((Vec::new(), 0)));
     assert_eq!(write_bundle(&sheet, &[], 0), Ok(bundle.clone()));
     // A link has no task to lead to, and what follows the end is a tail.
-    assert_eq!(write_sheet(3, 100, &[], &[0, 0, 0, 0]), refused(7, 6));
+    assert_eq!(write_sheet(3, 100, 0, &[], &[0, 0, 0, 0]), refused(7, 6));
     assert_eq!(read_sheet(&[&sheet[..], &[0x51]].concat()), refused(4, 7));
     for programmes in 0..=4 {
         let mut opened: Vec<u8> = (0..programmes).flat_map(|number| [0x50, number]).collect();

@@ -201,7 +201,7 @@ fn like_k1(processors: u8, limit: u32, work_2: u16) -> Vec<u8> {
 }
 
 fn valid_sheet(processors: u8, limit: u32, tasks: &[u16], links: &[u16]) -> Vec<u8> {
-    Sheet::from_values(processors, limit, tasks, links)
+    Sheet::from_values(processors, limit, 0, tasks, links)
         .expect("the trial sheet is valid")
         .to_bytes()
 }

@@ -280,9 +280,9 @@ fn writers_and_readers() {
                 _ => damage::values(&mut random, &mut values.links, 4),
             }
         }
-        let sheets::Sheet { processors, limit, ref tasks, ref links } = values;
-        let sheet = Sheet::from_values(processors, limit, tasks, links);
-        let literal = literal::interface::write_sheet(processors, limit, tasks, links);
+        let sheets::Sheet { processors, limit, unpacking, ref tasks, ref links } = values;
+        let sheet = Sheet::from_values(processors, limit, unpacking, tasks, links);
+        let literal = literal::interface::write_sheet(processors, limit, unpacking, tasks, links);
         assert_eq!(sheet.map(|sheet| sheet.to_bytes()).map_err(same), literal, "{values:?}");
 
         let values = sheets::small(&mut random);

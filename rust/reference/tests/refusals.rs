@@ -15,7 +15,7 @@ fn sheet(bytes: &[u8]) -> Verdict {
 
 /// Number and place of the refusal of a sheet's values, on two processors.
 fn sheet_values(tasks: &[u16], links: &[u16]) -> Verdict {
-    let answer = Sheet::from_values(2, 9, tasks, links);
+    let answer = Sheet::from_values(2, 9, 0, tasks, links);
     answer.err().map(|refusal| (refusal.number, refusal.place))
 }
 
@@ -284,19 +284,19 @@ fn short_outputs() {
     let tasks = [1, 10, 3, 10, 2, 10, 2, 10];
     let links = [3, 2, 1, 4, 3, 1, 2, 4, 0, 1, 1, 4];
     let mut out = [0xAA; 50];
-    assert_eq!(interface::write_sheet(3, 100, &tasks, &links, &mut out), Ok(48));
+    assert_eq!(interface::write_sheet(3, 100, 0, &tasks, &links, &mut out), Ok(48));
     assert_eq!((&out[..48], &out[48..]), (&sheet[..], &[0xAA; 2][..]));
-    let write = interface::write_sheet(3, 100, &tasks, &links, &mut out[..47]);
+    let write = interface::write_sheet(3, 100, 0, &tasks, &links, &mut out[..47]);
     assert_eq!(place(write.map(|_| ())), Some((12, 48)));
 
     // A bare board needs no tables and no levels.
     let bare = bare_sheet();
-    assert_eq!(interface::read_sheet(&bare, &mut [], &mut []), Ok([3, 100, 0, 0]));
+    assert_eq!(interface::read_sheet(&bare, &mut [], &mut []), Ok([3, 100, 0, 0, 0]));
     assert_eq!(interface::levels(&bare, &mut []), Ok(0));
     assert_eq!(interface::read_bundle(&bare, &BARE_BUNDLE, &mut []), Ok((0, 0)));
     let place = |answer: Result<usize, reference::Refusal>| place(answer.map(|_| ()));
     assert_eq!(place(interface::plan(&bare, &mut [0; 4])), Some((12, 5)));
     assert_eq!(place(interface::listing(&bare, &mut [0; 8])), Some((12, 9)));
-    assert_eq!(place(interface::write_sheet(3, 100, &[], &[], &mut [0; 6])), Some((12, 7)));
+    assert_eq!(place(interface::write_sheet(3, 100, 0, &[], &[], &mut [0; 6])), Some((12, 7)));
     assert_eq!(place(interface::write_bundle(&bare, &[], 0, &mut [0; 4])), Some((12, 5)));
 }
