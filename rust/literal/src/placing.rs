@@ -315,3 +315,35 @@ impl<'a> Board<'a> {
         })
     }
 }
+
+#[cfg(test)]
+mod tests {
+    use super::*;
+    use inputs::{sheets, Random};
+
+    /// "Sheets without `55` keep their plans": there a start is "the greatest of k's end time and, over
+    /// its predecessors, finish + (0 if on k, else cost)", and A the greatest of finish + cost.
+    #[test]
+    fn starts_without_unpacking() {
+        let mut random = Random::new(14);
+        for _ in 0..300 {
+            let values = sheets::Sheet { unpacking: 0, ..sheets::telling(&mut random, 12) };
+            let sheet = Sheet::read(&values.encode()).expect("a valid sheet");
+            let levels = levels(&sheet);
+            let (placed, _) = turns(&sheet, &levels, Rules::WHOLE);
+            for turn in 0..placed.len() {
+                let before = placed[..turn].to_vec();
+                let board =
+                    Board { sheet: &sheet, levels: &levels, rules: Rules::WHOLE, placed: before };
+                let t = placed[turn].task;
+                for k in 0..=board.fresh() {
+                    assert_eq!(board.start(t, k), board.start_without(t, k, t));
+                }
+                let messages = sheet.links_into(t).map(|(_, link)| {
+                    board.find(link.from).map_or(0, |from| from.finish + link.cost)
+                });
+                assert_eq!(board.arrival(t), messages.max().unwrap_or(0));
+            }
+        }
+    }
+}
