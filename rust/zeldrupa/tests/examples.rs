@@ -2,7 +2,7 @@
 
 use std::collections::BTreeMap;
 use std::fs;
-use zeldrupa::{raw, About, Load, Refusal, Sheet, Subject, WorkArea};
+use zeldrupa::{raw, About, Board, Load, Refusal, Sheet, Subject, WorkArea};
 
 /// The example files by name, the figures among them.
 fn files() -> BTreeMap<String, Vec<u8>> {
@@ -31,8 +31,7 @@ fn what_is_written_is_what_was_read() {
     let sheets = valid_sheets(&mut work);
     assert!(sheets.len() >= 20);
     for (name, sheet) in sheets {
-        let again =
-            work.write_sheet(sheet.processors(), sheet.limit(), sheet.tasks(), sheet.links());
+        let again = work.write_sheet(sheet.board(), sheet.tasks(), sheet.links());
         assert_eq!(again.as_ref(), Ok(&sheet), "{name}");
         let Ok(bundle) = work.plan(&sheet) else { continue };
         let again = work.write_bundle(&sheet, bundle.programmes(), bundle.claim());
@@ -49,8 +48,8 @@ fn plans_are_accepted_and_run_to_their_claims() {
             continue;
         };
         // The bundles of K5, K6 and the figure are by hand.
-        if ["k1", "k2", "k3", "k4", "bare", "free-link"].iter().any(|trial| name.starts_with(trial))
-        {
+        let planned = ["k1", "k2", "k3", "k4", "bare", "free-link", "unpacking"];
+        if planned.iter().any(|trial| name.starts_with(trial)) {
             assert_eq!(bundle.bytes(), files[&name.replace(".sheet", ".bundle")], "{name}");
         }
         assert_eq!(work.check(&sheet, &bundle), Ok(()), "{name}");
@@ -81,9 +80,9 @@ fn refusals_have_number_place_and_word() {
 fn a_bare_board_is_whole() {
     let (mut work, files) = (WorkArea::new(), files());
     let sheet = work.read_sheet(&files["bare.sheet"]).unwrap();
-    assert_eq!((sheet.processors(), sheet.limit()), (3, 100));
+    assert_eq!(sheet.board(), Board::new(3, 100));
     assert!(sheet.tasks().is_empty() && sheet.links().is_empty());
-    assert_eq!(work.write_sheet(3, 100, &[], &[]).as_ref(), Ok(&sheet));
+    assert_eq!(work.write_sheet(Board::new(3, 100), &[], &[]).as_ref(), Ok(&sheet));
     assert_eq!(work.levels(&sheet), Ok(Vec::new()));
     assert_eq!(work.listing(&sheet), "PLAN 0 0\n");
     for programmes in 0..=3 {
