@@ -13,7 +13,7 @@ use zeldrupa_cli::text::{bundle_text, is_text, sheet_text, Claim, Names, Text};
 fn packed(work: &mut WorkArea, text: &str) -> (Vec<u8>, Names) {
     assert!(is_text(text.as_bytes()));
     let sheet = Text::read(text.as_bytes()).unwrap().sheet.unwrap();
-    let bytes = work.write_sheet(sheet.processors, sheet.limit, &sheet.tasks, &sheet.links);
+    let bytes = work.write_sheet(sheet.board, &sheet.tasks, &sheet.links);
     (bytes.unwrap().bytes().to_vec(), sheet.names)
 }
 

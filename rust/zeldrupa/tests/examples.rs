@@ -207,6 +207,19 @@ fn refusals_are_explained() {
     assert!(explained.place.starts_with("processor 0 waits at command 0 for link 1, pong -> out"));
     assert_eq!(explained.commands, [[0, 0], [1, 3], [1, 0], [0, 3]]);
 
+    // Unpacking in a wrong place, twice, of 0, and cut.
+    let board = [0x4D, 1, 0, 0, 0, 0];
+    for (rest, place) in [
+        (&[0x54, 1, 0, 0, 0, 0x55][..], "byte 11: unpacking: not directly behind the board"),
+        (&[0x55, 1, 0, 0x55, 1, 0], "byte 9: unpacking: a second one"),
+        (&[0x55, 0, 0], "byte 6: unpacking: time 0"),
+        (&[0x55, 7], "byte 6: unpacking: 1 of its 2 operand bytes"),
+    ] {
+        let sheet = &[&board, rest].concat();
+        let refusal = work.read_sheet(sheet).unwrap_err();
+        assert!(refusal.explain(About { sheet, ..About::default() }).place.starts_with(place));
+    }
+
     // Also where the caller lends something else than what was refused, there are words.
     for bundle in [&[][..], &[0x50][..], b"?"] {
         let refusal = work.check(sheet, &files["k6.bundle"]).unwrap_err();
