@@ -84,6 +84,11 @@ fn free_links(random: &mut Random) -> Sheet {
     sheet
 }
 
+/// The same sheet on a board on which each receive takes an eighth of the greatest work.
+pub fn unpacked(sheet: Sheet) -> Sheet {
+    Sheet { unpacking: 12, ..sheet }
+}
+
 /// A typical sheet: 40 tasks and 80 links on 8 processors.
 pub fn typical(random: &mut Random) -> Sheet {
     any_links(random, 40, 80, 8)
