@@ -312,17 +312,23 @@ impl<'a> Board<'a> {
         self.inputs[task].arrival + self.levels[task]
     }
 
-    /// The start of a ready task on each processor: its messages are unpacked one after the other, and
-    /// what is there without one has finished by the processor's end.
+    /// The start of a ready task on each processor.
     fn starts(&self, task: usize) -> Row {
-        let time = u32::from(self.sheet.unpacking);
-        if time == 0 {
-            return array::from_fn(|k| self.inputs[task].start(k, self.ends[k]));
+        match self.sheet.unpacking {
+            0 => array::from_fn(|k| self.inputs[task].start(k, self.ends[k])),
+            time => self.unpacked_starts(task, time.into()),
         }
+    }
+
+    /// The same where receives take time: messages are unpacked one after the other, and what is there
+    /// without one has finished by the processor's end. Not inlined, which would make turns without
+    /// unpacking slower.
+    #[inline(never)]
+    fn unpacked_starts(&self, task: usize, time: u32) -> Row {
         let mut starts = self.ends;
         for (from, stamp) in self.messages(task) {
             // Without a branch, so that many are raised at a time.
-            for (k, start) in starts.iter_mut().enumerate() {
+            for (k, start) in (0..).zip(&mut starts) {
                 let unpacked = (*start).max(stamp) + time;
                 *start = if k == from { *start } else { unpacked };
             }
@@ -330,7 +336,9 @@ impl<'a> Board<'a> {
         starts
     }
 
-    /// The start of a ready task on a fresh processor, where all its messages are unpacked.
+    /// The start of a ready task on a fresh processor, where all its messages are unpacked; not inlined
+    /// either.
+    #[inline(never)]
     fn unpacked(&self, task: usize) -> u32 {
         let time = u32::from(self.sheet.unpacking);
         self.messages(task).fold(0, |clock, (_, stamp)| clock.max(stamp) + time)
@@ -338,7 +346,7 @@ impl<'a> Board<'a> {
 
     /// The links into a ready task, in rising number: where each comes from, and when it would be there
     /// as a message.
-    fn messages(&self, task: usize) -> impl Iterator<Item = (usize, u32)> + '_ {
+    fn messages(&self, task: usize) -> impl Iterator<Item = (u32, u32)> + '_ {
         graph::incoming(self.sheet).at(task).iter().map(|&link| {
             let link = &self.sheet.links[usize::from(link)];
             let source = &self.placements[usize::from(link.source)];
