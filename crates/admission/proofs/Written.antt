@@ -1,20 +1,19 @@
 -- The numbers of a sheet lie in its bytes where `Fields` says.
 use Prim.Native.Nat.{ℕ, zero, suc, _+_, _*_, _≤_, _<_}
 use mathlib.Core.Path.{_≡_, refl, _∙_, subst}
-use mathlib.Core.Bool.{Bool, true, false}
 use mathlib.Core.List.{List, [], _∷_, _++_}
 use native.Mathlib.Omega.{arith}
 use lib.ListN.{length, getD, length-append}
 use lib.Seq.{getD-append-add}
-use lib.Dec.{eqb}
 use Rattle.numbers.specs.Number.{numberAt, numberBytes}
 use Rattle.numbers.proofs.Laws.{numberAt-append, number-of-bytes}
 use Rattle.sheet.specs.Sheet.{Sheet, Task, Link, noTask, noLink, taskCount, linkCount, workOf, storeOf, sourceOf, targetOf, costOf, bytesOf}
 use Rattle.folds.specs.Answers.{value}
 use Rattle.sheet.specs.Format.{readForm}
-use Rattle.sheet.specs.Sizes.{linkSize, frontBy, frontOf, middleOf}
+use Rattle.sheet.specs.Sizes.{linkSize, frontOf, middleOf}
 use Rattle.sheet.specs.Tables.{Ranged}
 use Rattle.sheet.specs.Writing.{boardBytes, taskCommand, linkCommand, taskBytes, linkBytes, sheetBytes}
+use Rattle.sheet.proofs.Fronts.{board-length}
 use Rattle.sheet.proofs.Rounds.{bytes-again, read-ranged, task-bytes-length}
 use Rattle.admission.specs.Fields.{workAt, storeAt, sourceAt, targetAt, costAt, bytesAt, Fields}
 
@@ -69,14 +68,8 @@ module _ (s : Sheet) where
   abbrev front : List ℕ
   front = boardBytes (s .processors) (s .limit) (s .unpacking)
 
-  -- as many bytes as its commands have
   front-long : length front ≡ frontOf s
-  unfolding frontBy
-  front-long = by (eqb (s .unpacking) 0) refl
-    where
-      by : (t : Bool) → eqb (s .unpacking) 0 ≡ t → length front ≡ frontOf s
-      by true e = rw e refl
-      by false e = rw e refl
+  front-long = board-length (s .processors) (s .limit) (s .unpacking)
 
   abbrev tail : List ℕ
   tail = linkBytes (s .links) ++ 0x51 ∷ []

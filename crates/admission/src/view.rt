@@ -1,14 +1,11 @@
 // A sheet for who reads its numbers from its bytes: its counts, and where its tasks and its links begin.
 ghost use mathlib.Core.Path.{_≡_};
-ghost use Prim.Native.Nat.{_+_, _<_, _≤_};
-ghost use Rattle.sheet.specs.Sizes.{boardSize, unpackingSize, frontBy};
+ghost use Prim.Native.Nat.{_<_};
 ghost use Rattle.sheet.specs.Tables.{Loaded};
 ghost use Rattle.admission.specs.Fields.{workAt, storeAt, sourceAt, targetAt, costAt, Bounded};
 ghost use Rattle.admission.specs.Views.{ViewIs};
-use sheet::BOARD_SIZE;
 use sheet::LINK_SIZE;
 use sheet::TASK_SIZE;
-use sheet::UNPACKING_SIZE;
 
 pub struct View {
     pub processors: usize,
@@ -62,17 +59,6 @@ impl View {
     }
 }
 
-// Where the tasks begin, by the time for unpacking.
-fn front_by(unpacking: usize) -> usize
-    ensures { λ r. ⌜ (r ≡ frontBy unpacking) × (r ≤ boardSize + unpackingSize) ⌝ }
-{
-    if unpacking == 0 {
-        BOARD_SIZE
-    } else {
-        BOARD_SIZE + UNPACKING_SIZE
-    }
-}
-
 // The view of the sheet in the tables of the work area.
 pub fn of_tables(work: &[u32]) -> View
     requires { ⌜ Loaded (now work) ⌝ }
@@ -80,7 +66,7 @@ pub fn of_tables(work: &[u32]) -> View
 {
     let tasks = sheet::tables::tasks(work);
     let unpacking = sheet::tables::unpacking(work);
-    let front = front_by(unpacking);
+    let front = sheet::front(unpacking);
     View {
         processors: sheet::tables::processors(work),
         limit: sheet::tables::limit(work),

@@ -7,11 +7,11 @@ use Rattle.admission.proofs.view.of_tables.Statement.{statement}
 use Rattle.admission.proofs.view.of_tables.Tie as tie
 
 add-t9 : tie.Need-add-t9
-add-t9 c = omega (arith, c .before .before .before .front-by .ensures .1, c .before .before .before .before .before .tasks .ensures .1)
+add-t9 c = omega (arith, c .before .before .before .front .ensures .1, c .before .before .before .before .before .tasks .ensures .1)
 
 returns : tie.Need-returns
 returns c =
-    let front = c .before .before .before .front-by .ensures in
+    let front = c .before .before .before .front .ensures in
     let unpacking = c .before .before .before .before .unpacking .ensures in
     let tasks = c .before .before .before .before .before .tasks .ensures in
     record {

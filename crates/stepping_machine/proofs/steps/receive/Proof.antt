@@ -17,8 +17,7 @@ returns-2 c =
     let unpacking = c .before .before .before .before in
     let test = unpacking .before .before in
     let stamp = test .before in
-    let start = stamp .before .before .before in
-    (
+    let start = stamp .before .before .before in (
       rw (ne-eqb (getD (now (start .args .w)) (start .args .i) 0) 0 (λ q. test .if1 .left (stamp .word .ensures .0 ∙ q))),
       simp (c .before .before .go-on .ensures, stamp .word .ensures .0, unpacking .word2 .ensures .0),
     )
