@@ -1,8 +1,9 @@
-/* The functions of the static library libzeldrupa.a: planner, checker, stepping machine and weights as formulas.
+/* The functions of the static library libzeldrupa.a: planner, checker, the better of two bundles, stepping
+ * machine, test loads and weights as formulas.
  *
  * docs/INTERFACE.md has each of them in full. Of all of them it holds that:
- * - A slice is a pointer and then its length in elements. The memory has to be valid, no two lent parts may
- *   overlap, and no pointer may be null. Any bytes, values and lengths are safe.
+ * - A slice is a pointer and then its length in elements. The memory has to be valid, no part of it that is
+ *   written may overlap another, and no pointer may be null. Any bytes, values and lengths are safe.
  * - A work area, and the area of a machine's state, has at least ZELDRUPA_WORK_LENGTH words. What a work area
  *   holds before does not matter; it is all zero afterwards, except under 13, where it is untouched.
  * - The result is 0, or the number of a refusal, which changes no output and no state, but for `kept` of
@@ -102,7 +103,8 @@ uint8_t zeldrupa_check(const uint8_t *sheet, size_t sheet_length, const uint8_t 
 
 /* Checks two bundles for a sheet: *kept becomes the better one, the very bytes that were lent and no copy. An
  * accepted bundle is better than a refused one, then the smaller claim, then fewer processors that run a task,
- * then the first differing byte lower; of equal bundles the first is kept. *place is the length of what is kept.
+ * then the first differing byte lower, a shorter bundle before a longer one that begins with it; of equal
+ * bundles the first is kept. *place is the length of what is kept.
  * A refusal, ZELDRUPA_BOTH_REFUSED behind those of the sheet, makes *kept the empty front of the first: its
  * address, and length 0. Before the call *kept has to hold valid bytes, of any length, as {first, 0} does. */
 uint8_t zeldrupa_better(const uint8_t *sheet, size_t sheet_length, const uint8_t *first, size_t first_length,

@@ -202,6 +202,9 @@ pub record Trials : Type 0 where
   pub bare-claim : check (sheetBytes bare) (bundleBare 1) ≡ refused 30 0
   pub bare-cut : check (sheetBytes bare) (0x5A ∷ []) ≡ refused 21 0
   pub bare-run : check (sheetBytes bare) (0x52 ∷ 0 ∷ bundleBare 0) ≡ refused 23 0
+  pub bare-send : check (sheetBytes bare) (0x53 ∷ 0 ∷ 0 ∷ bundleBare 0) ≡ refused 23 0
+  pub bare-receive : check (sheetBytes bare) (0x56 ∷ 0 ∷ 0 ∷ bundleBare 0) ≡ refused 23 0
+  pub bare-tail : check (sheetBytes bare) (0x5A ∷ 0 ∷ 0 ∷ 0 ∷ 0 ∷ 0 ∷ []) ≡ refused 24 5
   -- on a sheet with tasks a claim has a programme before it
   pub claim-first : check (sheetBytes k1) (bundleBare 0) ≡ refused 23 0
   -- the better of two bundles: accepted before refused, also where the refused one claims less; the smaller claim; of equals the first; 34
@@ -266,6 +269,9 @@ trials =
       bare-claim = refl;
       bare-cut = refl;
       bare-run = refl;
+      bare-send = refl;
+      bare-receive = refl;
+      bare-tail = refl;
       claim-first = refl;
       better-accepted = refl;
       better-claim = refl;
