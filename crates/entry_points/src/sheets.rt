@@ -120,7 +120,13 @@ fn put_board(w: &[u32], board: &mut [u32; 5])
     requires { ⌜ Loaded (now w) ⌝ }
     ensures { λ _. ⌜ now (board .exit) ≡ boardOf (sheetIn (now (w .entry))) ⌝ }
 {
-    *board = [w[PROCESSORS], w[LIMIT], w[TASK_COUNT], w[LINK_COUNT], w[UNPACKING]];
+    *board = [
+        w[PROCESSORS],
+        w[LIMIT],
+        w[TASK_COUNT],
+        w[LINK_COUNT],
+        w[UNPACKING],
+    ];
 }
 
 // The tables of a sheet.
