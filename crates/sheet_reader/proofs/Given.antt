@@ -22,7 +22,7 @@ use Rattle.commands.proofs.Going.{starts, goes, refuses, going-is, going-on}
 use Rattle.workspace.specs.Area.{linkCountAt, taskCountAt}
 use Rattle.sheet.specs.Sheet.{Sheet, Task, Link, taskCount, linkCount}
 use Rattle.sheet.specs.Sizes.{boardSize, unpackingSize, taskSize, linkSize, frontBy}
-use Rattle.sheet.specs.Format.{board, unpack, task, link, end, Progress, fresh, fault, sheetFormat, readForm}
+use Rattle.sheet.specs.Format.{board, unpack, task, link, end, fresh, fault, sheetFormat, readForm}
 use Rattle.sheet.specs.Writing.{unpackingBytes, boardBytes, taskBytes, linkBytes, taskValue, linkValue, linkValueBytes, taskValueBytes, valueBytes}
 use Rattle.sheet.specs.Tables.{sheetIn, pairIn, Loaded, Filling, LoadedOf, taskWords, linkWords, pairWords, unpackingWords}
 use Rattle.sheet.specs.Faults.{begun, taskFault, linkFault}

@@ -23,7 +23,7 @@ use Rattle.commands.proofs.Going.{starts, goes, refuses, ends, comes}
 use Rattle.workspace.specs.Area.{fixed, linkCountAt, pairsAt, taskCountAt, unpackingAt}
 use Rattle.sheet.specs.Sheet.{Sheet, Task, Link, taskCount, linkCount}
 use Rattle.sheet.specs.Sizes.{boardSize, unpackingSize, taskSize, linkSize}
-use Rattle.sheet.specs.Format.{Kind, board, unpack, task, link, end, bare, kindOf, width, Progress, fresh, closes, withCommand, taskFrom, linkFrom, ended, joins, sheetFormat, readForm}
+use Rattle.sheet.specs.Format.{Kind, board, unpack, task, link, end, kindOf, width, Progress, fresh, closes, withCommand, taskFrom, linkFrom, ended, joins, sheetFormat, readForm}
 use Rattle.sheet.specs.Tables.{sheetIn, pairIn, Loaded, Filling, LoadedOf, Blanked, taskWords, linkWords, pairWords, unpackingWords}
 use Rattle.sheet.specs.Faults.{begun}
 use Rattle.sheet_reader.specs.Answers.{outcomeOf, isUnpacking, isTask, isLink, readingOf, openingOf, closedOf, ReadIs}

@@ -7,7 +7,6 @@ use lib.ListN.{length-set}
 use mathlib.Core.Path.{refl, _∙_}
 use native.Mathlib.Omega.{arith}
 use denote.Ref.{now}
-use borrow.Author.Needs.{needs}
 use Rattle.sheet_writer.proofs.writer.put_board.Statement.{statement}
 use Rattle.sheet_writer.proofs.writer.put_board.Tie as tie
 
