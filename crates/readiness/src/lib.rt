@@ -129,11 +129,13 @@ fn renew_target(w: &[u32], kept: &[u32], q: &mut [u64], t: usize)
 {
     if workspace::word(kept, arrivals::SEEN + t) == workspace::word(kept, t) {
         let a = ready_arrival(w, kept, t);
-        keys::raise(q, t, key_of(w, t, a));
+        let key = key_of(w, t, a);
+        keys::raise(q, t, key);
         keys::put(q, 256 + t, 0);
     } else {
         let a = arrival_of(w, kept, t);
-        keys::raise(q, 256 + t, key_of(w, t, a));
+        let key = key_of(w, t, a);
+        keys::raise(q, 256 + t, key);
     }
 }
 

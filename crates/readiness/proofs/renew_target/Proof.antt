@@ -14,9 +14,9 @@ use Rattle.readiness.proofs.renew_target.Tie as tie
 
 key-of-requires-2 : tie.Need-key-of-requires-2
 key-of-requires-2 c κs =
-    let a = c .before .before .before .before .before .before .before .before in
+    let a = c .before .before .before .before .before .before .before in
     let w = now (a .args .w) in
-    ((a .pre .0 .loaded, a .pre .1 .0), (a .pre .0 .task, omega (arith, c .before .arrival-of .ensures .0, arrival-small (sheetIn w) (scheduleIn w) (a .args .t) (a .pre .0 .ranged) (a .pre .1 .1 .0 .1))))
+    ((a .pre .0 .loaded, a .pre .1 .0), (a .pre .0 .task, omega (arith, c .arrival-of .ensures .0, arrival-small (sheetIn w) (scheduleIn w) (a .args .t) (a .pre .0 .ranged) (a .pre .1 .1 .0 .1))))
 
 raise-requires-2 : tie.Need-raise-requires-2
 raise-requires-2 c κs =
@@ -24,7 +24,7 @@ raise-requires-2 c κs =
     let t = a .args .t in
     let w = now (a .args .w) in
     let wait = a .pre .1 .1 .1 .1 in
-    (a .pre .1 .1 .1 .0, (omega (arith, a .pre .0 .ranged .few-tasks, a .pre .0 .task), omega (arith, wait .partly, partly-by (sheetIn w) (scheduleIn w) t (c .key-of2 .ensures) (c .before .before .arrival-of .ensures .0))))
+    (a .pre .1 .1 .1 .0, (omega (arith, a .pre .0 .ranged .few-tasks, a .pre .0 .task), omega (arith, wait .partly, partly-by (sheetIn w) (scheduleIn w) t (c .before .key-of2 .ensures) (c .before .before .arrival-of .ensures .0))))
 
 returns : tie.Need-returns
 returns c =
@@ -35,7 +35,7 @@ returns c =
     let wait = a .pre .1 .1 .1 .1 in
     let is = all-known (a .pre .0) (c .before .before .before .before .before .before .before .before .before .before .before .before .word .ensures .0) (c .before .before .before .before .before .before .before .before .before .before .before .word2 .ensures .0) (wait .free) (c .before .before .before .before .before .before .before .before .before .before .if1 .taken) in
     renewed-by (omega (arith, a .pre .0 .ranged .few-tasks, a .pre .0 .task)) (c .before .before .before .before .before .before .raise .ensures) (c .before .before .put .ensures)
-    (ready-key s σ t {b = true} refl (is .0) (ready-by s σ t (c .before .before .before .before .before .before .before .key-of .ensures) (c .before .before .before .before .before .before .before .before .before .ready-arrival .ensures .0))) (partly-key s σ t {b = false} refl (is .1) refl)
+    (ready-key s σ t {b = true} refl (is .0) (ready-by s σ t (c .before .before .before .before .before .before .before .before .key-of .ensures) (c .before .before .before .before .before .before .before .before .before .ready-arrival .ensures .0))) (partly-key s σ t {b = false} refl (is .1) refl)
 
 returns-2 : tie.Need-returns-2
 returns-2 c =
@@ -46,7 +46,7 @@ returns-2 c =
     let wait = a .pre .1 .1 .1 .1 in
     let is = some-known (a .pre .0) (c .before .before .before .before .before .before .before .before .word .ensures .0) (c .before .before .before .before .before .before .before .word2 .ensures .0) (wait .free) (wait .known) (c .before .before .before .before .before .before .if1 .left) in
     renewed-by (omega (arith, a .pre .0 .ranged .few-tasks, a .pre .0 .task)) (as-was (a .pre .1 .1 .1 .0) t) (c .before .before .raise2 .ensures)
-    (wait .ready ∙ ready-key s σ t {b = false} refl (is .0) refl) (partly-key s σ t {b = true} refl (is .1) (partly-by s σ t (c .before .before .before .key-of2 .ensures) (c .before .before .before .before .before .arrival-of .ensures .0)))
+    (wait .ready ∙ ready-key s σ t {b = false} refl (is .0) refl) (partly-key s σ t {b = true} refl (is .1) (partly-by s σ t (c .before .before .before .before .key-of2 .ensures) (c .before .before .before .before .before .arrival-of .ensures .0)))
 
 pub renew-target-spec : {M : Type 1} → statement M
 renew-target-spec =
@@ -61,8 +61,8 @@ renew-target-spec =
     (λ c. search needs)
     (λ c κs. search needs)
     (λ c κs. search needs)
-    (λ c. search needs)
     key-of-requires-2
+    (λ c. search needs)
     raise-requires-2
     (λ c. search needs)
     returns
