@@ -21,8 +21,7 @@ rest-requires c κs =
 wipe-requires : tie.Need-wipe-requires
 wipe-requires c κs =
     let loaded = c .before .before .before .before .before .before .before .before .before in
-    let y = loaded .before .before .before .before .before .before .before .before .before .pre in
-    (
+    let y = loaded .before .before .before .before .before .before .before .before .before .pre in (
       y .few,
       omega (arith, y .bounded .few-links, y .bounded .few-tasks),
       y .bounded .unpacks,
@@ -32,8 +31,7 @@ wipe-requires c κs =
 load-needs-requires : tie.Need-load-needs-requires
 load-needs-requires c κs =
     let loaded = c .before .before .before .before .before .before .before .before .before .before .before .before .before in
-    let y = loaded .before .before .before .before .before .before .before .before .before .pre in
-    (
+    let y = loaded .before .before .before .before .before .before .before .before .before .pre in (
       y .bounded,
       omega (arith, y .inside),
       omega (arith, y .long, loaded .load-all .ensures .long, loaded .before .before .before .before .homes .ensures .long, c .before .before .before .before .before .before .before .rest .ensures .long, c .before .before .before .wipe .ensures .long),

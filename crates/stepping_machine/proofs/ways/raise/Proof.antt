@@ -32,8 +32,7 @@ loop-again c =
     let known = c .before .before .before .before .before .before .before .before .before .before .before .shared-slice-known in
     let s = c .before .before .before .before .before .before .before .before .before .before .before .before .pre in
     let g = c .before .before .before .before .before .before .before .before .before .loop .inv in
-    let below = c .before .before .before .before .before .before .before .before .loop-test .taken in
-    (
+    let below = c .before .before .before .before .before .before .before .before .loop-test .taken in (
       raise-more _ _ _ _ _ _ _ _ _ _ (λ j. omega (arith, known .given j)) (s .2) (g .1) (g .0) (c .before .before .before .before .before .before .word .ensures .0) (c .before .before .before .raised .ensures) (c .before .before .put .ensures),
       omega (arith, g .1),
       omega (arith, below),
