@@ -22,9 +22,9 @@ pub front-some : (u : ℕ) → u ≢ 0 → frontBy u false ≡ boardSize + unpac
 unfolding frontBy
 front-some u h = rw (ne-eqb u 0 h)
 
-pub front-wired : (u : ℕ) → frontBy u true ≡ frontBy u false + cubeSize
+pub front-cube : (u : ℕ) (c : Bool) → frontBy u c ≡ frontBy u false + pick c cubeSize 0
 unfolding frontBy
-front-wired u = omega arith
+front-cube u c = omega arith
 
 pub front-most : (u : ℕ) (c : Bool) → frontBy u c ≤ boardSize + unpackingSize + cubeSize
 unfolding frontBy

@@ -32,7 +32,7 @@ use Rattle.sheet_reader.specs.declared.Reading.{Reading}
 use Rattle.sheet_reader.specs.declared.Reading.the-variants.{Read, Refused}
 use Rattle.sheet.proofs.Rows.{tasks-in, links-in}
 use Rattle.sheet.proofs.Judging.{fault-unpack, wire-clear, fault-task, fault-link, fault-end}
-use Rattle.sheet.proofs.Fronts.{front-none, front-some, front-wired}
+use Rattle.sheet.proofs.Fronts.{front-none, front-some, front-cube}
 use Rattle.sheet.proofs.Joins.{unpacking-loaded-of, cube-loaded-of}
 use Rattle.sheet_reader.proofs.Scans.{read-refused, task-few, link-few, source-small, target-small, link-single, link-filling, scan-task, scan-link, scan-refuse, scan-whole}
 
@@ -270,7 +270,7 @@ cube-opens p l u X = ap (verdict sheetFormat wire) (wire-clear (made p l u false
 cube-on : (a : Answer Sheet) (p l u : ℕ) (c : Bool) (X : List ℕ) → Going sheetFormat a (begun (made p l u false [] [])) (frontBy u false) (cubeBytes c ++ X)
     → Going sheetFormat a (begun (made p l u c [] [])) (frontBy u c) X
 cube-on a p l u false X g = g
-cube-on a p l u true X g = rw (front-wired u) (goes sheetFormat g wire refl (cube-opens p l u X))
+cube-on a p l u true X g = rw (front-cube u true) (goes sheetFormat g wire refl (cube-opens p l u X))
 
 -- behind the board reading goes on with the tasks
 pub board-on : (a : Answer Sheet) (p l u : ℕ) (c : Bool) (X : List ℕ) → Going sheetFormat a fresh 0 (boardBytes p l u c ++ X) → judge sheetFormat fresh (boardBytes p l u c ++ X) ≡ go board
