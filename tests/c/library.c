@@ -1,5 +1,5 @@
-/* The library from C: each of its functions on the trial sheet K1 and on a bare board, the plan of a free link, formulas,
- * test loads, and refusals with number and place. */
+/* The library from C: each of its functions on the trial sheet K1 and on a bare board, the plan of a free link, a board
+ * with unpacking, formulas, test loads, and refusals with number and place. */
 
 #include <stdio.h>
 #include <string.h>
@@ -59,12 +59,12 @@ static size_t read_file(const char *folder, const char *name, uint8_t *bytes, si
 static void formats(void)
 {
     static uint16_t tasks[512], links[4096], commands[4096];
-    uint32_t board[4], levels[256], claim;
+    uint32_t board[5], levels[256], claim;
     uint8_t out[8512];
     ANSWERS(zeldrupa_read_sheet(SHEET, WORK, LENT(tasks), LENT(links), board, &place), 0, 0);
-    EXPECT(board[0] == 3 && board[1] == 100 && board[2] == 4 && board[3] == 3);
+    EXPECT(board[0] == 3 && board[1] == 100 && board[2] == 4 && board[3] == 3 && board[4] == 0);
     EXPECT(tasks[2] == 3 && tasks[3] == 10 && links[4] == 3 && links[5] == 1 && links[6] == 2 && links[7] == 4);
-    ANSWERS(zeldrupa_write_sheet(3, 100, tasks, 8, links, 12, WORK, LENT(out), &place), 0, 48);
+    ANSWERS(zeldrupa_write_sheet(3, 100, 0, tasks, 8, links, 12, WORK, LENT(out), &place), 0, 48);
     EXPECT(memcmp(out, sheet, 48) == 0);
     ANSWERS(zeldrupa_levels(SHEET, WORK, LENT(levels), &place), 0, 4);
     EXPECT(levels[0] == 5 && levels[1] == 3 && levels[2] == 2 && levels[3] == 7);
@@ -178,11 +178,11 @@ static void bare_board(void)
     static const uint8_t empty[] = {0x50, 0, 0x50, 1, 0x5A, 0, 0, 0, 0}, claim_1[] = {0x5A, 1, 0, 0, 0};
     static const char lines[] = "PLAN 0 0\n";
     uint16_t tasks[2], links[4], commands[4];
-    uint32_t board[4], levels[1], claim, processor[3];
+    uint32_t board[5], levels[1], claim, processor[3];
     uint8_t out[16];
     ANSWERS(zeldrupa_read_sheet(LENT(bare), WORK, tasks, 0, links, 0, board, &place), 0, 0);
-    EXPECT(board[0] == 3 && board[1] == 100 && board[2] == 0 && board[3] == 0);
-    ANSWERS(zeldrupa_write_sheet(3, 100, tasks, 0, links, 0, WORK, LENT(out), &place), 0, sizeof bare);
+    EXPECT(board[0] == 3 && board[1] == 100 && board[2] == 0 && board[3] == 0 && board[4] == 0);
+    ANSWERS(zeldrupa_write_sheet(3, 100, 0, tasks, 0, links, 0, WORK, LENT(out), &place), 0, sizeof bare);
     EXPECT(memcmp(out, bare, sizeof bare) == 0);
     ANSWERS(zeldrupa_levels(LENT(bare), WORK, levels, 0, &place), 0, 0);
     ANSWERS(zeldrupa_plan(LENT(bare), WORK, LENT(out), &place), 0, sizeof claim_0);
@@ -221,6 +221,36 @@ static void free_link(const char *folder)
     ANSWERS(zeldrupa_plan(two_tasks, length, WORK, out, planned - 1, &place), ZELDRUPA_SHORT_OUTPUT, planned);
 }
 
+/* K1 on a board on which each receive takes 1: read, written, planned, run, and refused where the command is wrong. */
+static void unpacking(const char *folder)
+{
+    static const char lines[] = "PLAN 3 6\n0 2 0 1\n1 0 3 6\n2 1 4 6\n3 0 0 2\n";
+    static const uint8_t wrong[] = {0x4D, 3, 100, 0, 0, 0, 0x55, 1, 0, 0x55, 0, 0};
+    uint8_t stored[64], apart[64], out[64];
+    uint16_t tasks[8], links[12];
+    uint32_t board[5], processor[3];
+    size_t length = read_file(folder, "unpacking.sheet", stored, sizeof stored);
+    size_t planned = read_file(folder, "unpacking.bundle", apart, sizeof apart);
+    ANSWERS(zeldrupa_read_sheet(stored, length, WORK, LENT(tasks), LENT(links), board, &place), 0, 0);
+    EXPECT(board[0] == 3 && board[1] == 100 && board[2] == 4 && board[3] == 3 && board[4] == 1);
+    ANSWERS(zeldrupa_write_sheet(3, 100, 1, LENT(tasks), LENT(links), WORK, LENT(out), &place), 0, 51);
+    EXPECT(length == 51 && memcmp(out, stored, 51) == 0);
+    ANSWERS(zeldrupa_write_sheet(3, 100, 1, LENT(tasks), LENT(links), WORK, out, 50, &place), ZELDRUPA_SHORT_OUTPUT, 51);
+    ANSWERS(zeldrupa_plan(stored, length, WORK, LENT(out), &place), 0, planned);
+    EXPECT(planned == 31 && memcmp(out, apart, planned) == 0);
+    ANSWERS(zeldrupa_listing(stored, length, WORK, LENT(out), &place), 0, sizeof lines - 1);
+    EXPECT(memcmp(out, lines, sizeof lines - 1) == 0);
+    ANSWERS(zeldrupa_check(stored, length, apart, planned, WORK, &place), 0, 0);
+    ANSWERS(zeldrupa_check(stored, length, BUNDLE, WORK, &place), ZELDRUPA_WRONG_CLAIM, 6);
+    ANSWERS(zeldrupa_run(stored, length, apart, planned, (const uint8_t[]){0, 0, 1}, 3, WORK, STATE, &place), 0, 3);
+    ANSWERS(zeldrupa_processor(apart, planned, STATE, 1, processor, &place), 0, 0);
+    EXPECT(processor[0] == 4 && processor[1] == 1 && processor[2] == 4);
+    ANSWERS(zeldrupa_plan(LENT(wrong), WORK, LENT(out), &place), ZELDRUPA_SHEET_OUT_OF_TURN, 9);
+    ANSWERS(zeldrupa_plan(wrong, 8, WORK, LENT(out), &place), ZELDRUPA_CUT_SHEET, 6);
+    stored[7] = 0;
+    ANSWERS(zeldrupa_plan(stored, length, WORK, LENT(out), &place), ZELDRUPA_RANGE, 6);
+}
+
 /* Formulas: the weight is the place. */
 static void weights(void)
 {
@@ -247,7 +277,7 @@ static void loads(const char *folder)
 {
     static uint8_t stored[64], out[ZELDRUPA_LONGEST_SHEET];
     static uint16_t tasks[512], links[4096];
-    uint32_t board[4];
+    uint32_t board[5];
     size_t length = read_file(folder, "load-small.sheet", stored, sizeof stored);
     memset(out, 0xAA, sizeof out);
     ANSWERS(zeldrupa_generate(3, 3, 6, 2, 100, WORK, LENT(out), &place), 0, 36);
@@ -283,6 +313,7 @@ int main(int count, char **arguments)
         refusals();
         bare_board();
         free_link(folder);
+        unpacking(folder);
         weights();
         loads(folder);
     }

@@ -10,11 +10,12 @@ use Rattle.numbers.proofs.Laws.{numberAt-append, number-of-bytes}
 use Rattle.sheet.specs.Sheet.{Sheet, Task, Link, noTask, noLink, taskCount, linkCount, workOf, storeOf, sourceOf, targetOf, costOf, bytesOf}
 use Rattle.folds.specs.Answers.{value}
 use Rattle.sheet.specs.Format.{readForm}
+use Rattle.sheet.specs.Sizes.{linkSize, frontOf, middleOf}
 use Rattle.sheet.specs.Tables.{Ranged}
 use Rattle.sheet.specs.Writing.{boardBytes, taskCommand, linkCommand, taskBytes, linkBytes, sheetBytes}
+use Rattle.sheet.proofs.Fronts.{board-length}
 use Rattle.sheet.proofs.Rounds.{bytes-again, read-ranged, task-bytes-length}
 use Rattle.admission.specs.Fields.{workAt, storeAt, sourceAt, targetAt, costAt, bytesAt, Fields}
-use Rattle.admission.specs.Views.{frontOf}
 
 -- a number behind some bytes, and one byte
 module _ (p b : List ℕ) (i j : ℕ) (e : j ≡ length p + i) where
@@ -65,34 +66,38 @@ link-bytes-length (l ∷ ls) = omega (arith, link-bytes-length ls)
 
 module _ (s : Sheet) where
   abbrev front : List ℕ
-  front = boardBytes (s .processors) (s .limit)
+  front = boardBytes (s .processors) (s .limit) (s .unpacking)
+
+  front-long : length front ≡ frontOf s
+  front-long = board-length (s .processors) (s .limit) (s .unpacking)
 
   abbrev tail : List ℕ
   tail = linkBytes (s .links) ++ 0x51 ∷ []
 
   -- past the board, and past the tasks
-  past-board : (i j : ℕ) → j ≡ 6 + i → numberAt 2 (sheetBytes s) j ≡ numberAt 2 (taskBytes (s .tasks) ++ tail) i
+  past-board : (i j : ℕ) → j ≡ frontOf s + i → numberAt 2 (sheetBytes s) j ≡ numberAt 2 (taskBytes (s .tasks) ++ tail) i
   unfolding sheetBytes
-  past-board i j e = behind front (taskBytes (s .tasks) ++ tail) i j e
+  past-board i j e = behind front (taskBytes (s .tasks) ++ tail) i j (omega (arith, front-long))
 
-  past-tasks : (i j : ℕ) → j ≡ 6 + 5 * taskCount s + i → numberAt 2 (sheetBytes s) j ≡ numberAt 2 tail i
+  past-tasks : (i j : ℕ) → j ≡ middleOf s + i → numberAt 2 (sheetBytes s) j ≡ numberAt 2 tail i
   unfolding taskCount
   past-tasks i j e =
       past-board (length (taskBytes (s .tasks)) + i) j (omega (arith, task-bytes-length (s .tasks))) ∙
       behind (taskBytes (s .tasks)) tail i (length (taskBytes (s .tasks)) + i) refl
 
-  byte-past-tasks : (i j : ℕ) → j ≡ 6 + 5 * taskCount s + i → getD (sheetBytes s) j 0 ≡ getD tail i 0
+  byte-past-tasks : (i j : ℕ) → j ≡ middleOf s + i → getD (sheetBytes s) j 0 ≡ getD tail i 0
   unfolding sheetBytes taskCount
   byte-past-tasks i j e =
-      byte-behind front (taskBytes (s .tasks) ++ tail) (length (taskBytes (s .tasks)) + i) j (omega (arith, task-bytes-length (s .tasks))) ∙
+      byte-behind front (taskBytes (s .tasks) ++ tail) (length (taskBytes (s .tasks)) + i) j (omega (arith, front-long, task-bytes-length (s .tasks))) ∙
       byte-behind (taskBytes (s .tasks)) tail i (length (taskBytes (s .tasks)) + i) refl
 
   -- the links end inside
-  sheet-long : frontOf + 5 * taskCount s + 7 * linkCount s ≤ length (sheetBytes s)
+  sheet-long : middleOf s + linkSize * linkCount s ≤ length (sheetBytes s)
   unfolding sheetBytes taskCount linkCount
   sheet-long =
       omega (
         arith,
+        front-long,
         length-append front (taskBytes (s .tasks) ++ tail),
         length-append (taskBytes (s .tasks)) tail,
         length-append (linkBytes (s .links)) (0x51 ∷ []),
@@ -100,21 +105,21 @@ module _ (s : Sheet) where
         link-bytes-length (s .links),
       )
 
-  pub written-fields : Ranged s → Fields s (sheetBytes s) frontOf (frontOf + 5 * taskCount s)
+  pub written-fields : Ranged s → Fields s (sheetBytes s) (frontOf s) (middleOf s)
   unfolding taskCount linkCount workOf storeOf sourceOf targetOf costOf bytesOf
   written-fields h =
       record {
         behind = refl;
         inside = sheet-long;
-        work = λ t l. past-board (1 + 5 * t) (workAt frontOf t) (omega arith) ∙ work-at (s .tasks) tail t l (h .works t l);
-        store = λ t l. past-board (3 + 5 * t) (storeAt frontOf t) (omega arith) ∙ store-at (s .tasks) tail t l (h .stores t l);
-        source = λ i l. byte-past-tasks (1 + 7 * i) (sourceAt (frontOf + 5 * taskCount s) i) (omega arith) ∙ source-at (s .links) (0x51 ∷ []) i l;
-        target = λ i l. byte-past-tasks (2 + 7 * i) (targetAt (frontOf + 5 * taskCount s) i) (omega arith) ∙ target-at (s .links) (0x51 ∷ []) i l;
-        cost = λ i l. past-tasks (3 + 7 * i) (costAt (frontOf + 5 * taskCount s) i) (omega arith) ∙ cost-at (s .links) (0x51 ∷ []) i l (h .costs i l);
-        bytes = λ i l. past-tasks (5 + 7 * i) (bytesAt (frontOf + 5 * taskCount s) i) (omega arith) ∙ bytes-at (s .links) (0x51 ∷ []) i l (h .sizes i l);
+        work = λ t l. past-board (1 + 5 * t) (workAt (frontOf s) t) (omega arith) ∙ work-at (s .tasks) tail t l (h .works t l);
+        store = λ t l. past-board (3 + 5 * t) (storeAt (frontOf s) t) (omega arith) ∙ store-at (s .tasks) tail t l (h .stores t l);
+        source = λ i l. byte-past-tasks (1 + 7 * i) (sourceAt (middleOf s) i) (omega arith) ∙ source-at (s .links) (0x51 ∷ []) i l;
+        target = λ i l. byte-past-tasks (2 + 7 * i) (targetAt (middleOf s) i) (omega arith) ∙ target-at (s .links) (0x51 ∷ []) i l;
+        cost = λ i l. past-tasks (3 + 7 * i) (costAt (middleOf s) i) (omega arith) ∙ cost-at (s .links) (0x51 ∷ []) i l (h .costs i l);
+        bytes = λ i l. past-tasks (5 + 7 * i) (bytesAt (middleOf s) i) (omega arith) ∙ bytes-at (s .links) (0x51 ∷ []) i l (h .sizes i l);
       }
 
 -- so they do in any bytes that a sheet was read from
-pub fields-read : (b : List ℕ) (s : Sheet) → ((k : ℕ) → getD b k 0 < 256) → readForm b ≡ value s → Fields s b frontOf (frontOf + 5 * taskCount s)
+pub fields-read : (b : List ℕ) (s : Sheet) → ((k : ℕ) → getD b k 0 < 256) → readForm b ≡ value s → Fields s b (frontOf s) (middleOf s)
 fields-read b s small h =
-    subst (λ (x : List ℕ). Fields s x frontOf (frontOf + 5 * taskCount s)) (bytes-again b s small h) (written-fields s (read-ranged b s small h .ranged))
+    subst (λ (x : List ℕ). Fields s x (frontOf s) (middleOf s)) (bytes-again b s small h) (written-fields s (read-ranged b s small h .ranged))

@@ -5,32 +5,33 @@ use mathlib.Core.List.{List}
 use lib.ListN.{length, getD}
 use Rattle.numbers.specs.Number.{numberAt}
 use Rattle.sheet.specs.Sheet.{Sheet, taskCount, linkCount, workOf, storeOf, sourceOf, targetOf, costOf, bytesOf}
+use Rattle.sheet.specs.Sizes.{taskSize, linkSize}
 use Rattle.sheet.specs.Tables.{Ranged}
 use Rattle.admission.specs.declared.view.View.{View}
 
 -- the tasks begin at the offset `front`
 abbrev pub workAt : ℕ → ℕ → ℕ
-workAt front t = front + 1 + 5 * t
+workAt front t = front + 1 + taskSize * t
 
 abbrev pub storeAt : ℕ → ℕ → ℕ
-storeAt front t = front + 3 + 5 * t
+storeAt front t = front + 3 + taskSize * t
 
 -- the links begin at the offset `middle`
 abbrev pub sourceAt : ℕ → ℕ → ℕ
-sourceAt middle l = middle + 1 + 7 * l
+sourceAt middle l = middle + 1 + linkSize * l
 
 abbrev pub targetAt : ℕ → ℕ → ℕ
-targetAt middle l = middle + 2 + 7 * l
+targetAt middle l = middle + 2 + linkSize * l
 
 abbrev pub costAt : ℕ → ℕ → ℕ
-costAt middle l = middle + 3 + 7 * l
+costAt middle l = middle + 3 + linkSize * l
 
 abbrev pub bytesAt : ℕ → ℕ → ℕ
-bytesAt middle l = middle + 5 + 7 * l
+bytesAt middle l = middle + 5 + linkSize * l
 
 pub record Fields (s : Sheet) (sheet : List ℕ) (front middle : ℕ) : Type 0 where
-  pub behind : middle ≡ front + 5 * taskCount s
-  pub inside : middle + 7 * linkCount s ≤ length sheet
+  pub behind : middle ≡ front + taskSize * taskCount s
+  pub inside : middle + linkSize * linkCount s ≤ length sheet
   pub work : (t : ℕ) → t < taskCount s → numberAt 2 sheet (workAt front t) ≡ workOf s t
   pub store : (t : ℕ) → t < taskCount s → numberAt 2 sheet (storeAt front t) ≡ storeOf s t
   pub source : (l : ℕ) → l < linkCount s → getD sheet (sourceAt middle l) 0 ≡ sourceOf s l
@@ -43,8 +44,9 @@ pub record Bounded (v : View) : Type 0 where
   pub few-processors : v .processors ≤ 16
   pub few-tasks : v .tasks ≤ 256
   pub few-links : v .links ≤ 1024
+  pub unpacks : v .unpacking < 65536
   pub near : v .front ≤ 65536
-  pub behind : v .middle ≡ v .front + 5 * v .tasks
+  pub behind : v .middle ≡ v .front + taskSize * v .tasks
 
 -- the sheet s, seen by v, in these bytes
 pub record Known (s : Sheet) (sheet : List ℕ) (v : View) : Type 0 where
@@ -54,6 +56,7 @@ pub record Known (s : Sheet) (sheet : List ℕ) (v : View) : Type 0 where
   pub tasks : taskCount s ≡ v .tasks
   pub links : linkCount s ≡ v .links
   pub limited : s .limit ≡ v .limit
+  pub unpacked : s .unpacking ≡ v .unpacking
 
 -- some sheet is seen by v in these bytes
 pub record Seen (sheet : List ℕ) (v : View) : Type 0 where

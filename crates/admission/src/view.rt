@@ -4,13 +4,13 @@ ghost use Prim.Native.Nat.{_<_};
 ghost use Rattle.sheet.specs.Tables.{Loaded};
 ghost use Rattle.admission.specs.Fields.{workAt, storeAt, sourceAt, targetAt, costAt, Bounded};
 ghost use Rattle.admission.specs.Views.{ViewIs};
-
-// The least offset of a task: behind the board.
-pub const FRONT: usize = 6;
+use sheet::LINK_SIZE;
+use sheet::TASK_SIZE;
 
 pub struct View {
     pub processors: usize,
     pub limit: usize,
+    pub unpacking: usize,
     pub tasks: usize,
     pub links: usize,
     pub front: usize,
@@ -23,7 +23,7 @@ impl View {
         requires { ⌜ Bounded self × (t < 65536) ⌝ }
         ensures { λ r. ⌜ r ≡ workAt (self .front) t ⌝ }
     {
-        self.front + 1 + 5 * t
+        self.front + 1 + TASK_SIZE * t
     }
 
     // Where the store of task t stands.
@@ -31,7 +31,7 @@ impl View {
         requires { ⌜ Bounded self × (t < 65536) ⌝ }
         ensures { λ r. ⌜ r ≡ storeAt (self .front) t ⌝ }
     {
-        self.front + 3 + 5 * t
+        self.front + 3 + TASK_SIZE * t
     }
 
     // Where the source of link l stands.
@@ -39,7 +39,7 @@ impl View {
         requires { ⌜ Bounded self × (l < 65536) ⌝ }
         ensures { λ r. ⌜ r ≡ sourceAt (self .middle) l ⌝ }
     {
-        self.middle + 1 + 7 * l
+        self.middle + 1 + LINK_SIZE * l
     }
 
     // Where the target of link l stands.
@@ -47,7 +47,7 @@ impl View {
         requires { ⌜ Bounded self × (l < 65536) ⌝ }
         ensures { λ r. ⌜ r ≡ targetAt (self .middle) l ⌝ }
     {
-        self.middle + 2 + 7 * l
+        self.middle + 2 + LINK_SIZE * l
     }
 
     // Where the cost of link l stands; its bytes stand two behind.
@@ -55,7 +55,7 @@ impl View {
         requires { ⌜ Bounded self × (l < 65536) ⌝ }
         ensures { λ r. ⌜ r ≡ costAt (self .middle) l ⌝ }
     {
-        self.middle + 3 + 7 * l
+        self.middle + 3 + LINK_SIZE * l
     }
 }
 
@@ -65,12 +65,15 @@ pub fn of_tables(work: &[u32]) -> View
     ensures { λ v. ⌜ ViewIs (now (work .entry)) v ⌝ }
 {
     let tasks = sheet::tables::tasks(work);
+    let unpacking = sheet::tables::unpacking(work);
+    let front = sheet::front(unpacking);
     View {
         processors: sheet::tables::processors(work),
         limit: sheet::tables::limit(work),
+        unpacking,
         tasks,
         links: sheet::tables::links(work),
-        front: FRONT,
-        middle: FRONT + 5 * tasks,
+        front,
+        middle: front + TASK_SIZE * tasks,
     }
 }

@@ -7,7 +7,8 @@ use native.Mathlib.Decide.{ℕ-discrete}
 use lib.ListN.{length, getD, set, length-set}
 use lib.Seq.{getD-set-same, getD-set-other}
 use Rattle.arrivals.specs.declared.Starts.{Starts}
-use Rattle.arrivals.specs.Lanes.{Steps}
+use Rattle.planner.specs.Schedule.{latestStart}
+use Rattle.arrivals.specs.Lanes.{Steps, Soon}
 
 pub record Halfway (g : ℕ → ℕ → ℕ) (v : List ℕ) (k : ℕ) (w : List ℕ) : Type 0 where
   pub long : length w ≡ 16
@@ -33,3 +34,7 @@ halfway-more {g} {v} {w} {k} {x} h l e =
 
 pub halfway-end : {g : ℕ → ℕ → ℕ} {q r : Starts} {k : ℕ} → Halfway g (q .at) k (r .at) → 16 ≤ k → Steps g q r
 halfway-end h l = record { on = λ j m. h .done j (omega arith) }
+
+-- a lane that is not done is as low as it was
+pub halfway-soon : {g : ℕ → ℕ → ℕ} {q r : Starts} {k : ℕ} → Halfway g (q .at) k (r .at) → k < 16 → Soon q → getD (r .at) k 0 ≤ latestStart
+halfway-soon {k = k} h l low = omega (arith, h .left k (omega arith), low .soon k l)

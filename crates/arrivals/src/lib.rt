@@ -6,17 +6,16 @@ ghost use lib.ListN.{length, getD};
 ghost use lib.Dec.{eqb, ltb};
 ghost use Rattle.folds.specs.Folds.{pick};
 ghost use Rattle.sheet.specs.Sheet.{taskCount, linkCount, sourceOf, targetOf};
-ghost use Rattle.sheet.specs.Times.{linkTime};
 ghost use Rattle.sheet.specs.Tables.{sheetIn, Loaded};
-ghost use Rattle.planner.specs.Schedule.{put, placed, placeOf, finishOf};
-ghost use Rattle.planner.specs.Placing.{ready, endOf, startBy, startOn};
+ghost use Rattle.planner.specs.Schedule.{put, latestFinish, latestStart, placed};
+ghost use Rattle.planner.specs.Placing.{ready, readyArrival, endOf, startBy, startFrom};
 ghost use Rattle.schedule.specs.Layout.{scheduleIn};
 ghost use Rattle.adjacency.specs.Frames.{Only};
 ghost use Rattle.adjacency.specs.Chains.{Chained};
 ghost use Rattle.adjacency.specs.declared.End.the-variants.{Target};
 ghost use Rattle.arrivals.specs.Layout.{seenFrom, endsFrom, waitingFrom, turnBytesFrom, packedFrom, keptLength};
 ghost use Rattle.arrivals.specs.Kept.{Single, Gathered, Counted, SurveyedTo, Surveyed, Ends, Kept};
-ghost use Rattle.arrivals.specs.Lanes.{Lanes, Steps, startPast, Started, Early};
+ghost use Rattle.arrivals.specs.Lanes.{Lanes, Steps, startPast, startUnpacked, startBeyond, freshPast, Soon, Started, Early};
 ghost use Rattle.arrivals.specs.Reach.{further};
 ghost use Rattle.arrivals.specs.Steps.{countWords, upTo, Beside, Placeable, Landed, Released, Enough, GatheredTo};
 use adjacency::End;
@@ -186,7 +185,7 @@ fn way(source: usize, k: usize, time: u32) -> u32
 
 // A start x on k, past one link more.
 fn start_past(x: u32, k: usize, source: usize, finish: u32, time: u32) -> u32
-    requires { ⌜ (finish ≤ 33553920) × (time ≤ 65535) ⌝ }
+    requires { ⌜ (finish ≤ latestFinish) × (time ≤ 65535) ⌝ }
     ensures { λ r. ⌜ r ≡ startPast source finish time k x ⌝ }
 {
     later(x, finish + way(source, k, time))
@@ -194,7 +193,7 @@ fn start_past(x: u32, k: usize, source: usize, finish: u32, time: u32) -> u32
 
 // The starts on all processors, past one link more: the loop is a few vector instructions.
 fn starts_past(starts: Starts, source: usize, finish: u32, time: u32) -> Starts
-    requires { ⌜ (finish ≤ 33553920) × (time ≤ 65535) ⌝ }
+    requires { ⌜ (finish ≤ latestFinish) × (time ≤ 65535) ⌝ }
     ensures { λ r. ⌜ Steps (startPast source finish time) starts r ⌝ }
 {
     let mut r = starts;
@@ -206,16 +205,43 @@ fn starts_past(starts: Starts, source: usize, finish: u32, time: u32) -> Starts
     r
 }
 
-// Past link l, whose source is placed.
-fn starts_with(w: &[u32], starts: Starts, l: usize) -> Starts
+// A start x on k, past one link more, whose message is there at `reach` and is received unless it comes from k itself; without a branch.
+fn start_unpacked(x: u32, k: usize, source: usize, reach: u32, unpacking: u32) -> u32
+    requires { ⌜ (x ≤ latestStart) × (reach ≤ latestStart) × (unpacking ≤ 65535) ⌝ }
+    ensures { λ r. ⌜ r ≡ startUnpacked source reach unpacking k x ⌝ }
+{
+    let y = later(x, reach) + unpacking;
+    if source == k { x } else { y }
+}
+
+// The starts on all processors, past one link more, where receives take time.
+fn starts_unpacked(starts: Starts, source: usize, reach: u32, unpacking: u32) -> Starts
+    requires { ⌜ Soon starts × (reach ≤ latestStart) × (unpacking ≤ 65535) ⌝ }
+    ensures { λ r. ⌜ Steps (startUnpacked source reach unpacking) starts r ⌝ }
+{
+    let mut r = starts;
+    let mut k: usize = 0;
+    while k < 16 {
+        r.at[k] = start_unpacked(r.at[k], k, source, reach, unpacking);
+        k += 1;
+    }
+    r
+}
+
+// Past link l, whose source is placed; the unpacking time is the same for the whole walk.
+fn starts_with(w: &[u32], starts: Starts, unpacking: u32, l: usize) -> Starts
     requires { ⌜ Loaded (now w) × (l < linkCount (sheetIn (now w))) ⌝ }
-    requires { ⌜ Early (scheduleIn (now w)) ⌝ }
-    ensures { λ r. ⌜ Steps (startPast (placeOf (scheduleIn (now (w .entry))) (sourceOf (sheetIn (now (w .entry))) l)) (finishOf (scheduleIn (now (w .entry))) (sourceOf (sheetIn (now (w .entry))) l)) (linkTime (sheetIn (now (w .entry))) l)) starts r ⌝ }
+    requires { ⌜ Early (scheduleIn (now w)) × Soon starts × (unpacking ≡ sheetIn (now w) .unpacking) ⌝ }
+    ensures { λ r. ⌜ Steps (startBeyond (sheetIn (now (w .entry))) (scheduleIn (now (w .entry))) l) starts r ⌝ }
 {
     let u = tables::source(w, l);
     let k = schedule::place(w, u);
     let f = workspace::narrow(schedule::finish(w, u));
-    starts_past(starts, k, f, workspace::narrow(tables::cost(w, l)))
+    let time = workspace::narrow(tables::cost(w, l));
+    if unpacking == 0 {
+        return starts_past(starts, k, f, time);
+    }
+    starts_unpacked(starts, k, f + time, unpacking)
 }
 
 // Where nothing has to be waited for: the processors' ends.
@@ -243,11 +269,12 @@ fn survey_links(w: &[u32], kept: &mut [u32], t: usize) -> Starts
     ensures { λ r. ⌜ Only turnBytesFrom packedFrom (now (kept .entry)) (now (kept .exit)) × Surveyed (sheetIn (now (w .entry))) (scheduleIn (now (w .entry))) t (now (kept .exit)) × Started (now (w .entry)) t r ⌝ }
 {
     let n = workspace::word(kept, t);
+    let unpacking = workspace::narrow(tables::unpacking(w));
     let mut starts = begun(kept);
     let mut l = adjacency::first(w, End::Target, t);
     let mut i: usize = 0;
     while i < n {
-        starts = starts_with(w, starts, l);
+        starts = starts_with(w, starts, unpacking, l);
         survey_link(w, kept, t, l);
         l = adjacency::next(w, End::Target, l);
         i += 1;
@@ -277,11 +304,11 @@ fn start_by(w: &[u32], k: usize, l: usize) -> usize
     chosen(at < 16, schedule::finish(w, u) + c, 0)
 }
 
-// By its placed predecessors t starts on k before a limit: the walk ends where it is told that it does not, which is mostly soon.
+// By its placed predecessors a partly ready t starts on k before a limit: the walk ends where it is told that it does not, which is mostly soon.
 pub fn starts_before(w: &[u32], kept: &[u32], t: usize, k: usize, limit: usize) -> bool
     requires { ⌜ Kept (now w) (now kept) ⌝ }
     requires { ⌜ (t < taskCount (sheetIn (now w))) × (k < 16) ⌝ }
-    ensures { λ r. ⌜ r ≡ ltb (startOn (sheetIn (now (w .entry))) (scheduleIn (now (w .entry))) t k) limit ⌝ }
+    ensures { λ r. ⌜ r ≡ ltb (startFrom (sheetIn (now (w .entry))) (scheduleIn (now (w .entry))) t k (endOf (sheetIn (now (w .entry))) (scheduleIn (now (w .entry))) k)) limit ⌝ }
 {
     let n = workspace::word(kept, t);
     let mut start = workspace::word(kept, ENDS + k);
@@ -296,6 +323,34 @@ pub fn starts_before(w: &[u32], kept: &[u32], t: usize, k: usize, limit: usize) 
         i += 1;
     }
     start < limit
+}
+
+// The time x of a fresh processor, past link l: its message is received, but none comes while its source is not placed.
+fn unpacked_with(w: &[u32], x: usize, unpacking: usize, l: usize) -> usize
+    requires { ⌜ Loaded (now w) × (l < linkCount (sheetIn (now w))) ⌝ }
+    requires { ⌜ (x ≤ latestStart) × (unpacking ≡ sheetIn (now w) .unpacking) ⌝ }
+    ensures { λ r. ⌜ r ≡ freshPast (sheetIn (now (w .entry))) (scheduleIn (now (w .entry))) (targetOf (sheetIn (now (w .entry))) l) l x ⌝ }
+{
+    let u = tables::source(w, l);
+    let reach = schedule::finish(w, u) + tables::cost(w, l);
+    let y = numbers::later(x, reach) + unpacking;
+    chosen(schedule::place(w, u) < 16, y, x)
+}
+
+// When t has unpacked all its messages on a fresh processor.
+pub fn fresh_start(w: &[u32], t: usize, unpacking: usize) -> usize
+    requires { ⌜ Loaded (now w) × Chained Target (sheetIn (now w)) (now w) ⌝ }
+    requires { ⌜ (t < taskCount (sheetIn (now w))) × (unpacking ≡ sheetIn (now w) .unpacking) × Early (scheduleIn (now w)) ⌝ }
+    ensures { λ r. ⌜ (r ≡ readyArrival (sheetIn (now (w .entry))) (scheduleIn (now (w .entry))) t) × (r ≤ latestStart) ⌝ }
+{
+    let m = tables::links(w);
+    let mut x: usize = 0;
+    let mut l = adjacency::first(w, End::Target, t);
+    while l < m {
+        x = unpacked_with(w, x, unpacking, l);
+        l = adjacency::next(w, End::Target, l);
+    }
+    x
 }
 
 // Link l is gathered at its target.

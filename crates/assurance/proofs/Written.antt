@@ -23,7 +23,7 @@ use Rattle.admission.specs.Unsplit.{insideOk, acrossOk, linkOk}
 use Rattle.admission.proofs.Splits.{right-links}
 use Rattle.admission.proofs.Weights.{programme-or}
 use Rattle.admission.proofs.Messages.{home-is}
-use Rattle.planner.specs.Schedule.{Schedule, nowhere, empty, placeOf, finishOf, stands}
+use Rattle.planner.specs.Schedule.{Schedule, latestFinish, nowhere, empty, placeOf, finishOf, stands}
 use Rattle.planner.specs.Placing.{storeBy, bytesBy, storeOn}
 use Rattle.planner.specs.Planner.{brings, takesAway, receiveOf, sendOf, blockOf, blocks, programme, claimOf, bundleOf}
 use Rattle.planner.proofs.Schedules.{Built, built, placing, tally, Plan, plan-of, Whole, empty-free, empty-fair}
@@ -177,5 +177,5 @@ module _ (s : Sheet) (proper : Proper s) {φ : Schedule} {ts : List ℕ} (how : 
               few = omega (arith, programmes, plan .fair .opened);
               known = each-listed (Each (Known s)) (φ .opened) (programme s φ) (λ k h. subst (λ o. Each (Known s) (blocks s φ k o)) (sym (plan .order)) (known-blocks k ts (each-below how)));
             };
-        claimed = omega (arith, greatest-le (taskCount s) (finishOf φ) 83884800 (λ u l. finish-small s proper sized how u));
+        claimed = omega (arith, greatest-le (taskCount s) (finishOf φ) latestFinish (λ u l. finish-small s proper sized how u));
       }

@@ -17,6 +17,8 @@ use crate::ending::Outcome;
 use generator::bytes;
 use generator::loads;
 use levelling::open;
+use sheet::LINK_SIZE;
+use sheet::TASK_SIZE;
 use sheet::tables;
 use sheet_reader::Reading;
 use sheet_writer::unload;
@@ -26,6 +28,7 @@ use workspace::LIMIT;
 use workspace::LINK_COUNT;
 use workspace::PROCESSORS;
 use workspace::TASK_COUNT;
+use workspace::UNPACKING;
 
 // The level words, at the front of `out`.
 fn copy_levels(w: &[u32], out: &mut [u32])
@@ -64,22 +67,24 @@ pub fn levels(sheet: &[u8], work: &mut [u32], out: &mut [u32]) -> Outcome
 pub fn write(
     processors: u8,
     limit: u32,
+    unpacking: u16,
     tasks: &[u16],
     links: &[u16],
     work: &mut [u32],
     out: &mut [u8],
 ) -> Outcome
     requires { ⌜ fixed ≤ length (now work) ⌝ }
-    ensures { λ o. ⌜ PartIs (andThen (readSheet (valueBytes processors limit (now (tasks .entry)) (now (links .entry)))) (λ s. fitting (length (now (out .entry))) (valueBytes processors limit (now (tasks .entry)) (now (links .entry))))) (now (work .entry)) (now (work .exit)) (now (out .entry)) (now (out .exit)) o ⌝ }
+    ensures { λ o. ⌜ PartIs (andThen (readSheet (valueBytes processors limit unpacking (now (tasks .entry)) (now (links .entry)))) (λ s. fitting (length (now (out .entry))) (valueBytes processors limit unpacking (now (tasks .entry)) (now (links .entry))))) (now (work .entry)) (now (work .exit)) (now (out .entry)) (now (out .exit)) o ⌝ }
 {
-    match open::load(processors, limit, tasks, links, work) {
+    match open::load(processors, limit, unpacking, tasks, links, work) {
         Reading::Refused(r, at) => Outcome::Refused(r, at),
         Reading::Read => {
-            let need = 7 + 5 * (tasks.len() / 2) + 7 * (links.len() / 4);
+            let start = sheet::front(unpacking as usize);
+            let need = start + TASK_SIZE * (tasks.len() / 2) + LINK_SIZE * (links.len() / 4) + 1;
             if out.len() < need {
                 return Outcome::Refused(12, need);
             }
-            writer::put_sheet(out, processors, limit, tasks, links);
+            writer::put_sheet(out, processors, limit, unpacking, tasks, links);
             Outcome::Done(need)
         }
     }
@@ -110,12 +115,18 @@ pub fn generate(
     Outcome::Done(need)
 }
 
-// Processors, limit, tasks and links.
-fn put_board(w: &[u32], board: &mut [u32; 4])
+// Processors, limit, tasks, links and the unpacking time.
+fn put_board(w: &[u32], board: &mut [u32; 5])
     requires { ⌜ Loaded (now w) ⌝ }
     ensures { λ _. ⌜ now (board .exit) ≡ boardOf (sheetIn (now (w .entry))) ⌝ }
 {
-    *board = [w[PROCESSORS], w[LIMIT], w[TASK_COUNT], w[LINK_COUNT]];
+    *board = [
+        w[PROCESSORS],
+        w[LIMIT],
+        w[TASK_COUNT],
+        w[LINK_COUNT],
+        w[UNPACKING],
+    ];
 }
 
 // The tables of a sheet.
@@ -124,7 +135,7 @@ pub fn read(
     work: &mut [u32],
     tasks: &mut [u16],
     links: &mut [u16],
-    board: &mut [u32; 4],
+    board: &mut [u32; 5],
 ) -> Outcome
     requires { ⌜ fixed ≤ length (now work) ⌝ }
     ensures { λ o. ⌜ SheetIs (andThen (readSheet (now (sheet .entry))) (tabled (length (now (tasks .entry))) (length (now (links .entry))))) (now (work .entry)) (now (work .exit)) (now (tasks .entry)) (now (tasks .exit)) (now (links .entry)) (now (links .exit)) (now (board .entry)) (now (board .exit)) o ⌝ }

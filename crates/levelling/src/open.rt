@@ -34,11 +34,18 @@ pub fn read(bytes: &[u8], w: &mut [u32]) -> Reading
 }
 
 // The same for the bytes that these values would have.
-pub fn load(processors: u8, limit: u32, tasks: &[u16], links: &[u16], w: &mut [u32]) -> Reading
+pub fn load(
+    processors: u8,
+    limit: u32,
+    unpacking: u16,
+    tasks: &[u16],
+    links: &[u16],
+    w: &mut [u32],
+) -> Reading
     requires { ⌜ fixed ≤ length (now w) ⌝ }
-    ensures { λ r. ⌜ OpenIs (readSheet (valueBytes processors limit (now (tasks .entry)) (now (links .entry)))) (now (w .entry)) (now (w .exit)) r ⌝ }
+    ensures { λ r. ⌜ OpenIs (readSheet (valueBytes processors limit unpacking (now (tasks .entry)) (now (links .entry)))) (now (w .entry)) (now (w .exit)) r ⌝ }
 {
-    match values::load(processors, limit, tasks, links, w) {
+    match values::load(processors, limit, unpacking, tasks, links, w) {
         Reading::Refused(r, at) => Reading::Refused(r, at),
         Reading::Read => level(w),
     }

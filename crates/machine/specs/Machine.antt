@@ -46,7 +46,7 @@ waits σ (receive l) = stampOf σ l
 unfoldable pub stated : Sheet → Bundle → ℕ → Command → ℕ
 stated s b k (run t) = workOf s t
 stated s b k (send l) = linkTime s l
-stated s b k (receive l) = 0
+stated s b k (receive l) = s .unpacking
 
 -- what a command of the time d adds to the clock: a message is under way while its sender goes on
 abbrev pub takes : Command → ℕ → ℕ

@@ -16,7 +16,7 @@ use Rattle.sheet.specs.Sheet.{Sheet, linkCount}
 use Rattle.sheet.specs.Tables.{sheetIn}
 use Rattle.schedule.specs.Layout.{scheduleIn}
 use Rattle.planner.specs.Schedule.{Schedule}
-use Rattle.planner.specs.Placing.{arrival, endOf, startOn, fits, holdsPredecessor, barred, spent}
+use Rattle.planner.specs.Placing.{readyArrival, endOf, startOn, fits, holdsPredecessor, barred, spent}
 use Rattle.planner.specs.Planner.{mayJoin, join, mayTake, idle, opens, mayShare, share, another, lastResort, choice}
 use Rattle.placing.specs.Ranks.{lowKey, highKey, processorOf, joinKey, idleKey, lastKey, mayBeIdle}
 use Rattle.placing.specs.Guards.{Bars, JoinBars}
@@ -31,7 +31,7 @@ module _ (s : Sheet) (σ : Schedule) (t : ℕ) where
   guard = barred s
 
   module _ (k : ℕ) where
-    pub join-key-is : {x a bars r : ℕ} {fit early may : Bool} → k < 16 → JoinBars s σ t bars → holdsPredecessor s σ t k ≡ true → x ≡ startOn s σ t k → a ≡ arrival s σ t → fit ≡ fits s σ t k → early ≡ both (not (eqb k bars)) (ltb x a)
+    pub join-key-is : {x a bars r : ℕ} {fit early may : Bool} → k < 16 → JoinBars s σ t bars → holdsPredecessor s σ t k ≡ true → x ≡ startOn s σ t k → a ≡ readyArrival s σ t → fit ≡ fits s σ t k → early ≡ both (not (eqb k bars)) (ltb x a)
         → may ≡ both fit early → r ≡ pick may (lowKey x k) 0 → r ≡ joinKey s σ t k
     unfolding mayJoin joinKey
     join-key-is {x} {a} {bars} h b held ex ea ef ee em er =
@@ -42,15 +42,15 @@ module _ (s : Sheet) (σ : Schedule) (t : ℕ) where
     unfolding mayJoin joinKey
     join-none e = rw e
 
-    pub idle-late : {x a : ℕ} → x ≡ endOf s σ k → a ≡ arrival s σ t → a < x → 0 ≡ idleKey s σ t k
+    pub idle-late : {x a : ℕ} → x ≡ endOf s σ k → a ≡ readyArrival s σ t → a < x → 0 ≡ idleKey s σ t k
     unfolding mayTake idleKey
     idle-late {x} {a} ex ea l = sym (rw (← ex, ← ea, lt-leb x a l, both-false (fits s σ t k)))
 
     pub idle-waits : spent s σ t k ≡ false → 0 ≡ idleKey s σ t k
     unfolding mayTake idleKey
-    idle-waits e = sym (rw (e, both-false (leb (endOf s σ k) (arrival s σ t)), both-false (fits s σ t k)))
+    idle-waits e = sym (rw (e, both-false (leb (endOf s σ k) (readyArrival s σ t)), both-false (fits s σ t k)))
 
-    module _ {x a : ℕ} (ex : x ≡ endOf s σ k) (ea : a ≡ arrival s σ t) (l : x ≤ a) where
+    module _ {x a : ℕ} (ex : x ≡ endOf s σ k) (ea : a ≡ readyArrival s σ t) (l : x ≤ a) where
       take-is : mayTake s guard σ t k ≡ both (fits s σ t k) (spent s σ t k)
       unfolding mayTake
       take-is = rw (← ex, ← ea, le-leb x a l)
@@ -82,7 +82,7 @@ module _ (s : Sheet) (σ : Schedule) (t : ℕ) where
     last-is small e = least-by-key (σ .opened) few (fits s σ t) (startOn s σ t) small e
 
   -- the amended step
-  pub share-is : (k : ℕ) {x a bars : ℕ} {fit early may : Bool} → k < 16 → Bars s σ t bars → x ≡ startOn s σ t k → a ≡ arrival s σ t → fit ≡ fits s σ t k → early ≡ both (not (eqb k bars)) (leb x a)
+  pub share-is : (k : ℕ) {x a bars : ℕ} {fit early may : Bool} → k < 16 → Bars s σ t bars → x ≡ startOn s σ t k → a ≡ readyArrival s σ t → fit ≡ fits s σ t k → early ≡ both (not (eqb k bars)) (leb x a)
       → may ≡ both fit early → may ≡ mayShare s guard σ t k
   unfolding mayShare
   share-is k h b ex ea ef ee em = em ∙ ap₂ both ef (ee ∙ ap₂ both (ap not (b .is k h)) (ap₂ leb ex ea))
@@ -143,7 +143,7 @@ module _ (s : Sheet) (σ : Schedule) (t : ℕ) where
   choice-rest a b e = rw (← a, ← b) e
 
 -- where no processor may be idle, step 2 gives none
-module _ (w own : List ℕ) (t : ℕ) (c : Choosing w own t) {a d : ℕ} (ea : a ≡ arrival (sheetIn w) (scheduleIn w) t) (ed : d ≡ sum (linkCount (sheetIn w)) (dueBy (sheetIn w) (scheduleIn w) t All)) where
+module _ (w own : List ℕ) (t : ℕ) (c : Choosing w own t) {a d : ℕ} (ea : a ≡ readyArrival (sheetIn w) (scheduleIn w) t) (ed : d ≡ sum (linkCount (sheetIn w)) (dueBy (sheetIn w) (scheduleIn w) t All)) where
   no-key : (k : ℕ) → k < 16 → mayBeIdle own a d k ≡ false → idleKey (sheetIn w) (scheduleIn w) t k ≡ 0
   unfolding mayBeIdle
   no-key k h e = go (decLt d (getD own (waitingFrom + k) 0)) (decLt a (getD own (endsFrom + k) 0))

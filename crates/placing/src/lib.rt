@@ -8,8 +8,8 @@ ghost use lib.ListN.{getD, length};
 ghost use Rattle.folds.specs.Folds.{pick, both, either, any, sum, first, orElse};
 ghost use Rattle.sheet.specs.Sheet.{taskCount, linkCount};
 ghost use Rattle.sheet.specs.Tables.{sheetIn};
-ghost use Rattle.planner.specs.Schedule.{placed};
-ghost use Rattle.planner.specs.Placing.{arrival, endOf, startOn, fits, holdsPredecessor, barred, spent};
+ghost use Rattle.planner.specs.Schedule.{latestStart, placed};
+ghost use Rattle.planner.specs.Placing.{arrival, readyArrival, endOf, startOn, fits, holdsPredecessor, barred, spent};
 ghost use Rattle.planner.specs.Planner.{join, idle, opens, mayShare, share, another, lastResort, choice};
 ghost use Rattle.schedule.specs.Layout.{scheduleIn};
 ghost use Rattle.arrivals.specs.Layout.{sendersFrom, waitingFrom, keptLength};
@@ -251,16 +251,17 @@ fn join_bars_for(w: &[u32], kept: &[u32], t: usize, starts: Starts, u: usize) ->
     bars_for(w, kept, t, starts, u)
 }
 
-// The task for whose sake the guard applies: the first partly ready one, if its priority is higher than t's; q holds the keys.
-fn rival_of(w: &[u32], kept: &[u32], q: &[u64], t: usize) -> Found
+// The task for whose sake the guard applies: the first partly ready one, if its priority is higher than t's; q holds the keys, a is t's A.
+fn rival_of(w: &[u32], kept: &[u32], q: &[u64], t: usize, a: usize) -> Found
     requires { ⌜ Choosing (now w) (now kept) t ⌝ }
+    requires { ⌜ (a ≡ readyArrival (sheetIn (now w)) (scheduleIn (now w)) t) × (a ≤ latestStart) ⌝ }
     requires { ⌜ Keyed (sheetIn (now w)) (scheduleIn (now w)) (now q) ⌝ }
     ensures { λ r. ⌜ Rival (sheetIn (now (w .entry))) (scheduleIn (now (w .entry))) t (foundOf r) × Below (taskCount (sheetIn (now (w .entry)))) r ⌝ }
 {
     match readiness::first_partly(w, kept, q) {
         Found::Nothing => Found::Nothing,
         Found::At(u) => {
-            if readiness::priority_of(w, kept, t) < readiness::priority_of(w, kept, u) {
+            if a + schedule::level_of(w, t) < readiness::priority_of(w, kept, u) {
                 return Found::At(u);
             }
             Found::Nothing
@@ -292,10 +293,10 @@ fn join_bars_of(w: &[u32], kept: &[u32], t: usize, starts: Starts, rival: Found)
     }
 }
 
-// The key of k, which holds a predecessor of t, in step 1; a is t's arrival, x its start on k, and the guard bars one processor.
+// The key of k, which holds a predecessor of t, in step 1; a is t's A, x its start on k, and the guard bars one processor.
 fn join_key(w: &[u32], kept: &[u32], t: usize, bars: usize, a: usize, k: usize, x: usize) -> usize
     requires { ⌜ Choosing (now w) (now kept) t ⌝ }
-    requires { ⌜ (a ≡ arrival (sheetIn (now w)) (scheduleIn (now w)) t) × (k < 16) × (holdsPredecessor (sheetIn (now w)) (scheduleIn (now w)) t k ≡ true) ⌝ }
+    requires { ⌜ (a ≡ readyArrival (sheetIn (now w)) (scheduleIn (now w)) t) × (k < 16) × (holdsPredecessor (sheetIn (now w)) (scheduleIn (now w)) t k ≡ true) ⌝ }
     requires { ⌜ JoinBars (sheetIn (now w)) (scheduleIn (now w)) t bars × (x ≡ startOn (sheetIn (now w)) (scheduleIn (now w)) t k) × (x < 4294967296) ⌝ }
     ensures { λ r. ⌜ r ≡ joinKey (sheetIn (now (w .entry))) (scheduleIn (now (w .entry))) t k ⌝ }
 {
@@ -306,7 +307,7 @@ fn join_key(w: &[u32], kept: &[u32], t: usize, bars: usize, a: usize, k: usize, 
 // Step 1: join. Only where t's links come from, which are mostly fewer than the processors.
 fn join_on(w: &[u32], kept: &[u32], t: usize, starts: Starts, bars: usize, a: usize) -> Found
     requires { ⌜ Choosing (now w) (now kept) t × Started (now w) t starts ⌝ }
-    requires { ⌜ a ≡ arrival (sheetIn (now w)) (scheduleIn (now w)) t ⌝ }
+    requires { ⌜ a ≡ readyArrival (sheetIn (now w)) (scheduleIn (now w)) t ⌝ }
     requires { ⌜ JoinBars (sheetIn (now w)) (scheduleIn (now w)) t bars ⌝ }
     ensures { λ r. ⌜ (foundOf r ≡ join (sheetIn (now (w .entry))) (barred (sheetIn (now (w .entry)))) (scheduleIn (now (w .entry))) t) × Below 16 r ⌝ }
 {
@@ -324,11 +325,11 @@ fn join_on(w: &[u32], kept: &[u32], t: usize, starts: Starts, bars: usize, a: us
     processor_of(best)
 }
 
-// The key of k in step 2; a is t's arrival. Where k ends later, or more links from it wait than are due from all processors (d),
+// The key of k in step 2; a is t's A. Where k ends later, or more links from it wait than are due from all processors (d),
 // which is mostly so, nothing else is looked at.
 fn idle_key(w: &[u32], kept: &[u32], t: usize, a: usize, d: usize, dues: Counts, k: usize) -> usize
     requires { ⌜ Choosing (now w) (now kept) t ⌝ }
-    requires { ⌜ (a ≡ arrival (sheetIn (now w)) (scheduleIn (now w)) t) × (k < 16) ⌝ }
+    requires { ⌜ (a ≡ readyArrival (sheetIn (now w)) (scheduleIn (now w)) t) × (k < 16) ⌝ }
     requires { ⌜ Dues (sheetIn (now w)) (scheduleIn (now w)) t d dues ⌝ }
     ensures { λ r. ⌜ r ≡ idleKey (sheetIn (now (w .entry))) (scheduleIn (now (w .entry))) t k ⌝ }
 {
@@ -370,7 +371,7 @@ fn may_be_idle(kept: &[u32], n: usize, a: usize, d: usize) -> bool
 // Step 2 over all open processors; d is what is due from all of them.
 fn idle_among(w: &[u32], kept: &[u32], t: usize, a: usize, d: usize, dues: Counts) -> Found
     requires { ⌜ Choosing (now w) (now kept) t ⌝ }
-    requires { ⌜ a ≡ arrival (sheetIn (now w)) (scheduleIn (now w)) t ⌝ }
+    requires { ⌜ a ≡ readyArrival (sheetIn (now w)) (scheduleIn (now w)) t ⌝ }
     requires { ⌜ Dues (sheetIn (now w)) (scheduleIn (now w)) t d dues ⌝ }
     ensures { λ r. ⌜ (foundOf r ≡ idle (sheetIn (now (w .entry))) (barred (sheetIn (now (w .entry)))) (scheduleIn (now (w .entry))) t) × Below 16 r ⌝ }
 {
@@ -387,7 +388,7 @@ fn idle_among(w: &[u32], kept: &[u32], t: usize, a: usize, d: usize, dues: Count
 // Step 2: idle.
 fn idle_on(w: &[u32], kept: &[u32], t: usize, a: usize) -> Found
     requires { ⌜ Choosing (now w) (now kept) t ⌝ }
-    requires { ⌜ a ≡ arrival (sheetIn (now w)) (scheduleIn (now w)) t ⌝ }
+    requires { ⌜ a ≡ readyArrival (sheetIn (now w)) (scheduleIn (now w)) t ⌝ }
     ensures { λ r. ⌜ (foundOf r ≡ idle (sheetIn (now (w .entry))) (barred (sheetIn (now (w .entry)))) (scheduleIn (now (w .entry))) t) × Below 16 r ⌝ }
 {
     let d = due_from(w, kept, t, Senders::All);
@@ -409,7 +410,7 @@ fn may_open(w: &[u32], kept: &[u32], t: usize) -> bool
     false
 }
 
-// The open processor k may be taken where step 3 would open one; a is t's arrival, x its start on k, and the guard bars one processor.
+// The open processor k may be taken where step 3 would open one; a is t's A, x its start on k, and the guard bars one processor.
 fn may_share_on(
     w: &[u32],
     kept: &[u32],
@@ -420,7 +421,7 @@ fn may_share_on(
     x: usize,
 ) -> bool
     requires { ⌜ Choosing (now w) (now kept) t ⌝ }
-    requires { ⌜ (a ≡ arrival (sheetIn (now w)) (scheduleIn (now w)) t) × (k < 16) ⌝ }
+    requires { ⌜ (a ≡ readyArrival (sheetIn (now w)) (scheduleIn (now w)) t) × (k < 16) ⌝ }
     requires { ⌜ Bars (sheetIn (now w)) (scheduleIn (now w)) t bars × (x ≡ startOn (sheetIn (now w)) (scheduleIn (now w)) t k) ⌝ }
     ensures { λ r. ⌜ r ≡ mayShare (sheetIn (now (w .entry))) (barred (sheetIn (now (w .entry)))) (scheduleIn (now (w .entry))) t k ⌝ }
 {
@@ -428,10 +429,10 @@ fn may_share_on(
     are_both(fits_on(w, kept, t, k), early)
 }
 
-// Between steps 2 and 3: the lowest numbered open processor that starts t by its arrival.
+// Between steps 2 and 3: the lowest numbered open processor that starts t by its A.
 fn share_on(w: &[u32], kept: &[u32], t: usize, starts: Starts, bars: usize, a: usize) -> Found
     requires { ⌜ Choosing (now w) (now kept) t × Started (now w) t starts ⌝ }
-    requires { ⌜ a ≡ arrival (sheetIn (now w)) (scheduleIn (now w)) t ⌝ }
+    requires { ⌜ a ≡ readyArrival (sheetIn (now w)) (scheduleIn (now w)) t ⌝ }
     requires { ⌜ Bars (sheetIn (now w)) (scheduleIn (now w)) t bars ⌝ }
     ensures { λ r. ⌜ (foundOf r ≡ first (scheduleIn (now (w .entry)) .opened) (mayShare (sheetIn (now (w .entry))) (barred (sheetIn (now (w .entry)))) (scheduleIn (now (w .entry))) t)) × Below 16 r ⌝ }
 {
@@ -465,7 +466,7 @@ fn last_on(w: &[u32], kept: &[u32], t: usize, starts: Starts) -> Found
 // Where step 3 would open a processor: an open one that starts t as early, or else the next.
 fn share_or_open(w: &[u32], kept: &[u32], t: usize, starts: Starts, rival: Found, a: usize) -> Found
     requires { ⌜ Choosing (now w) (now kept) t × Started (now w) t starts ⌝ }
-    requires { ⌜ a ≡ arrival (sheetIn (now w)) (scheduleIn (now w)) t ⌝ }
+    requires { ⌜ a ≡ readyArrival (sheetIn (now w)) (scheduleIn (now w)) t ⌝ }
     requires { ⌜ Rival (sheetIn (now w)) (scheduleIn (now w)) t (foundOf rival) × Below (taskCount (sheetIn (now w))) rival ⌝ }
     requires { ⌜ true ≡ opens (sheetIn (now w)) (barred (sheetIn (now w))) (scheduleIn (now w)) t ⌝ }
     ensures { λ r. ⌜ (foundOf r ≡ orElse (share (sheetIn (now (w .entry))) (barred (sheetIn (now (w .entry)))) (scheduleIn (now (w .entry))) t) (another (sheetIn (now (w .entry))) (barred (sheetIn (now (w .entry)))) (scheduleIn (now (w .entry))) t)) × Below 16 r ⌝ }
@@ -480,7 +481,7 @@ fn share_or_open(w: &[u32], kept: &[u32], t: usize, starts: Starts, rival: Found
 // Steps 3 and 4, and the one before them, where steps 1 and 2 give none.
 fn without_idle(w: &[u32], kept: &[u32], t: usize, starts: Starts, rival: Found, a: usize) -> Found
     requires { ⌜ Choosing (now w) (now kept) t × Started (now w) t starts ⌝ }
-    requires { ⌜ a ≡ arrival (sheetIn (now w)) (scheduleIn (now w)) t ⌝ }
+    requires { ⌜ a ≡ readyArrival (sheetIn (now w)) (scheduleIn (now w)) t ⌝ }
     requires { ⌜ Rival (sheetIn (now w)) (scheduleIn (now w)) t (foundOf rival) × Below (taskCount (sheetIn (now w))) rival ⌝ }
     ensures { λ r. ⌜ (foundOf r ≡ orElse (share (sheetIn (now (w .entry))) (barred (sheetIn (now (w .entry)))) (scheduleIn (now (w .entry))) t) (orElse (another (sheetIn (now (w .entry))) (barred (sheetIn (now (w .entry)))) (scheduleIn (now (w .entry))) t) (lastResort (sheetIn (now (w .entry))) (barred (sheetIn (now (w .entry)))) (scheduleIn (now (w .entry))) t))) × Below 16 r ⌝ }
 {
@@ -493,7 +494,7 @@ fn without_idle(w: &[u32], kept: &[u32], t: usize, starts: Starts, rival: Found,
 // Steps 2 to 4, where nothing is joined.
 fn without_join(w: &[u32], kept: &[u32], t: usize, starts: Starts, rival: Found, a: usize) -> Found
     requires { ⌜ Choosing (now w) (now kept) t × Started (now w) t starts ⌝ }
-    requires { ⌜ a ≡ arrival (sheetIn (now w)) (scheduleIn (now w)) t ⌝ }
+    requires { ⌜ a ≡ readyArrival (sheetIn (now w)) (scheduleIn (now w)) t ⌝ }
     requires { ⌜ Rival (sheetIn (now w)) (scheduleIn (now w)) t (foundOf rival) × Below (taskCount (sheetIn (now w))) rival ⌝ }
     requires { ⌜ none ≡ join (sheetIn (now w)) (barred (sheetIn (now w))) (scheduleIn (now w)) t ⌝ }
     ensures { λ r. ⌜ (foundOf r ≡ choice (sheetIn (now (w .entry))) (barred (sheetIn (now (w .entry)))) true (scheduleIn (now (w .entry))) t) × Below 16 r ⌝ }
@@ -510,8 +511,8 @@ pub fn choice_of(w: &[u32], kept: &[u32], q: &[u64], t: usize, starts: Starts) -
     requires { ⌜ Keyed (sheetIn (now w)) (scheduleIn (now w)) (now q) ⌝ }
     ensures { λ r. ⌜ (foundOf r ≡ choice (sheetIn (now (w .entry))) (barred (sheetIn (now (w .entry)))) true (scheduleIn (now (w .entry))) t) × Below 16 r ⌝ }
 {
-    let a = readiness::arrival_of(w, kept, t);
-    let rival = rival_of(w, kept, q, t);
+    let a = readiness::ready_arrival(w, kept, t);
+    let rival = rival_of(w, kept, q, t, a);
     let bars = join_bars_of(w, kept, t, starts, rival);
     match join_on(w, kept, t, starts, bars, a) {
         Found::At(k) => Found::At(k),

@@ -12,7 +12,7 @@ use Rattle.folds.proofs.Laws.{first-some, sum-zeros, sum-le}
 use Rattle.sheet.specs.Sheet.{Sheet, taskCount}
 use Rattle.graph.proofs.Proper.{Proper}
 use Rattle.planner.specs.Schedule.{Schedule, empty, placeOf}
-use Rattle.planner.specs.Placing.{ready, ahead, firstReady, startOn, barred}
+use Rattle.planner.specs.Placing.{ready, readyPriority, aheadBy, firstReady, startOn, barred}
 use Rattle.planner.specs.Planner.{join, idle, opens, mayShare, share, another, lastResort, choice, placeOn, placeTask, turn, turns, plannedBy, planned}
 use Rattle.planner.specs.Amended.{usesThree, opensInVain, atTask, onwards, meets, plannedBefore, wasteful, Changes}
 use Rattle.planner.proofs.Ready.{all-placed}
@@ -87,12 +87,12 @@ module _ (s : Sheet) (guard : Schedule → ℕ → ℕ → Bool) where
         go : (o : Option ℕ) → firstReady s σ ≡ o → andThen (placeTask s guard false σ o) (turns s guard false n) ≡ value φ
             → either (atTask s guard σ o) (onwards s guard (meets s guard n) (placeTask s guard false σ o)) ≡ true → andThen (placeTask s guard true σ o) (turns s guard true n) ≡ value φ → Later → ⊥
         go none q e m g r =
-            let all = all-placed s proper σ (leading-none (taskCount s) (ready s σ) (ahead s σ) q) in
+            let all = all-placed s proper σ (leading-none (taskCount s) (ready s σ) (aheadBy s (readyPriority s σ)) q) in
             r σ φ f (omega (arith, sum-zeros (taskCount s) (missing s proper σ) (λ u l. rw (all u l)))) e m g
         go (some t) q e m g r = at (opensInVain s guard σ t) refl m
           where
             found : (t < taskCount s) × (ready s σ t ≡ true)
-            found = leading-some (taskCount s) (ready s σ) (ahead s σ) t q
+            found = leading-some (taskCount s) (ready s σ) (aheadBy s (readyPriority s σ)) t q
 
             placing-on : (a : Bool) (k : ℕ) → choice s guard a σ t ≡ some k → Placing s σ t k
             placing-on a k c = record { below = found .0; isReady = found .1; room = chosen s guard σ t k a (f .opened) c }

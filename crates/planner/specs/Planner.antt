@@ -11,21 +11,21 @@ use Rattle.graph.specs.Graph.{readSheet}
 use Rattle.bundle.specs.Bundle.{Command, run, send, receive, Bundle}
 use Rattle.bundle.specs.Writing.{bundleBytes}
 use Rattle.planner.specs.Schedule.{Schedule, empty, finishOf, stands, put}
-use Rattle.planner.specs.Placing.{arrival, firstReady, endOf, startOn, fits, holdsPredecessor, barred, spent}
+use Rattle.planner.specs.Placing.{readyArrival, firstReady, endOf, startOn, fits, holdsPredecessor, barred, spent}
 
 -- The guard is a parameter, so that the trial sheets can say what it changes.
 module _ (s : Sheet) (guard : Schedule → ℕ → ℕ → Bool) where
   -- 1. "Join: open k that hold a predecessor of t, fit, are not barred, and start t before A. Least start, then the lowest numbered of the admissible processors"
   unfoldable pub mayJoin : Schedule → ℕ → ℕ → Bool
   mayJoin σ t k =
-      both (both (holdsPredecessor s σ t k) (fits s σ t k)) (both (not (guard σ t k)) (ltb (startOn s σ t k) (arrival s σ t)))
+      both (both (holdsPredecessor s σ t k) (fits s σ t k)) (both (not (guard σ t k)) (ltb (startOn s σ t k) (readyArrival s σ t)))
 
   unfoldable pub join : Schedule → ℕ → Option ℕ
   join σ t = least (σ .opened) (mayJoin σ t) (startOn s σ t)
 
   -- 2. "Idle: open k that fit, with end at most A, where each successor of each task on k is placed or is a successor of t. Latest end, then lowest number"
   unfoldable pub mayTake : Schedule → ℕ → ℕ → Bool
-  mayTake σ t k = both (fits s σ t k) (both (leb (endOf s σ k) (arrival s σ t)) (spent s σ t k))
+  mayTake σ t k = both (fits s σ t k) (both (leb (endOf s σ k) (readyArrival s σ t)) (spent s σ t k))
 
   unfoldable pub idle : Schedule → ℕ → Option ℕ
   idle σ t = leading (σ .opened) (mayTake σ t) (λ a b. ltb (endOf s σ b) (endOf s σ a))
@@ -37,7 +37,7 @@ module _ (s : Sheet) (guard : Schedule → ℕ → ℕ → Bool) where
   -- C-17 of document 02: "Where step 3 would open a processor, the lowest numbered open one that fits, isn't barred and starts the task not later than A is
   -- taken instead"
   unfoldable pub mayShare : Schedule → ℕ → ℕ → Bool
-  mayShare σ t k = both (fits s σ t k) (both (not (guard σ t k)) (leb (startOn s σ t k) (arrival s σ t)))
+  mayShare σ t k = both (fits s σ t k) (both (not (guard σ t k)) (leb (startOn s σ t k) (readyArrival s σ t)))
 
   unfoldable pub share : Schedule → ℕ → Option ℕ
   share σ t = pick (opens σ t) (first (σ .opened) (mayShare σ t)) none

@@ -1,7 +1,7 @@
 -- What refuses each kind of command, by the bytes at its offset; and what holds of a command that nothing refuses.
 use Prim.Native.Nat.{ℕ, _+_, _-_, _<_, _≤_, zero-le}
 use mathlib.Core.Path.{_≡_, refl, sym, ap, ap₂, _∙_}
-use mathlib.Core.Bool.{true, false, not}
+use mathlib.Core.Bool.{Bool, true, false, not}
 use mathlib.Core.Option.{none, some}
 use mathlib.Core.List.{List, [], _∷_}
 use mathlib.Core.Logic.{_≢_}
@@ -17,8 +17,10 @@ use Rattle.numbers.specs.Number.{numberAt}
 use Rattle.numbers.proofs.Laws.{numberAt-drop}
 use Rattle.commands.specs.Commands.{refuse, go, judge, judgeKind}
 use Rattle.commands.proofs.Going.{judge-at, comes}
+use Rattle.workspace.specs.Area.{linkCountAt, taskCountAt}
 use Rattle.sheet.specs.Sheet.{Sheet, taskCount, linkCount}
-use Rattle.sheet.specs.Format.{Kind, board, task, link, end, kindOf, width, Progress, fresh, inTurn, full, outOfRange, loose, doubled, fault, sheetFormat}
+use Rattle.sheet.specs.Sizes.{unpackingSize, taskSize, linkSize}
+use Rattle.sheet.specs.Format.{Kind, board, unpack, task, link, end, bare, kindOf, width, Progress, fresh, inTurn, full, outOfRange, loose, doubled, fault, sheetFormat}
 use Rattle.sheet.specs.Faults.{begun, taskFault, linkFault}
 use Rattle.sheet.specs.Tables.{sheetIn, pairIn, Filling}
 use Rattle.sheet.proofs.Rows.{tasks-in, links-in}
@@ -28,10 +30,14 @@ pub judge-known : (p : Progress) (b : List ℕ) (at v : ℕ) → at < length b �
 judge-known p b at v h e = judge-at sheetFormat p b at h ∙ ap (λ (x : ℕ). judgeKind sheetFormat p (kindOf x) (drop (at + 1) b)) e
 
 pub judge-strange : (p : Progress) (b : List ℕ) (at : ℕ) → at < length b
-    → getD b at 0 ≢ 0x4D → getD b at 0 ≢ 0x54 → getD b at 0 ≢ 0x45 → getD b at 0 ≢ 0x51 → judge sheetFormat p (drop at b) ≡ refuse 2
-judge-strange p b at h m t l e = judge-at sheetFormat p b at h ∙ simp (ne-eqb _ _ m, ne-eqb _ _ t, ne-eqb _ _ l, ne-eqb _ _ e)
+    → getD b at 0 ≢ 0x4D → getD b at 0 ≢ 0x55 → getD b at 0 ≢ 0x54 → getD b at 0 ≢ 0x45 → getD b at 0 ≢ 0x51 → judge sheetFormat p (drop at b) ≡ refuse 2
+judge-strange p b at h m u t l e = judge-at sheetFormat p b at h ∙ simp (ne-eqb _ _ m, ne-eqb _ _ u, ne-eqb _ _ t, ne-eqb _ _ l, ne-eqb _ _ e)
 
 -- 3 and 1, and then what the numbers say
+pub fault-unpack : (s : Sheet) (ops : List ℕ) → fault (begun s) unpack ops ≡ pick (not (bare s)) (some 3) (pick (ltb (length ops) 2) (some 1) (pick (eqb (numberAt 2 ops 0) 0) (some 6) none))
+unfolding fault
+fault-unpack s ops = refl
+
 pub fault-task : (s : Sheet) (ops : List ℕ) → fault (begun s) task ops ≡ pick (not (eqb (linkCount s) 0)) (some 3) (pick (ltb (length ops) 4) (some 1) (taskFault (taskCount s) (numberAt 2 ops 0)))
 unfolding fault taskFault
 fault-task s ops = refl
@@ -87,40 +93,67 @@ sound p k ops e =
 pub sound-of : (p : Progress) (d : List ℕ) (k : Kind) → judge sheetFormat p d ≡ go k → Sound p k (drop 1 d)
 sound-of p d k j = sound p k _ (comes sheetFormat p d k j .clear)
 
--- each way out of judging a task and a link
+-- each way out of judging an unpacking time, a task and a link
 module _ (w : List ℕ) where
-  pub task-turn : (m : ℕ) (ops : List ℕ) → m ≡ getD w 1 0 → m ≢ 0 → fault (begun (sheetIn w)) task ops ≡ some 3
+  module _ (u n m : ℕ) (e : (u ≡ sheetIn w .unpacking) × (n ≡ getD w taskCountAt 0) × (m ≡ getD w linkCountAt 0)) where
+    bare-in : (t : Bool) → both (eqb u 0) (both (eqb n 0) (eqb m 0)) ≡ t → bare (sheetIn w) ≡ t
+    bare-in t h = rw (tasks-in w ∙ sym (e .1), links-in w ∙ sym (e .2), ← e .0) h
+
+    pub unpack-turn : (ops : List ℕ) → both (eqb u 0) (both (eqb n 0) (eqb m 0)) ≡ false → fault (begun (sheetIn w)) unpack ops ≡ some 3
+    unpack-turn ops h = fault-unpack (sheetIn w) ops ∙ rw (bare-in false h)
+
+    module _ (b : List ℕ) (at : ℕ) (first : (u ≡ 0) × (n ≡ 0) × (m ≡ 0)) where
+      bare-here : bare (sheetIn w) ≡ true
+      bare-here = bare-in true (simp (eq-eqb u 0 (first .0), eq-eqb n 0 (first .1), eq-eqb m 0 (first .2)))
+
+      pub unpack-cut : at < length b → length b - at < unpackingSize → fault (begun (sheetIn w)) unpack (drop (at + 1) b) ≡ some 1
+      unpack-cut l h = fault-unpack (sheetIn w) (drop (at + 1) b) ∙ rw (bare-here, length-drop (at + 1) b, lt-ltb (length b - (at + 1)) 2 (omega arith))
+
+      unpack-number : (time : ℕ) → unpackingSize ≤ length b - at → time ≡ numberAt 2 b (at + 1)
+          → fault (begun (sheetIn w)) unpack (drop (at + 1) b) ≡ pick (eqb time 0) (some 6) none
+      unpack-number time h q =
+          let same : numberAt 2 (drop (at + 1) b) 0 ≡ time = numberAt-drop 2 (at + 1) b 0 ∙ ap (numberAt 2 b) (add-zero (at + 1)) ∙ sym q in
+          fault-unpack (sheetIn w) (drop (at + 1) b)
+          ∙ rw (bare-here, length-drop (at + 1) b, le-ltb (length b - (at + 1)) 2 (omega arith), same)
+
+      pub unpack-zero : (time : ℕ) → unpackingSize ≤ length b - at → time ≡ numberAt 2 b (at + 1) → time ≡ 0 → fault (begun (sheetIn w)) unpack (drop (at + 1) b) ≡ some 6
+      unpack-zero time h q z = unpack-number time h q ∙ rw (eq-eqb time 0 z)
+
+      pub unpack-clear : (time : ℕ) → unpackingSize ≤ length b - at → time ≡ numberAt 2 b (at + 1) → time ≢ 0 → fault (begun (sheetIn w)) unpack (drop (at + 1) b) ≡ none
+      unpack-clear time h q z = unpack-number time h q ∙ rw (ne-eqb time 0 z)
+
+  pub task-turn : (m : ℕ) (ops : List ℕ) → m ≡ getD w linkCountAt 0 → m ≢ 0 → fault (begun (sheetIn w)) task ops ≡ some 3
   task-turn m ops e h = fault-task (sheetIn w) ops ∙ rw (ne-eqb (linkCount (sheetIn w)) 0 (λ q. h (e ∙ sym (links-in w) ∙ q)))
 
-  pub task-cut : (b : List ℕ) (m at : ℕ) → m ≡ getD w 1 0 → m ≡ 0 → length b - (at + 1) < 4 → fault (begun (sheetIn w)) task (drop (at + 1) b) ≡ some 1
-  task-cut b m at e z h =
+  pub task-cut : (b : List ℕ) (m at : ℕ) → m ≡ getD w linkCountAt 0 → m ≡ 0 → at < length b → length b - at < taskSize → fault (begun (sheetIn w)) task (drop (at + 1) b) ≡ some 1
+  task-cut b m at e z l h =
       fault-task (sheetIn w) (drop (at + 1) b)
-      ∙ rw (eq-eqb (linkCount (sheetIn w)) 0 (links-in w ∙ sym e ∙ z), length-drop (at + 1) b, lt-ltb (length b - (at + 1)) 4 h)
+      ∙ rw (eq-eqb (linkCount (sheetIn w)) 0 (links-in w ∙ sym e ∙ z), length-drop (at + 1) b, lt-ltb (length b - (at + 1)) 4 (omega arith))
 
-  pub task-numbers : (b : List ℕ) (n m at work : ℕ) → n ≡ getD w 0 0 → m ≡ getD w 1 0 → m ≡ 0 → 4 ≤ length b - (at + 1) → work ≡ numberAt 2 b (at + 1)
+  pub task-numbers : (b : List ℕ) (n m at work : ℕ) → n ≡ getD w taskCountAt 0 → m ≡ getD w linkCountAt 0 → m ≡ 0 → taskSize ≤ length b - at → work ≡ numberAt 2 b (at + 1)
       → fault (begun (sheetIn w)) task (drop (at + 1) b) ≡ taskFault n work
   task-numbers b n m at work e₁ e₂ z h q =
       let same : numberAt 2 (drop (at + 1) b) 0 ≡ work = numberAt-drop 2 (at + 1) b 0 ∙ ap (numberAt 2 b) (add-zero (at + 1)) ∙ sym q in
       fault-task (sheetIn w) (drop (at + 1) b)
-      ∙ rw (eq-eqb (linkCount (sheetIn w)) 0 (links-in w ∙ sym e₂ ∙ z), length-drop (at + 1) b, le-ltb (length b - (at + 1)) 4 h)
+      ∙ rw (eq-eqb (linkCount (sheetIn w)) 0 (links-in w ∙ sym e₂ ∙ z), length-drop (at + 1) b, le-ltb (length b - (at + 1)) 4 (omega arith))
       (ap₂ taskFault (tasks-in w ∙ sym e₁) same)
 
-  pub link-cut : (b : List ℕ) (at : ℕ) → length b - (at + 1) < 6 → fault (begun (sheetIn w)) link (drop (at + 1) b) ≡ some 1
-  link-cut b at h = fault-link (sheetIn w) (drop (at + 1) b) ∙ rw (length-drop (at + 1) b, lt-ltb (length b - (at + 1)) 6 h)
+  pub link-cut : (b : List ℕ) (at : ℕ) → at < length b → length b - at < linkSize → fault (begun (sheetIn w)) link (drop (at + 1) b) ≡ some 1
+  link-cut b at l h = fault-link (sheetIn w) (drop (at + 1) b) ∙ rw (length-drop (at + 1) b, lt-ltb (length b - (at + 1)) 6 (omega arith))
 
-  pub link-numbers : (b : List ℕ) (at x y : ℕ) → 6 ≤ length b - (at + 1) → x ≡ getD b (at + 1) 0 → y ≡ getD b (at + 2) 0
+  pub link-numbers : (b : List ℕ) (at x y : ℕ) → linkSize ≤ length b - at → x ≡ getD b (at + 1) 0 → y ≡ getD b (at + 2) 0
       → fault (begun (sheetIn w)) link (drop (at + 1) b) ≡ linkFault (sheetIn w) x y
   link-numbers b at x y h p q =
       let p′ : getD (drop (at + 1) b) 0 0 ≡ x = getD-drop (at + 1) b 0 0 ∙ ap (λ (i : ℕ). getD b i 0) (add-zero (at + 1)) ∙ sym p in
       let q′ : getD (drop (at + 1) b) 1 0 ≡ y = getD-drop (at + 1) b 1 0 ∙ ap (λ (i : ℕ). getD b i 0) (add-assoc at 1 1) ∙ sym q in
-      fault-link (sheetIn w) (drop (at + 1) b) ∙ rw (length-drop (at + 1) b, le-ltb (length b - (at + 1)) 6 h) (ap₂ (linkFault (sheetIn w)) p′ q′)
+      fault-link (sheetIn w) (drop (at + 1) b) ∙ rw (length-drop (at + 1) b, le-ltb (length b - (at + 1)) 6 (omega arith)) (ap₂ (linkFault (sheetIn w)) p′ q′)
 
   -- by the numbers of a link
-  pub link-over : (m x y : ℕ) → m ≡ getD w 1 0 → 1024 ≤ m → linkFault (sheetIn w) x y ≡ some 5
+  pub link-over : (m x y : ℕ) → m ≡ getD w linkCountAt 0 → 1024 ≤ m → linkFault (sheetIn w) x y ≡ some 5
   unfolding linkFault
   link-over m x y e h = rw (le-leb 1024 (linkCount (sheetIn w)) (omega (arith, links-in w)))
 
-  module _ (n m x y : ℕ) (e : (n ≡ getD w 0 0) × (m ≡ getD w 1 0)) (few : m < 1024) where
+  module _ (n m x y : ℕ) (e : (n ≡ getD w taskCountAt 0) × (m ≡ getD w linkCountAt 0)) (few : m < 1024) where
     few-links : leb 1024 (linkCount (sheetIn w)) ≡ false
     few-links = lt-leb 1024 (linkCount (sheetIn w)) (omega (arith, links-in w, e .1))
 
@@ -133,7 +166,7 @@ module _ (w : List ℕ) where
     link-target-loose h k =
         rw (few-links, lt-leb (taskCount (sheetIn w)) x (omega (arith, tasks-in w, e .0)), le-leb (taskCount (sheetIn w)) y (omega (arith, tasks-in w, e .0)))
 
-  module _ (n m x y : ℕ) (f : Filling w) (e : (n ≡ getD w 0 0) × (m ≡ getD w 1 0)) (few : m < 1024) (hx : x < n) (hy : y < n) where
+  module _ (n m x y : ℕ) (f : Filling w) (e : (n ≡ getD w taskCountAt 0) × (m ≡ getD w linkCountAt 0)) (few : m < 1024) (hx : x < n) (hy : y < n) where
     pub link-joined : linkFault (sheetIn w) x y ≡ pick (pairIn w x y) (some 8) none
     unfolding linkFault
     link-joined =

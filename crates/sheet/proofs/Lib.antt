@@ -7,3 +7,4 @@ pub mod Judging
 pub mod Rounds
 pub mod Numbers
 pub mod Values
+pub mod Fronts

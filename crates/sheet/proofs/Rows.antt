@@ -4,7 +4,7 @@ use mathlib.Core.Path.{_≡_, ap, ap₂, sym, _∙_}
 use mathlib.Core.List.{List}
 use native.Mathlib.Omega.{arith}
 use lib.ListN.{length, getD}
-use Rattle.workspace.specs.Area.{linksAt, pairsAt, sizesAt, tasksAt}
+use Rattle.workspace.specs.Area.{linksAt, pairsAt, sizesAt, tasksAt, unpackingAt}
 use Rattle.folds.specs.Folds.{listed}
 use Rattle.folds.proofs.Lists.{length-listed, getD-listed, listed-cong}
 use Rattle.sheet.specs.Sheet.{Task, Link, noTask, noLink, taskCount, linkCount, workOf, storeOf, sourceOf, targetOf, costOf, bytesOf}
@@ -82,6 +82,7 @@ ranged w h =
       few-tasks = rw (tasks-in w) (h .tasks);
       few-links = rw (links-in w) (h .links);
       few-processors = h .processors;
+      unpacks = h .unpacks;
       works = λ t l. rw (work-in w t l) (omega arith);
       stores = λ t l. rw (store-in w t l) (h .stores t (rw (tasks-in w) at l));
       source = λ l k. rw (source-in w l k, tasks-in w) (h .source l (rw (links-in w) at k));
@@ -107,7 +108,7 @@ module _ (w w′ : List ℕ) (same : (i : ℕ) → i < pairsAt → getD w′ i 0
       let links : listed (getD w′ 1 0) (linkIn w′) ≡ listed (getD w 1 0) (linkIn w) =
       ap (λ (n : ℕ). listed n (linkIn w′)) (same 1 (omega arith)) ∙
       listed-cong (getD w 1 0) (linkIn w′) (linkIn w) (λ i h. link-frame i (omega arith)) in
-      λ x. record { processors = same 2 (omega arith) x; limit = same 3 (omega arith) x; tasks = tasks x; links = links x }
+      λ x. record { processors = same 2 (omega arith) x; limit = same 3 (omega arith) x; unpacking = same unpackingAt (omega arith) x; tasks = tasks x; links = links x }
 
   pub loaded-frame : Loaded w → length w′ ≡ length w → Loaded w′
   loaded-frame h e =
@@ -120,6 +121,7 @@ module _ (w w′ : List ℕ) (same : (i : ℕ) → i < pairsAt → getD w′ i 0
         tasks = omega arith;
         links = omega arith;
         processors = omega (arith, same 2 (omega arith), h .processors);
+        unpacks = omega (arith, same unpackingAt (omega arith), h .unpacks);
         stores = λ t l. rw (same (tasksAt + t) (omega arith)) (h .stores t (omega arith));
         source = λ l k. rw (same (linksAt + l) (omega arith), n) (h .source l (omega arith));
         target = λ l k. rw (same (linksAt + l) (omega arith), n) (h .target l (omega arith));

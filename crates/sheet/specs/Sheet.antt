@@ -1,4 +1,4 @@
--- A task sheet: the board's processors and store limit, the tasks, and the links between them.
+-- A task sheet: the board's processors, its store limit and the time that unpacking a message takes, the tasks, and the links between them.
 use Prim.Native.Nat.{ℕ}
 use mathlib.Core.List.{List, []}
 use lib.ListN.{length, getD}
@@ -16,6 +16,7 @@ pub record Link : Type 0 where
 pub record Sheet : Type 0 where
   pub processors : ℕ
   pub limit : ℕ
+  pub unpacking : ℕ
   pub tasks : List Task
   pub links : List Link
 
@@ -26,7 +27,7 @@ abbrev pub noLink : Link
 noLink = record { source = 0; target = 0; cost = 0; bytes = 0 }
 
 abbrev pub noSheet : Sheet
-noSheet = record { processors = 0; limit = 0; tasks = []; links = [] }
+noSheet = record { processors = 0; limit = 0; unpacking = 0; tasks = []; links = [] }
 
 unfoldable pub taskCount : Sheet → ℕ
 taskCount s = length (s .tasks)

@@ -6,7 +6,7 @@ use mathlib.Core.List.{List}
 use lib.ListN.{length, getD, set}
 use lib.Dec.{eqb}
 use Rattle.folds.specs.Folds.{listed}
-use Rattle.workspace.specs.Area.{fixed, limitAt, linkCountAt, linksAt, pairsAt, processorsAt, sizesAt, taskCountAt, tasksAt}
+use Rattle.workspace.specs.Area.{fixed, limitAt, linkCountAt, linksAt, pairsAt, processorsAt, sizesAt, taskCountAt, tasksAt, unpackingAt}
 use Rattle.sheet.specs.Sheet.{Sheet, Task, Link, taskCount, linkCount, workOf, storeOf, sourceOf, targetOf, costOf, bytesOf}
 use Rattle.sheet.specs.Format.{joins}
 
@@ -25,7 +25,7 @@ linkIn w l = linkOfWords (getD w (linksAt + l) 0) (getD w (sizesAt + l) 0)
 
 unfoldable pub sheetIn : List ℕ → Sheet
 sheetIn w =
-    record { processors = getD w processorsAt 0; limit = getD w limitAt 0; tasks = listed (getD w taskCountAt 0) (taskIn w); links = listed (getD w linkCountAt 0) (linkIn w) }
+    record { processors = getD w processorsAt 0; limit = getD w limitAt 0; unpacking = getD w unpackingAt 0; tasks = listed (getD w taskCountAt 0) (taskIn w); links = listed (getD w linkCountAt 0) (linkIn w) }
 
 -- the tables hold a sheet whose numbers are in their ranges (a work always is) and whose links name its tasks
 pub record Loaded (w : List ℕ) : Type 0 where
@@ -33,6 +33,7 @@ pub record Loaded (w : List ℕ) : Type 0 where
   pub tasks : getD w taskCountAt 0 ≤ 256
   pub links : getD w linkCountAt 0 ≤ 1024
   pub processors : getD w processorsAt 0 ≤ 16
+  pub unpacks : getD w unpackingAt 0 < 65536
   pub stores : (t : ℕ) → t < getD w taskCountAt 0 → taskIn w t .store < 65536
   pub source : (l : ℕ) → l < getD w linkCountAt 0 → linkIn w l .source < getD w taskCountAt 0
   pub target : (l : ℕ) → l < getD w linkCountAt 0 → linkIn w l .target < getD w taskCountAt 0
@@ -44,6 +45,7 @@ pub record Ranged (s : Sheet) : Type 0 where
   pub few-tasks : taskCount s ≤ 256
   pub few-links : linkCount s ≤ 1024
   pub few-processors : s .processors ≤ 16
+  pub unpacks : s .unpacking < 65536
   pub works : (t : ℕ) → t < taskCount s → workOf s t < 65536
   pub stores : (t : ℕ) → t < taskCount s → storeOf s t < 65536
   pub source : (l : ℕ) → l < linkCount s → sourceOf s l < taskCount s
@@ -77,7 +79,11 @@ pairWords w a b = set w (pairsAt + (8 * a + b / 32)) (getD w (pairsAt + (8 * a +
 
 -- the words of a sheet without tasks
 unfoldable pub boardWords : List ℕ → ℕ → ℕ → List ℕ
-boardWords w processors limit = set (set (set (set w taskCountAt 0) linkCountAt 0) processorsAt processors) limitAt limit
+boardWords w processors limit = set (set (set (set (set w taskCountAt 0) linkCountAt 0) processorsAt processors) limitAt limit) unpackingAt 0
+
+-- the words with this time for unpacking
+unfoldable pub unpackingWords : List ℕ → ℕ → List ℕ
+unpackingWords w unpacking = set w unpackingAt unpacking
 
 -- the pair words below word n are 0, and the words before them as they were
 pub record Blanked (n : ℕ) (w last : List ℕ) : Type 0 where

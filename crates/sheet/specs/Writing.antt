@@ -7,8 +7,12 @@ use Rattle.folds.specs.Folds.{pick, listed}
 use Rattle.numbers.specs.Number.{numberBytes}
 use Rattle.sheet.specs.Sheet.{Sheet, Task, Link}
 
-abbrev pub boardBytes : ℕ → ℕ → List ℕ
-boardBytes processors limit = 0x4D ∷ processors ∷ numberBytes 4 limit
+-- "without it the time is 0"
+abbrev pub unpackingBytes : ℕ → List ℕ
+unpackingBytes unpacking = pick (eqb unpacking 0) [] (0x55 ∷ numberBytes 2 unpacking)
+
+abbrev pub boardBytes : ℕ → ℕ → ℕ → List ℕ
+boardBytes processors limit unpacking = 0x4D ∷ processors ∷ (numberBytes 4 limit ++ unpackingBytes unpacking)
 
 -- one task, and one link
 abbrev pub taskCommand : Task → List ℕ
@@ -26,7 +30,7 @@ linkBytes [] = []
 linkBytes (l ∷ ls) = 0x45 ∷ l .source ∷ l .target ∷ (numberBytes 2 (l .cost) ++ (numberBytes 2 (l .bytes) ++ linkBytes ls))
 
 unfoldable pub sheetBytes : Sheet → List ℕ
-sheetBytes s = boardBytes (s .processors) (s .limit) ++ (taskBytes (s .tasks) ++ (linkBytes (s .links) ++ 0x51 ∷ []))
+sheetBytes s = boardBytes (s .processors) (s .limit) (s .unpacking) ++ (taskBytes (s .tasks) ++ (linkBytes (s .links) ++ 0x51 ∷ []))
 
 -- task i of two values a task (work, store), link j of four values a link (source, target, cost, bytes)
 abbrev pub taskValue : List ℕ → ℕ → Task
@@ -36,9 +40,9 @@ abbrev pub linkValue : List ℕ → ℕ → Link
 linkValue v j = record { source = getD v (4 * j) 0; target = getD v (4 * j + 1) 0; cost = getD v (4 * j + 2) 0; bytes = getD v (4 * j + 3) 0 }
 
 -- the sheet of these values
-unfoldable pub sheetOfValues : ℕ → ℕ → List ℕ → List ℕ → Sheet
-sheetOfValues processors limit tasks links =
-    record { processors = processors; limit = limit; tasks = listed (length tasks / 2) (taskValue tasks); links = listed (length links / 4) (linkValue links) }
+unfoldable pub sheetOfValues : ℕ → ℕ → ℕ → List ℕ → List ℕ → Sheet
+sheetOfValues processors limit unpacking tasks links =
+    record { processors = processors; limit = limit; unpacking = unpacking; tasks = listed (length tasks / 2) (taskValue tasks); links = listed (length links / 4) (linkValue links) }
 
 -- the bytes of these values: a list that stops inside a record stands for a command that is cut there
 unfoldable pub linkValueBytes : List ℕ → List ℕ
@@ -49,8 +53,8 @@ unfoldable pub taskValueBytes : List ℕ → List ℕ → List ℕ
 taskValueBytes tasks links =
     taskBytes (listed (length tasks / 2) (taskValue tasks)) ++ pick (eqb (length tasks % 2) 0) (linkValueBytes links) (0x54 ∷ [])
 
-unfoldable pub valueBytes : ℕ → ℕ → List ℕ → List ℕ → List ℕ
-valueBytes processors limit tasks links = boardBytes processors limit ++ taskValueBytes tasks links
+unfoldable pub valueBytes : ℕ → ℕ → ℕ → List ℕ → List ℕ → List ℕ
+valueBytes processors limit unpacking tasks links = boardBytes processors limit unpacking ++ taskValueBytes tasks links
 
 -- the values of a sheet
 abbrev pub taskValues : List Task → List ℕ

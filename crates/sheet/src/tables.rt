@@ -1,11 +1,12 @@
 // The tables of a sheet in the work area: accessors that speak of the sheet, and the stores that add a task or a link.
 ghost use mathlib.Core.Path.{_≡_};
 ghost use mathlib.Core.List.{[]};
-ghost use Prim.Native.Nat.{_<_, _≤_};
+ghost use Prim.Native.Nat.{_+_, _<_, _≤_};
 ghost use lib.ListN.{length};
 ghost use Rattle.workspace.specs.Area.{fixed};
 ghost use Rattle.sheet.specs.Sheet.{taskCount, linkCount, workOf, storeOf, sourceOf, targetOf, costOf, bytesOf};
-ghost use Rattle.sheet.specs.Tables.{sheetIn, Loaded, LoadedOf, taskWords, linkWords};
+ghost use Rattle.sheet.specs.Sizes.{boardSize, unpackingSize, frontOf};
+ghost use Rattle.sheet.specs.Tables.{sheetIn, Loaded, LoadedOf, taskWords, linkWords, unpackingWords};
 use workspace::LIMIT;
 use workspace::LINK_COUNT;
 use workspace::LINKS;
@@ -13,6 +14,7 @@ use workspace::PROCESSORS;
 use workspace::SIZES;
 use workspace::TASK_COUNT;
 use workspace::TASKS;
+use workspace::UNPACKING;
 
 pub fn tasks(w: &[u32]) -> usize
     requires { ⌜ Loaded (now w) ⌝ }
@@ -40,6 +42,21 @@ pub fn limit(w: &[u32]) -> usize
     ensures { λ r. ⌜ (r ≡ sheetIn (now (w .entry)) .limit) × (r < 4294967296) ⌝ }
 {
     workspace::word(w, LIMIT)
+}
+
+pub fn unpacking(w: &[u32]) -> usize
+    requires { ⌜ Loaded (now w) ⌝ }
+    ensures { λ r. ⌜ (r ≡ sheetIn (now (w .entry)) .unpacking) × (r ≤ 65535) ⌝ }
+{
+    workspace::word(w, UNPACKING)
+}
+
+// Where the tasks begin in the sheet's bytes.
+pub fn front(w: &[u32]) -> usize
+    requires { ⌜ Loaded (now w) ⌝ }
+    ensures { λ r. ⌜ (r ≡ frontOf (sheetIn (now (w .entry)))) × (r ≤ boardSize + unpackingSize) ⌝ }
+{
+    crate::front(unpacking(w))
 }
 
 pub fn work(w: &[u32], t: usize) -> usize
@@ -90,15 +107,24 @@ pub fn size(w: &[u32], l: usize) -> usize
     workspace::word(w, SIZES + l)
 }
 
-// A sheet without tasks.
+// A sheet without tasks, and without a time for unpacking.
 pub fn put_board(w: &mut [u32], processors: u8, limit: u32)
     requires { ⌜ (fixed ≤ length (now w)) × (processors ≤ 16) ⌝ }
-    ensures { λ _. ⌜ LoadedOf (record { processors = processors; limit = limit; tasks = []; links = [] }) (now (w .entry)) (now (w .exit)) ⌝ }
+    ensures { λ _. ⌜ LoadedOf (record { processors = processors; limit = limit; unpacking = 0; tasks = []; links = [] }) (now (w .entry)) (now (w .exit)) ⌝ }
 {
     w[TASK_COUNT] = 0;
     w[LINK_COUNT] = 0;
     w[PROCESSORS] = processors as u32;
     w[LIMIT] = limit;
+    w[UNPACKING] = 0;
+}
+
+// The time for unpacking.
+pub fn put_unpacking(w: &mut [u32], unpacking: u16)
+    requires { ⌜ fixed ≤ length (now w) ⌝ }
+    ensures { λ _. ⌜ now (w .exit) ≡ unpackingWords (now (w .entry)) unpacking ⌝ }
+{
+    w[UNPACKING] = unpacking as u32;
 }
 
 // Task n, behind those before it.

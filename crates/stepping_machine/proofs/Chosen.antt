@@ -191,11 +191,12 @@ module _ (w : List ℕ) (k : ℕ) (near : k < 16) (n : ℕ) (here : n ≡ nextIn
         by true zero q u v = absurd (true≢false (u ∙ ap not (eq-eqb (getD w (lay.stamps + l) 0) 0 q)))
         by true (suc y) q u t =
             let bf = h .programmed .ranged .sizes l o in
+            let uf = h .programmed .ranged .unpacks in
             let got : stampOf σ l ≡ some y = sym t ∙ ap stampIn q in
             let less : getD w (lay.stamps + l) 0 - 1 ≡ y = omega arith in
-            let v-is : steppedWords w k y 0 (bytesOf s l) ≡ gotWords w k (bytesOf s l) (lay.stamps + l) = rw less refl in
+            let v-is : steppedWords w k y (s .unpacking) (bytesOf s l) ≡ gotWords w k (bytesOf s l) (lay.stamps + l) = rw (less, h .programmed .unpacks) refl in
             rw (sym v-is)
-            (quiet (receive l) e j y 0 (bytesOf s l) (h .roomy l y got) (omega arith) (omega arith) 0 got refl refl (omega arith) (λ l. refl) (omega arith))
+            (quiet (receive l) e j y (s .unpacking) (bytesOf s l) (h .roomy l y got) (omega arith) (omega arith) (s .unpacking) got refl refl (omega arith) (λ l. refl) (omega arith))
 
   -- the words keep their length
   ran-long : (a i : ℕ) → length (ranWords w k a i) ≡ length w

@@ -68,6 +68,7 @@ module _ {w v : List ℕ} {k n c x : ℕ} (near : k < 16) (m : Moved w v k n c x
         ranged = h .ranged;
         programmes = above lay.count (omega arith) (inl (omega arith)) ∙ h .programmes;
         links = above lay.links (omega arith) (inl (omega arith)) ∙ h .links;
+        unpacks = above lay.unpacking (omega arith) (inl (omega arith)) ∙ h .unpacks;
         needs = λ t l. above (lay.needs + t) (omega arith) (inr (omega arith)) ∙ h .needs t l;
         low = λ j l. omega (arith, first-same j l, h .low j l);
         apart = λ j l. ⊎-elim (λ q. inl (omega (arith, first-same j l))) (λ q. inr (omega (arith, first-same j l))) (h .apart j l);

@@ -260,33 +260,40 @@ rest-more w u x m k from near long g e =
       other = λ i l. else i (λ z. omega arith) (λ z. omega arith) (λ z. omega arith) ∙ g .other i l;
     }
 
--- two parts are cleared, and two counts are put
-pub wiped : (w a b d last : List ℕ) (m l : ℕ) → m ≤ 16 → l ≤ 1024 → lay.extent ≤ length w → ClearIs w a lay.clocks lay.firsts → ClearIs a b lay.idle (lay.stamps + l) → d ≡ set b lay.count (m % 4294967296)
-    → last ≡ set d lay.links (l % 4294967296) → WipeIs w last m l
-wiped w a b d last m l fm fl long p q ed el =
+-- two parts are cleared, and two counts and the time of a receive are put
+pub wiped : (w a b d f last : List ℕ) (m l u : ℕ) → m ≤ 16 → l ≤ 1024 → u < 65536 → lay.extent ≤ length w → ClearIs w a lay.clocks lay.firsts → ClearIs a b lay.idle (lay.stamps + l)
+    → d ≡ set b lay.count (m % 4294967296) → f ≡ set d lay.links (l % 4294967296) → last ≡ set f lay.unpacking (u % 4294967296) → WipeIs w last m l u
+wiped w a b d f last m l u fm fl fu long p q ed ef el =
     let ld : length d ≡ length b = ap length ed ∙ length-set b lay.count _ in
-    let here : (i : ℕ) → (i ≡ lay.count → ⊥) → (i ≡ lay.links → ⊥) → getD last i 0 ≡ getD b i 0 =
-    λ i x y. ap (λ (z : List ℕ). getD z i 0) el ∙ getD-set-other d lay.links i _ 0 y ∙ ap (λ (z : List ℕ). getD z i 0) ed ∙ getD-set-other b lay.count i _ 0 x
+    let lf : length f ≡ length d = ap length ef ∙ length-set d lay.links _ in
+    let past : (i : ℕ) → (i ≡ lay.unpacking → ⊥) → getD last i 0 ≡ getD f i 0 = λ i x. ap (λ (z : List ℕ). getD z i 0) el ∙ getD-set-other f lay.unpacking i _ 0 x in
+    let counted : (i : ℕ) → (i ≡ lay.links → ⊥) → getD f i 0 ≡ getD d i 0 = λ i x. ap (λ (z : List ℕ). getD z i 0) ef ∙ getD-set-other d lay.links i _ 0 x in
+    let here : (i : ℕ) → (i < lay.count) ⊎ (lay.unpacking < i) → getD last i 0 ≡ getD b i 0 =
+    λ i x.
+    past i (λ y. ⊎-elim (λ z. omega arith) (λ z. omega arith) x)
+    ∙ counted i (λ y. ⊎-elim (λ z. omega arith) (λ z. omega arith) x)
+    ∙ ap (λ (z : List ℕ). getD z i 0) ed ∙ getD-set-other b lay.count i _ 0 (λ y. ⊎-elim (λ z. omega arith) (λ z. omega arith) x)
     in
-    let low : (i : ℕ) → lay.clocks ≤ i → i < lay.firsts → getD last i 0 ≡ 0 =
-    λ i x y. here i (λ z. omega arith) (λ z. omega arith) ∙ q .other i (inl (omega arith)) ∙ p .zeros i x y
-    in
-    let high : (i : ℕ) → lay.idle ≤ i → i < lay.stamps + l → getD last i 0 ≡ 0 = λ i x y. here i (λ z. omega arith) (λ z. omega arith) ∙ q .zeros i x y in
+    let low : (i : ℕ) → lay.clocks ≤ i → i < lay.firsts → getD last i 0 ≡ 0 = λ i x y. here i (inl (omega arith)) ∙ q .other i (inl (omega arith)) ∙ p .zeros i x y in
+    let high : (i : ℕ) → lay.idle ≤ i → i < lay.stamps + l → getD last i 0 ≡ 0 = λ i x y. here i (inr (omega arith)) ∙ q .zeros i x y in
     record {
-      long = ap length el ∙ length-set d lay.links _ ∙ ld ∙ q .long ∙ p .long;
+      long = ap length el ∙ length-set f lay.unpacking _ ∙ lf ∙ ld ∙ q .long ∙ p .long;
       count =
-          ap (λ (z : List ℕ). getD z lay.count 0) el ∙ getD-set-other d lay.links lay.count _ 0 (λ z. omega arith) ∙ ap (λ (z : List ℕ). getD z lay.count 0) ed
+          past lay.count (λ z. omega arith) ∙ counted lay.count (λ z. omega arith) ∙ ap (λ (z : List ℕ). getD z lay.count 0) ed
           ∙ getD-set-same b lay.count _ 0 (omega (arith, q .long, p .long)) ∙ omega arith;
-      links = ap (λ (z : List ℕ). getD z lay.links 0) el ∙ getD-set-same d lay.links _ 0 (omega (arith, ld, q .long, p .long)) ∙ omega arith;
+      links =
+          past lay.links (λ z. omega arith) ∙ ap (λ (z : List ℕ). getD z lay.links 0) ef ∙ getD-set-same d lay.links _ 0 (omega (arith, ld, q .long, p .long))
+          ∙ omega arith;
+      unpacks = ap (λ (z : List ℕ). getD z lay.unpacking 0) el ∙ getD-set-same f lay.unpacking _ 0 (omega (arith, lf, ld, q .long, p .long)) ∙ omega arith;
       clock = λ k h. low (lay.clocks + k) (omega arith) (omega arith);
       store = λ k h. low (lay.stores + k) (omega arith) (omega arith);
       idle = high lay.idle (omega arith) (omega arith);
       stamp = λ i h. high (lay.stamps + i) (omega arith) (omega arith);
       other =
           λ i x.
-          ⊎-elim (λ (z : i < lay.clocks). here i (λ u. omega arith) (λ u. omega arith) ∙ q .other i (inl (omega arith)) ∙ p .other i (inl (omega arith)))
-          (⊎-elim (λ (z : (lay.firsts ≤ i) × (i < lay.count)). here i (λ u. omega arith) (λ u. omega arith) ∙ q .other i (inl (omega arith)) ∙ p .other i (inr (omega arith)))
-          (λ (z : lay.needs ≤ i). here i (λ u. omega arith) (λ u. omega arith) ∙ q .other i (inr (omega arith)) ∙ p .other i (inr (omega arith)))) x;
+          ⊎-elim (λ (z : i < lay.clocks). here i (inl (omega arith)) ∙ q .other i (inl (omega arith)) ∙ p .other i (inl (omega arith)))
+          (⊎-elim (λ (z : (lay.firsts ≤ i) × (i < lay.count)). here i (inl (omega arith)) ∙ q .other i (inl (omega arith)) ∙ p .other i (inr (omega arith)))
+          (λ (z : lay.needs ≤ i). here i (inr (omega arith)) ∙ q .other i (inr (omega arith)) ∙ p .other i (inr (omega arith)))) x;
     }
 
 -- the needs of the tasks, one by one
@@ -316,7 +323,7 @@ pub record Waiting (s : Sheet) (b : Bundle) (w : List ℕ) (e k : ℕ) : Type 0 
   pub decoded : Decoded s w (firstIn w k) (programmeOf b k)
 
 -- all together: the fresh state
-module _ (sheet bundle w a r d last : List ℕ) (v : View) (m : ℕ) (long : lay.extent ≤ length w) (p : AllIs sheet bundle w a v m Nothing) (q : RestIs a r m 16) (z : WipeIs r d m (v .links))
+module _ (sheet bundle w a r d last : List ℕ) (v : View) (m : ℕ) (long : lay.extent ≤ length w) (p : AllIs sheet bundle w a v m Nothing) (q : RestIs a r m 16) (z : WipeIs r d m (v .links) (v .unpacking))
     (n : NeedsIs sheet d last (v .front) (v .tasks)) (s : Sheet) (b : Bundle) (given : LaidOut sheet bundle w v m s b) where
   -- the index behind all commands
   abbrev end : ℕ
@@ -376,6 +383,7 @@ module _ (sheet bundle w a r d last : List ℕ) (v : View) (m : ℕ) (long : lay
         ranged = given .known .ranged;
         programmes = low lay.count (omega arith) ∙ z .count ∙ sym (given .programmes);
         links = low lay.links (omega arith) ∙ z .links ∙ sym (given .known .links);
+        unpacks = low lay.unpacking (omega arith) ∙ z .unpacks ∙ sym (given .known .unpacked);
         needs = λ t h. n .needs t (omega (arith, given .known .tasks)) ∙ given .known .fields .store t h;
         low = λ k h. every k h .low;
         apart = λ k h. ⊎-elim (λ x. inl x) (λ x. inr (omega (arith, x .0))) (every k h .within);
@@ -398,7 +406,7 @@ load-over sheet bundle w last v m k f e p = record { long = p .long; is-28 = λ 
     apart : {X : Type 0} → At k ≡ Nothing → X
     apart z = let y : _≡_ {A = ℕ} 0 1 = cc in absurd (omega arith)
 
-pub load-fits : (sheet bundle w a r d last : List ℕ) (v : View) (m : ℕ) (f : Found) → lay.extent ≤ length w → f ≡ Nothing → AllIs sheet bundle w a v m f → RestIs a r m 16 → WipeIs r d m (v .links)
+pub load-fits : (sheet bundle w a r d last : List ℕ) (v : View) (m : ℕ) (f : Found) → lay.extent ≤ length w → f ≡ Nothing → AllIs sheet bundle w a v m f → RestIs a r m 16 → WipeIs r d m (v .links) (v .unpacking)
     → NeedsIs sheet d last (v .front) (v .tasks) → LoadIs sheet bundle w last v m Nothing
 load-fits sheet bundle w a r d last v m f long e p q z n =
     let p′ : AllIs sheet bundle w a v m Nothing = subst (AllIs sheet bundle w a v m) e p in

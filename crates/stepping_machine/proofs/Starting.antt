@@ -188,6 +188,7 @@ represents-same s b w u x l n e σ long el en same inside h =
             ranged = p .ranged;
             programmes = low lay.count (omega arith) ∙ p .programmes;
             links = low lay.links (omega arith) ∙ p .links;
+            unpacks = low lay.unpacking (omega arith) ∙ p .unpacks;
             needs = λ t z. same .needs t (omega arith) ∙ p .needs t z;
             low = λ k z. rw (low (lay.firsts + k) (omega arith)) (p .low k z);
             apart = λ k z. rw (low (lay.firsts + k) (omega arith)) (p .apart k z);

@@ -2,7 +2,7 @@
 --
 --   k the index of the next command of processor k < 16
 --   clocks + k its clock, stores + k its store in use, firsts + k the index of its first command, lasts + k the index behind its last one
---   count how many programmes there are, links how many links; idle always 0: where no programme stands, next, first and last are this index
+--   count how many programmes there are, links how many links, unpacking the time that a receive takes; idle always 0: where no programme stands, next, first and last are this index
 --   stamps + l for link l 0 while its message is not sent, then one more than the stamp (1,024)
 --   needs + t what task t needs of the store (256)
 --   commands to extent - 1 the commands of all programmes, and a 0 behind each programme (3,584 and 16)
@@ -31,6 +31,9 @@ count = 80
 
 abbrev pub links : ℕ
 links = 82
+
+abbrev pub unpacking : ℕ
+unpacking = 83
 
 abbrev pub idle : ℕ
 idle = 95

@@ -9,6 +9,7 @@ use Rattle.workspace.specs.declared.total.Found.{Found}
 use Rattle.workspace.specs.declared.total.Found.the-variants.{Nothing}
 use Rattle.numbers.specs.Number.{numberAt}
 use Rattle.sheet.specs.Sheet.{Sheet, taskCount, linkCount}
+use Rattle.sheet.specs.Sizes.{linkSize}
 use Rattle.bundle.specs.Bundle.{Command, Bundle, programmeCount, programmeOf}
 use Rattle.bundle.specs.Lies.{sizeOf, Stands, Lies, Laid}
 use Rattle.admission.specs.Counting.{weigh, whole, each, need}
@@ -18,20 +19,20 @@ use Rattle.admission.specs.declared.view.View.{View}
 use Rattle.machine.specs.Machine.{freshState}
 use Rattle.stepping_machine.specs.declared.decoding.Coded.{Coded}
 use Rattle.stepping_machine.specs.Layout as lay
-use Rattle.stepping_machine.specs.Words.{nextIn, clockIn, storeIn, firstIn, lastIn, countIn, linksIn, stampedIn, needIn, wordOf}
+use Rattle.stepping_machine.specs.Words.{nextIn, clockIn, storeIn, firstIn, lastIn, countIn, linksIn, unpackingIn, stampedIn, needIn, wordOf}
 use Rattle.stepping_machine.specs.Represents.{Decoded, Represents, Within}
 
 -- some commands lie from the offset o to the offset e, and the numbers that they name inside the sheet: what decoding asks, so that it tests nothing
 pub record Decodable (sheet bundle : List ℕ) (v : View) (o e : ℕ) : Type 0 where
   pub bounded : Bounded v
-  pub inside : v .middle + 7 * v .links ≤ length sheet
+  pub inside : v .middle + linkSize * v .links ≤ length sheet
   pub commands : List Command
   pub lies : Lies (v .tasks) (v .links) bundle o e commands
 
 -- some programmes lie as the words w say
 pub record Ready (sheet bundle w : List ℕ) (v : View) (m : ℕ) : Type 0 where
   pub bounded : Bounded v
-  pub inside : v .middle + 7 * v .links ≤ length sheet
+  pub inside : v .middle + linkSize * v .links ≤ length sheet
   pub programmes : List (List Command)
   pub count : length programmes ≡ m
   pub few : m ≤ 16
@@ -93,11 +94,12 @@ pub record RestIs (w last : List ℕ) (m e : ℕ) : Type 0 where
   pub kept : (k : ℕ) → k < m → (nextIn last k ≡ nextIn w k) × (firstIn last k ≡ firstIn w k) × (lastIn last k ≡ lastIn w k)
   pub other : (i : ℕ) → lay.count ≤ i → getD last i 0 ≡ getD w i 0
 
--- clocks, stores and l stamps are 0, and m programmes and l links are counted; the others stay
-pub record WipeIs (w last : List ℕ) (m l : ℕ) : Type 0 where
+-- clocks, stores and l stamps are 0, m programmes and l links are counted, and a receive takes the time u; the others stay
+pub record WipeIs (w last : List ℕ) (m l u : ℕ) : Type 0 where
   pub long : length last ≡ length w
   pub count : countIn last ≡ m
   pub links : linksIn last ≡ l
+  pub unpacks : unpackingIn last ≡ u
   pub clock : (k : ℕ) → k < 16 → clockIn last k ≡ 0
   pub store : (k : ℕ) → k < 16 → storeIn last k ≡ 0
   pub idle : getD last lay.idle 0 ≡ 0

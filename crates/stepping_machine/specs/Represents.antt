@@ -15,7 +15,7 @@ use Rattle.machine.specs.Machine.{State, processorOf, stampOf, stampIn}
 use Rattle.machine.specs.Runs.{left}
 use Rattle.machine.specs.Kept.{StepIs}
 use Rattle.stepping_machine.specs.Layout as lay
-use Rattle.stepping_machine.specs.Words.{Blank, nextIn, clockIn, storeIn, firstIn, lastIn, countIn, linksIn, stampedIn, needIn, wordOf}
+use Rattle.stepping_machine.specs.Words.{Blank, nextIn, clockIn, storeIn, firstIn, lastIn, countIn, linksIn, unpackingIn, stampedIn, needIn, wordOf}
 
 -- the commands cs stand in the words w from the index a on, each by its word, and a 0 behind them
 pub record Decoded (s : Sheet) (w : List ℕ) (a : ℕ) (cs : List Command) : Type 0 where
@@ -30,6 +30,7 @@ pub record Programmed (s : Sheet) (b : Bundle) (w : List ℕ) : Type 0 where
   pub ranged : Ranged s
   pub programmes : countIn w ≡ programmeCount b
   pub links : linksIn w ≡ linkCount s
+  pub unpacks : unpackingIn w ≡ s .unpacking
   pub needs : (t : ℕ) → t < taskCount s → needIn w t ≡ storeOf s t
   -- beside the stamps; an empty programme may stand at the word before them
   pub low : (k : ℕ) → k < 16 → lay.idle ≤ firstIn w k

@@ -27,12 +27,15 @@ firstIn w k = getD w (lay.firsts + k) 0
 abbrev pub lastIn : List ℕ → ℕ → ℕ
 lastIn w k = getD w (lay.lasts + k) 0
 
--- how many programmes and links there are, what stands for link l, and what task t needs
+-- how many programmes and links there are, how long a receive takes, what stands for link l, and what task t needs
 abbrev pub countIn : List ℕ → ℕ
 countIn w = getD w lay.count 0
 
 abbrev pub linksIn : List ℕ → ℕ
 linksIn w = getD w lay.links 0
+
+abbrev pub unpackingIn : List ℕ → ℕ
+unpackingIn w = getD w lay.unpacking 0
 
 abbrev pub stampedIn : List ℕ → ℕ → ℕ
 stampedIn w l = getD w (lay.stamps + l) 0
@@ -89,7 +92,7 @@ module _ (w : List ℕ) (k amount : ℕ) where
   sentWords i = set (steppedWords w k 0 0 0) i ((clockIn w k + amount + 1) % 4294967296)
 
   unfoldable pub gotWords : ℕ → List ℕ
-  gotWords i = steppedWords w k (getD w i 0 - 1) 0 amount
+  gotWords i = steppedWords w k (getD w i 0 - 1) (unpackingIn w) amount
 
 -- processor k before the first command of a programme between two indices
 unfoldable pub openedWords : List ℕ → ℕ → ℕ → ℕ → List ℕ

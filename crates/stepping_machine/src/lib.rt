@@ -28,6 +28,8 @@ pub const COUNT: usize = 80;
 
 pub const LINKS: usize = 82;
 
+pub const UNPACKING: usize = 83;
+
 pub const IDLE: usize = 95;
 
 pub const STAMPS: usize = 96;

@@ -15,6 +15,7 @@ use crate::LASTS;
 use crate::LINKS;
 use crate::NEEDS;
 use crate::STAMPS;
+use crate::UNPACKING;
 use crate::decoding::decode;
 use crate::decoding::pair;
 use crate::put;
@@ -110,15 +111,16 @@ fn rest(w: &mut [u32], m: usize)
     }
 }
 
-// Clocks, stores and l stamps become 0; m programmes and l links are counted.
-fn wipe(w: &mut [u32], m: usize, l: usize)
-    requires { ⌜ (m ≤ 16) × (l ≤ 1024) × (extent ≤ length (now w)) ⌝ }
-    ensures { λ _. ⌜ WipeIs (now (w .entry)) (now (w .exit)) m l ⌝ }
+// Clocks, stores and l stamps become 0; m programmes and l links are counted, and a receive takes the time u.
+fn wipe(w: &mut [u32], m: usize, l: usize, u: usize)
+    requires { ⌜ (m ≤ 16) × (l ≤ 1024) × (u < 65536) × (extent ≤ length (now w)) ⌝ }
+    ensures { λ _. ⌜ WipeIs (now (w .entry)) (now (w .exit)) m l u ⌝ }
 {
     workspace::clear_words(w, CLOCKS, FIRSTS);
     workspace::clear_words(w, IDLE, STAMPS + l);
     put(w, COUNT, m);
     put(w, LINKS, l);
+    put(w, UNPACKING, u);
 }
 
 // What each task needs of the store.
@@ -143,7 +145,7 @@ pub fn load(sheet: &[u8], bundle: &[u8], w: &mut [u32], v: View, m: usize) -> Fo
         Found::At(k) => Found::At(k),
         Found::Nothing => {
             rest(w, m);
-            wipe(w, m, v.links);
+            wipe(w, m, v.links, v.unpacking);
             load_needs(sheet, w, v);
             Found::Nothing
         }

@@ -17,6 +17,7 @@ use crate::NUMBERS;
 use crate::SPAN;
 use crate::STAMPS;
 use crate::STORES;
+use crate::UNPACKING;
 use crate::processors::Processor;
 use crate::processors::stepped;
 use crate::put;
@@ -71,7 +72,7 @@ fn send(w: &mut [u32], k: usize, amount: usize, i: usize)
     put(w, i, stamp);
 }
 
-// Processor k receives the message of word i, if it was sent: the amount is its bytes.
+// Processor k receives the message of word i, if it was sent: the amount is its bytes, and unpacking it takes the board's time.
 fn receive(w: &mut [u32], k: usize, amount: usize, i: usize) -> bool
     requires { ⌜ (k < 16) × (extent ≤ length (now w)) × (amount < numbers) × (i < extent) ⌝ }
     ensures { λ r. ⌜ (r ≡ not (eqb (getD (now (w .entry)) i 0) 0)) × (now (w .exit) ≡ pick r (gotWords (now (w .entry)) k amount i) (now (w .entry))) ⌝ }
@@ -80,7 +81,8 @@ fn receive(w: &mut [u32], k: usize, amount: usize, i: usize) -> bool
     if stamp == 0 {
         return false;
     }
-    go_on(w, k, stamp - 1, 0, amount);
+    let unpacking = workspace::word(w, UNPACKING);
+    go_on(w, k, stamp - 1, unpacking, amount);
     true
 }
 

@@ -10,7 +10,7 @@ use lib.ListN.{length, getD}
 abbrev pub fixed : ℕ
 fixed = 4992
 
--- the board: the numbers of tasks and of links, the processors and the limit
+-- the board: the numbers of tasks and of links, the processors, the limit and the unpacking time
 abbrev pub taskCountAt : ℕ
 taskCountAt = 0
 
@@ -22,6 +22,9 @@ processorsAt = 2
 
 abbrev pub limitAt : ℕ
 limitAt = 3
+
+abbrev pub unpackingAt : ℕ
+unpackingAt = 4
 
 -- task t (of 256): work + 65536 * store
 abbrev pub tasksAt : ℕ

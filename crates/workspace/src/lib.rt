@@ -18,6 +18,8 @@ pub const PROCESSORS: usize = 2;
 
 pub const LIMIT: usize = 3;
 
+pub const UNPACKING: usize = 4;
+
 pub const TASKS: usize = 16;
 
 pub const LINKS: usize = 272;

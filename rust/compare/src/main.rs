@@ -34,6 +34,9 @@ const FEWEST_STUCK: usize = 3000;
 const FEWEST_FORMULAS: usize = 1_000_000;
 /// The fewest test loads.
 const FEWEST_LOADS: usize = 50_000;
+/// The fewest sheets with unpacking that are planned, against the fast rewrite and against the literal
+/// rules.
+const FEWEST_UNPACKING: [usize; 2] = [50_000, 1_000_000];
 /// The fewest calls of each function that are held against the literal rules.
 const FEWEST_OF_EACH: usize = 1_000_000;
 /// How often each family of small inputs is run, so that they share the threads evenly.
@@ -109,14 +112,16 @@ fn fast_shortfalls(tally: &Tally) -> Vec<String> {
         ("pairs that get stuck", tally.answers(Function::Check, STUCK), FEWEST_STUCK),
         ("formulas", tally.calls_of(Function::Weight), FEWEST_FORMULAS),
         ("test loads", tally.calls_of(Function::Generate), FEWEST_LOADS),
+        ("sheets with unpacking", tally.with_unpacking(), FEWEST_UNPACKING[0]),
     ];
     counts.into_iter().filter_map(shortfall).collect()
 }
 
 /// What was held against the literal rules too seldom.
 fn literal_shortfalls(tally: &Tally) -> Vec<String> {
-    let counts = FUNCTIONS.map(|f| (f.name(), tally.calls_of(f), FEWEST_OF_EACH));
-    counts.into_iter().filter_map(shortfall).collect()
+    let calls = FUNCTIONS.map(|f| (f.name(), tally.calls_of(f), FEWEST_OF_EACH));
+    let unpacking = ("sheets with unpacking", tally.with_unpacking(), FEWEST_UNPACKING[1]);
+    calls.into_iter().chain([unpacking]).filter_map(shortfall).collect()
 }
 
 /// Something that came less often than it has to.

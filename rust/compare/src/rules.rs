@@ -80,20 +80,15 @@ impl Rules for Fast {
         let mut tables = Tables {
             tasks: vec![0; 2 * sheet.tasks.len()],
             links: vec![0; 4 * sheet.links.len()],
-            board: [
-                sheet.processors.into(),
-                sheet.limit,
-                sheet.tasks.len() as u32,
-                sheet.links.len() as u32,
-            ],
+            board: sheet.board(),
         };
         sheet.put_values(&mut tables.tasks, &mut tables.links).map_err(refusal)?;
         Ok(tables)
     }
 
     fn write_sheet(values: &sheets::Sheet) -> Answered<Vec<u8>> {
-        let sheets::Sheet { processors, limit, ref tasks, ref links } = *values;
-        let sheet = Sheet::from_values(processors, limit, tasks, links);
+        let sheets::Sheet { processors, limit, unpacking, ref tasks, ref links } = *values;
+        let sheet = Sheet::from_values(processors, limit, unpacking, tasks, links);
         sheet.map(|sheet| sheet.to_bytes()).map_err(refusal)
     }
 
@@ -224,8 +219,8 @@ impl Rules for Literal {
     }
 
     fn write_sheet(values: &sheets::Sheet) -> Answered<Vec<u8>> {
-        let sheets::Sheet { processors, limit, ref tasks, ref links } = *values;
-        literal::interface::write_sheet(processors, limit, tasks, links)
+        let sheets::Sheet { processors, limit, unpacking, ref tasks, ref links } = *values;
+        literal::interface::write_sheet(processors, limit, unpacking, tasks, links)
     }
 
     fn generate(load: Load) -> Answered<Vec<u8>> {

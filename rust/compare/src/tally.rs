@@ -115,6 +115,8 @@ pub struct Tally {
     counts: [[usize; GREATEST as usize + 1]; FUNCTIONS.len()],
     rules: [usize; RULES.len()],
     reasons: [usize; REASONS.len()],
+    /// How many sheets that were planned have a `55` directly behind the board, wrong ones among them.
+    unpacking: usize,
 }
 
 impl Default for Tally {
@@ -123,6 +125,7 @@ impl Default for Tally {
             counts: [[0; GREATEST as usize + 1]; FUNCTIONS.len()],
             rules: [0; RULES.len()],
             reasons: [0; REASONS.len()],
+            unpacking: 0,
         }
     }
 }
@@ -131,6 +134,16 @@ impl Tally {
     /// Counts an answer.
     pub fn count(&mut self, function: Function, number: u8) {
         self.counts[function as usize][usize::from(number)] += 1;
+    }
+
+    /// Counts a sheet that is planned, if it says how long receives take.
+    pub fn count_sheet(&mut self, sheet: &[u8]) {
+        self.unpacking += usize::from(sheet.get(6) == Some(&0x55));
+    }
+
+    /// The sheets that say how long receives take.
+    pub fn with_unpacking(&self) -> usize {
+        self.unpacking
     }
 
     /// Counts a turn of the planner by the step that decided, from 0, and whether the guard did at join
@@ -152,6 +165,7 @@ impl Tally {
         let counts = counts.chain(&mut self.rules).chain(&mut self.reasons);
         let more = other.counts.as_flattened().iter().chain(&other.rules).chain(&other.reasons);
         counts.zip(more).for_each(|(count, more)| *count += more);
+        self.unpacking += other.unpacking;
     }
 
     /// All answers.
@@ -177,6 +191,7 @@ impl Tally {
             let named = names.iter().zip(counts).map(|(name, count)| format!("{name} {count}"));
             println!("{what} decided by {}", named.collect::<Vec<_>>().join(", "));
         }
+        println!("sheets with unpacking {}", self.unpacking);
         for functions in FUNCTIONS.chunks(COLUMNS) {
             let row = |name: &str, cell: &dyn Fn(Function) -> String| {
                 let cells: String = functions.iter().map(|&f| format!("{:>14}", cell(f))).collect();

@@ -141,7 +141,8 @@ impl<'a> Run<'a> {
                 self.able.push([RECEIVE, number]);
             }
             _ => {
-                self.clocks[k] = self.clocks[k].max(self.stamps[operand]);
+                let there = self.clocks[k].max(self.stamps[operand]);
+                self.clocks[k] = there + u32::from(self.sheet.unpacking);
                 self.arrive(operand);
             }
         }

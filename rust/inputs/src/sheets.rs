@@ -8,11 +8,16 @@ pub const MOST_TASKS: usize = 256;
 /// The most links of a sheet.
 pub const MOST_LINKS: usize = 1024;
 
+/// The command of a sheet that says how long a receive takes.
+pub const UNPACKING: u8 = 0x55;
+
 /// The values of a sheet: two for a task (work, store), four for a link (source, target, cost, bytes).
 #[derive(Clone, Debug, Default)]
 pub struct Sheet {
     pub processors: u8,
     pub limit: u32,
+    /// The time of each receive, 0 for a sheet that has none.
+    pub unpacking: u16,
     pub tasks: Vec<u16>,
     pub links: Vec<u16>,
 }
@@ -37,6 +42,10 @@ impl Sheet {
     pub fn encode(&self) -> Vec<u8> {
         let mut bytes = vec![0x4D, self.processors];
         bytes.extend(self.limit.to_le_bytes());
+        if self.unpacking > 0 {
+            bytes.push(UNPACKING);
+            bytes.extend(self.unpacking.to_le_bytes());
+        }
         for task in self.tasks.chunks_exact(2) {
             bytes.push(0x54);
             bytes.extend(task.iter().flat_map(|value| value.to_le_bytes()));
@@ -211,6 +220,7 @@ pub fn even(random: &mut Random) -> Sheet {
     let shape = random.pick(&SHAPES);
     let mut sheet = with_shape(random, tasks, shape);
     weigh(random, &mut sheet, 1, 1);
+    sheet.unpacking = 0;
     sheet.processors = random.within(1..=4) as u8;
     sheet.limit = u32::MAX;
     sheet
@@ -223,12 +233,28 @@ pub fn tighten(random: &mut Random, sheet: &mut Sheet) {
     sheet.limit = random.within(greatest..=all) as u32;
 }
 
-/// Gives all works up to `works`, and all costs below `costs`.
+/// Gives a time for each receive: as one unit, as a work or a cost of the sheet, or any up to the greatest.
+pub fn unpack(random: &mut Random, sheet: &mut Sheet) {
+    let works = sheet.tasks.iter().step_by(2);
+    let costs = sheet.links.iter().skip(2).step_by(4);
+    let times: Vec<u16> = works.chain(costs).copied().filter(|&time| time > 0).collect();
+    sheet.unpacking = match random.below(8) {
+        0..=1 => 1,
+        2..=5 if !times.is_empty() => random.pick(&times),
+        6 => random.pick(&[255, 256, 65_534, 65_535]),
+        _ => random.within(1..=9) as u16,
+    };
+}
+
+/// Gives all works up to `works`, all costs below `costs`, and where receives take time another for it.
 pub fn weigh(random: &mut Random, sheet: &mut Sheet, works: usize, costs: usize) {
     let all_works = sheet.tasks.iter_mut().step_by(2);
     all_works.for_each(|work| *work = random.within(1..=works) as u16);
     let all_costs = sheet.links.iter_mut().skip(2).step_by(4);
     all_costs.for_each(|cost| *cost = random.below(costs) as u16);
+    if sheet.unpacking > 0 {
+        unpack(random, sheet);
+    }
 }
 
 /// A valid sheet of this many tasks and this shape.
@@ -349,7 +375,8 @@ impl Weights {
     }
 }
 
-/// Gives tasks and links their weights, and the board its processors and limit.
+/// Gives tasks and links their weights, and the board its processors, its limit and once in four a time
+/// for each receive.
 fn dress(random: &mut Random, tasks: usize, pairs: &[[u16; 2]]) -> Sheet {
     let kinds = [
         Weights::Equal,
@@ -385,5 +412,9 @@ fn dress(random: &mut Random, tasks: usize, pairs: &[[u16; 2]]) -> Sheet {
         5 => share.saturating_mul(2),
         _ => share.saturating_mul(8).saturating_add(1000),
     };
-    Sheet { processors, limit, tasks, links }
+    let mut sheet = Sheet { processors, limit, unpacking: 0, tasks, links };
+    if random.once_in(4) {
+        unpack(random, &mut sheet);
+    }
+    sheet
 }

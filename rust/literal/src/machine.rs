@@ -83,10 +83,11 @@ impl<'a> Machine<'a> {
             Action::Send(link) => {
                 self.stamps[link] = Some(processor.clock + self.sheet.links[link].cost);
             }
-            // "Receive [..] sets the clock to the later of clock and stamp, and adds the link's
-            // bytes to the store in use."
+            // "Receive now sets the clock to the later of clock and stamp, plus this time", "and adds
+            // the link's bytes to the store in use."
             Action::Receive(link) => {
-                processor.clock = processor.clock.max(self.stamps[link].unwrap_or(0));
+                let stamp = self.stamps[link].expect("can_step asks for it");
+                processor.clock = processor.clock.max(stamp) + self.sheet.unpacking;
                 processor.store += self.sheet.links[link].bytes;
             }
         }

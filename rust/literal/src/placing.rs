@@ -1,5 +1,5 @@
-//! Whose turn it is (the second half of "Levels"), and which processor a task gets ("Placing", and C-17
-//! of document 02).
+//! Whose turn it is (the second half of "Levels"), and which processor a task gets ("Placing", and C-14
+//! and C-17 of document 02).
 
 use crate::levels::levels;
 use crate::refusal::Refusal;
@@ -131,12 +131,21 @@ impl<'a> Board<'a> {
             && self.predecessors(task).any(|from| !self.is_placed(from))
     }
 
-    /// "Its arrival A is the greatest of (predecessor's finish + link cost), 0 without
-    /// predecessors"; partly ready, "its arrival then counts only the placed ones".
+    /// "A ready task's A is its start on a fresh processor." A partly ready one's arrival is "the greatest
+    /// of (predecessor's finish + link cost)" and "counts only the placed ones": "Partly ready tasks leave
+    /// unpacking out, in arrivals and in best starts."
     fn arrival(&self, task: usize) -> u64 {
+        if self.ready(task) {
+            return self.start(task, self.fresh());
+        }
         let links = self.sheet.links_into(task);
         let times = links.filter_map(|(_, link)| Some(self.find(link.from)?.finish + link.cost));
         times.max().unwrap_or(0)
+    }
+
+    /// A fresh processor, which holds no task: the number behind those of the board.
+    fn fresh(&self) -> usize {
+        self.sheet.processors
     }
 
     /// "Priority = arrival + b-level."
@@ -155,15 +164,25 @@ impl<'a> Board<'a> {
         self.on(k).map(|placed| placed.finish).max().unwrap_or(0)
     }
 
-    /// "On processor k its start is the greatest of k's end time and, over its predecessors,
-    /// finish + (0 if on k, else cost)."
+    /// "A task's start on a processor is found by doing its receives in rising link number from that
+    /// processor's end time, then waiting for its local predecessors."
     fn start(&self, t: usize, k: usize) -> u64 {
-        self.start_without(t, k, None)
+        let into = self.sheet.links_into(t);
+        let sources = into.filter_map(|(_, link)| Some((self.find(link.from)?, link.cost)));
+        let (local, others): (Vec<_>, Vec<_>) = sources.partition(|(from, _)| from.processor == k);
+        // "Send stamps the message with clock + cost", directly behind the run; "Receive now sets the
+        // clock to the later of clock and stamp, plus this time."
+        let received = others.iter().fold(self.end(k), |clock, (from, cost)| {
+            clock.max(from.finish + cost) + self.sheet.unpacking
+        });
+        local.iter().fold(received, |clock, (from, _)| clock.max(from.finish))
     }
 
-    /// The start by placed predecessors, one task not counted among them.
-    fn start_without(&self, task: usize, k: usize, left_out: Option<usize>) -> u64 {
-        let links = self.sheet.links_into(task).filter(|(_, link)| Some(link.from) != left_out);
+    /// A partly ready task's "start there by placed predecessors", "t itself not counted as u's
+    /// predecessor", without unpacking: "the greatest of k's end time and, over its predecessors, finish +
+    /// (0 if on k, else cost)".
+    fn start_without(&self, u: usize, k: usize, t: usize) -> u64 {
+        let links = self.sheet.links_into(u).filter(|(_, link)| link.from != t);
         let times = links.filter_map(|(_, link)| {
             let from = self.find(link.from)?;
             Some(from.finish + if from.processor == k { 0 } else { link.cost })
@@ -208,7 +227,7 @@ impl<'a> Board<'a> {
     /// its start there by placed predecessors", "t itself not counted as u's predecessor".
     fn best_start(&self, u: usize, t: usize) -> u64 {
         let holds = |k: &usize| self.predecessors(u).any(|from| from != t && self.is_on(from, *k));
-        let starts = self.open().filter(holds).map(|k| self.start_without(u, k, Some(t)));
+        let starts = self.open().filter(holds).map(|k| self.start_without(u, k, t));
         starts.min().expect("a partly ready task has a placed predecessor")
     }
 
@@ -294,5 +313,37 @@ impl<'a> Board<'a> {
             opened_in_vain: step == Step::Open && self.share(t).is_some(),
             ..placed
         })
+    }
+}
+
+#[cfg(test)]
+mod tests {
+    use super::*;
+    use inputs::{sheets, Random};
+
+    /// "Sheets without `55` keep their plans": there a start is "the greatest of k's end time and, over
+    /// its predecessors, finish + (0 if on k, else cost)", and A the greatest of finish + cost.
+    #[test]
+    fn starts_without_unpacking() {
+        let mut random = Random::new(14);
+        for _ in 0..300 {
+            let values = sheets::Sheet { unpacking: 0, ..sheets::telling(&mut random, 12) };
+            let sheet = Sheet::read(&values.encode()).expect("a valid sheet");
+            let levels = levels(&sheet);
+            let (placed, _) = turns(&sheet, &levels, Rules::WHOLE);
+            for turn in 0..placed.len() {
+                let before = placed[..turn].to_vec();
+                let board =
+                    Board { sheet: &sheet, levels: &levels, rules: Rules::WHOLE, placed: before };
+                let t = placed[turn].task;
+                for k in 0..=board.fresh() {
+                    assert_eq!(board.start(t, k), board.start_without(t, k, t));
+                }
+                let messages = sheet.links_into(t).map(|(_, link)| {
+                    board.find(link.from).map_or(0, |from| from.finish + link.cost)
+                });
+                assert_eq!(board.arrival(t), messages.max().unwrap_or(0));
+            }
+        }
     }
 }

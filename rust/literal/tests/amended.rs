@@ -75,9 +75,10 @@ fn when_it_is_used() {
                 assert!(open < sheet.processors && turn.processor < open);
                 let finish =
                     |task| placed.iter().find(|placed| placed.task == task).unwrap().finish;
-                let links = sheet.links_into(turn.task);
-                let arrival = links.map(|(_, link)| finish(link.from) + link.cost).max();
-                assert_eq!(Some(turn.start), arrival);
+                let arrival = sheet.links_into(turn.task).fold(0, |clock, (_, link)| {
+                    clock.max(finish(link.from) + link.cost) + sheet.unpacking
+                });
+                assert_eq!(turn.start, arrival);
                 shared += 1;
             }
         }
@@ -92,7 +93,7 @@ fn smallest() {
     for works in [[1, 1], [1, 65_535], [7, 2]] {
         let tasks = works.map(|work| Task { work, store: 3 }).to_vec();
         let links = vec![Link { from: 0, to: 1, cost: 0, bytes: 5 }];
-        let mut sheet = Sheet { processors: 2, limit: 8, tasks, links };
+        let mut sheet = Sheet { processors: 2, limit: 8, unpacking: 0, tasks, links };
         let rows = |sheet: &Sheet, rules| {
             let placed = place(sheet, rules).unwrap();
             placed.iter().map(|row| (row.processor, row.step)).collect::<Vec<_>>()

@@ -30,8 +30,8 @@ fn k1_whole() {
     assert_eq!(levels(&sheet), Ok(vec![5, 3, 2, 7]));
     assert_eq!(check(&sheet, &bundle), Ok(()));
     let tables = read_sheet(&sheet).unwrap();
-    assert_eq!(tables.board, [3, 100, 4, 3]);
-    assert_eq!(write_sheet(3, 100, &tables.tasks, &tables.links), Ok(sheet.clone()));
+    assert_eq!(tables.board, [3, 100, 4, 3, 0]);
+    assert_eq!(write_sheet(3, 100, 0, &tables.tasks, &tables.links), Ok(sheet.clone()));
     let (commands, claim) = read_bundle(&sheet, &bundle).unwrap();
     assert_eq!(write_bundle(&sheet, &commands, claim), Ok(bundle.clone()));
     start(&sheet, &bundle, |machine| {
@@ -77,15 +77,15 @@ fn bare_board() {
     let (sheet, bundle) = (example("bare.sheet"), example("bare.bundle"));
     assert_eq!((&sheet[..], &bundle[..]), (&b"\x4D\x03\x64\0\0\0\x51"[..], &b"\x5A\0\0\0\0"[..]));
     let tables = read_sheet(&sheet).unwrap();
-    assert_eq!((tables.board, tables.tasks.len(), tables.links.len()), ([3, 100, 0, 0], 0, 0));
-    assert_eq!(write_sheet(3, 100, &[], &[]), Ok(sheet.clone()));
+    assert_eq!((tables.board, tables.tasks.len(), tables.links.len()), ([3, 100, 0, 0, 0], 0, 0));
+    assert_eq!(write_sheet(3, 100, 0, &[], &[]), Ok(sheet.clone()));
     assert_eq!(levels(&sheet), Ok(Vec::new()));
     assert_eq!(plan(&sheet), Ok(bundle.clone()));
     assert_eq!(listing(&sheet), b"PLAN 0 0\n");
     assert_eq!(read_bundle(&sheet, &bundle), Ok((Vec::new(), 0)));
     assert_eq!(write_bundle(&sheet, &[], 0), Ok(bundle.clone()));
     // A link has no task to lead to, and what follows the end is a tail.
-    assert_eq!(write_sheet(3, 100, &[], &[0, 0, 0, 0]), refused(7, 6));
+    assert_eq!(write_sheet(3, 100, 0, &[], &[0, 0, 0, 0]), refused(7, 6));
     assert_eq!(read_sheet(&[&sheet[..], &[0x51]].concat()), refused(4, 7));
     for programmes in 0..=4 {
         let mut opened: Vec<u8> = (0..programmes).flat_map(|number| [0x50, number]).collect();
@@ -113,6 +113,39 @@ fn bare_board() {
     // On a sheet with tasks it is 23 as before.
     assert_eq!(check(&example("k1.sheet"), &bundle), refused(23, 0));
     assert_eq!(check(&example("k1.sheet"), &bundle[..3]), refused(23, 0));
+}
+
+/// C-14: K1 with a time of 1 for each receive.
+#[test]
+fn unpacking() {
+    let (sheet, bundle) = (example("unpacking.sheet"), example("unpacking.bundle"));
+    let tables = read_sheet(&sheet).unwrap();
+    assert_eq!(tables.board, [3, 100, 4, 3, 1]);
+    assert_eq!(write_sheet(3, 100, 1, &tables.tasks, &tables.links), Ok(sheet.clone()));
+    assert_eq!(write_sheet(3, 100, 0, &tables.tasks, &tables.links), Ok(example("k1.sheet")));
+    assert_eq!(levels(&sheet), levels(&example("k1.sheet")));
+    assert_eq!(rows(&sheet), [(3, 0, 0), (2, 1, 4), (0, 2, 0), (1, 0, 3)]);
+    assert_eq!(plan(&sheet), Ok(bundle.clone()));
+    assert_eq!(check(&sheet, &bundle), Ok(()));
+    assert_eq!(check(&sheet, &example("k1.bundle")), refused(30, 6));
+    start(&sheet, &bundle, |machine| {
+        let machine = machine.unwrap();
+        assert!([0, 0, 1].into_iter().all(|choice| machine.step(choice)));
+        // "the later of clock and stamp, plus this time": 0 and 3, then 4; and 2 and 2, then 3.
+        assert_eq!(machine.processors[1].clock, 4);
+        assert!([2, 2, 0].into_iter().all(|choice| machine.step(choice)));
+        assert_eq!(machine.processors[0].clock, 3);
+    });
+    // "a value of 0 gives 6, a wrong position gives 3".
+    for (bytes, refusal) in [
+        (&b"\x4D\x03\x64\0\0\0\x55\0\0\x51"[..], (6, 6)),
+        (b"\x55\x01\0\x4D\x03\x64\0\0\0\x51", (3, 0)),
+        (b"\x4D\x03\x64\0\0\0\x55\x01\0\x55\0", (3, 9)),
+        (b"\x4D\x03\x64\0\0\0\x54\x01\0\0\0\x55", (3, 11)),
+        (b"\x4D\x03\x64\0\0\0\x55\x01", (1, 6)),
+    ] {
+        assert_eq!(read_sheet(bytes), refused(refusal.0, refusal.1), "{bytes:02X?}");
+    }
 }
 
 /// C-12: two tasks of work 1 joined by a free link, and bundles of them.

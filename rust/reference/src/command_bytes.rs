@@ -2,6 +2,8 @@
 
 /// The first byte of a sheet: the board.
 pub const BOARD: u8 = 0x4D;
+/// How long each receive takes, directly behind the board.
+pub const UNPACKING: u8 = 0x55;
 /// A task of a sheet.
 pub const TASK: u8 = 0x54;
 /// A link of a sheet.
@@ -21,6 +23,7 @@ pub const RECEIVE: u8 = 0x56;
 pub const CLAIM: u8 = 0x5A;
 
 pub const BOARD_LENGTH: usize = 6;
+pub const UNPACKING_LENGTH: usize = 3;
 pub const TASK_LENGTH: usize = 5;
 pub const LINK_LENGTH: usize = 7;
 pub const END_LENGTH: usize = 1;

@@ -102,7 +102,7 @@ impl<'a> Machine<'a> {
                 let Some(stamp) = self.stamps[usize::from(link)] else {
                     return Step::Waits(link);
                 };
-                processor.clock = processor.clock.max(stamp);
+                processor.clock = processor.clock.max(stamp) + u32::from(self.sheet.unpacking);
                 processor.store += u32::from(self.sheet.links[usize::from(link)].bytes);
                 Step::Received(link)
             }

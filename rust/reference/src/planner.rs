@@ -2,7 +2,7 @@
 
 use crate::bundle::write_claim;
 use crate::command_bytes::{CLAIM_LENGTH, OPEN, RECEIVE, RUN, SEND};
-use crate::graph::{self, Lists};
+use crate::graph;
 use crate::processor_set::ProcessorSet;
 use crate::refusal::{Refusal, NO_STORE};
 use crate::sheet::{Sheet, MOST_PROCESSORS, MOST_TASKS};
@@ -65,7 +65,7 @@ pub fn plan_with(sheet: &Sheet, see: impl FnMut(Turn)) -> Result<Plan, Refusal> 
 impl Plan {
     /// The bundle of the plan.
     pub fn to_bundle(&self, sheet: &Sheet) -> Vec<u8> {
-        let incoming = Lists::new(sheet.tasks.len(), &sheet.links, |link| link.target);
+        let incoming = graph::incoming(sheet);
         let mut bundle = Writer::new(sheet, self.programmes.len());
         for (number, programme) in (0..).zip(&self.programmes) {
             bundle.put([OPEN, number, 0], 2);
@@ -295,12 +295,16 @@ impl<'a> Board<'a> {
 
     /// Puts a task where it belongs after one more of its predecessors was placed.
     fn queue(&mut self, task: usize) {
+        let ready = self.inputs[task].missing == 0;
+        if ready && self.sheet.unpacking > 0 {
+            self.inputs[task].arrival = self.unpacked(task);
+        }
         let key = key(self.priority(task), self.levels[task], task);
-        if self.inputs[task].missing > 0 {
-            self.partly_ready.set(task, key);
-        } else {
+        if ready {
             self.partly_ready.remove(task);
             self.ready.push(key);
+        } else {
+            self.partly_ready.set(task, key);
         }
     }
 
@@ -308,9 +312,46 @@ impl<'a> Board<'a> {
         self.inputs[task].arrival + self.levels[task]
     }
 
-    /// The start of a task on each processor.
+    /// The start of a ready task on each processor.
     fn starts(&self, task: usize) -> Row {
-        array::from_fn(|k| self.inputs[task].start(k, self.ends[k]))
+        match self.sheet.unpacking {
+            0 => array::from_fn(|k| self.inputs[task].start(k, self.ends[k])),
+            time => self.unpacked_starts(task, time.into()),
+        }
+    }
+
+    /// The same where receives take time: messages are unpacked one after the other, and what is there
+    /// without one has finished by the processor's end. Not inlined, which would make turns without
+    /// unpacking slower.
+    #[inline(never)]
+    fn unpacked_starts(&self, task: usize, time: u32) -> Row {
+        let mut starts = self.ends;
+        for (from, stamp) in self.messages(task) {
+            // Without a branch, so that many are raised at a time.
+            for (k, start) in (0..).zip(&mut starts) {
+                let unpacked = (*start).max(stamp) + time;
+                *start = if k == from { *start } else { unpacked };
+            }
+        }
+        starts
+    }
+
+    /// The start of a ready task on a fresh processor, where all its messages are unpacked; not inlined
+    /// either.
+    #[inline(never)]
+    fn unpacked(&self, task: usize) -> u32 {
+        let time = u32::from(self.sheet.unpacking);
+        self.messages(task).fold(0, |clock, (_, stamp)| clock.max(stamp) + time)
+    }
+
+    /// The links into a ready task, in rising number: where each comes from, and when it would be there
+    /// as a message.
+    fn messages(&self, task: usize) -> impl Iterator<Item = (u32, u32)> + '_ {
+        graph::incoming(self.sheet).at(task).iter().map(|&link| {
+            let link = &self.sheet.links[usize::from(link)];
+            let source = &self.placements[usize::from(link.source)];
+            (source.processor.into(), source.finish + u32::from(link.cost))
+        })
     }
 
     /// The store that each processor needs with a ready task on it.
@@ -335,7 +376,8 @@ struct Inputs {
     holders: ProcessorSet,
     bytes_from: Row,
     bytes: u32,
-    /// The latest message, its processor, and the latest message from any other.
+    /// The latest message, its processor, and the latest message from any other; where receives take
+    /// time and none is missing, the first is the start on a fresh processor.
     arrival: u32,
     arrival_from: usize,
     other_arrival: u32,
@@ -357,8 +399,8 @@ impl Inputs {
         }
     }
 
-    /// The start on processor k, by its end and the placed predecessors; those on k have finished
-    /// by its end.
+    /// The start on processor k without unpacking, by its end and the placed predecessors; those on k
+    /// have finished by its end.
     fn start(&self, k: usize, end: u32) -> u32 {
         let message = if k == self.arrival_from { self.other_arrival } else { self.arrival };
         end.max(message)
@@ -366,7 +408,7 @@ impl Inputs {
 }
 
 /// A task's rank as one number: its priority, then its level, then the lower task number.
-/// Priorities stay below 2^28 and levels below 2^26, since all works and costs are u16.
+/// Priorities stay below 2^28 and levels below 2^26, since works, costs and unpacking are u16.
 fn key(priority: u32, level: u32, task: usize) -> u64 {
     u64::from(priority) << 34 | u64::from(level) << 8 | (MOST_TASKS - 1 - task) as u64
 }

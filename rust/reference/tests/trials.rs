@@ -157,6 +157,21 @@ fn free_link() {
     accepted(&free_link_sheet());
 }
 
+/// C-14: K1 with a time of 1 for each receive. Task 2 starts at 4 on a fresh processor, behind a receive
+/// from 3 to 4; the guard bars processor 0 for it, and task 1 starts there at 3, behind one from 2 to 3.
+#[test]
+fn unpacking() {
+    let bytes = unpacking_sheet();
+    assert_eq!(bytes[6..9], [0x55, 1, 0]);
+    assert_eq!([&bytes[..6], &bytes[9..]].concat(), k1_sheet());
+    assert_eq!(rows(&planned(&bytes)), [(2, 0, 1), (0, 3, 6), (1, 4, 6), (0, 0, 2)]);
+    assert_eq!(listing::print(&bytes), b"PLAN 3 6\n0 2 0 1\n1 0 3 6\n2 1 4 6\n3 0 0 2\n");
+    assert_eq!(levels(&read(&bytes)), levels(&read(&k1_sheet())));
+    accepted(&bytes);
+    // The plan of K1 still runs, with each of its two receives one later.
+    assert_eq!(check(&read(&bytes), &K1_BUNDLE), refused(30, 6));
+}
+
 #[test]
 fn starts_are_those_of_the_runs() {
     let plan = planned(&k1_sheet());

@@ -130,11 +130,17 @@ impl Log<'_> {
                 let stamp = event.stamp.unwrap_or_default();
                 format!("sends {} at {start}, there at {stamp}", link(number))
             }
-            Step::Receive(number) if event.waited() > 0 => {
-                format!("waits for {} from {start} to {finish}, store {store}", link(number))
-            }
             Step::Receive(number) => {
-                format!("receives {} at {finish}, store {store}", link(number))
+                let (link, at) = (link(number), event.has_message());
+                let received = match event.waited() {
+                    0 => format!("receives {link} at {at}"),
+                    _ => format!("waits for {link} from {start} to {at}"),
+                };
+                let unpacked = match event.unpacked() {
+                    0 => String::new(),
+                    _ => format!(", unpacks it until {finish}"),
+                };
+                format!("{received}{unpacked}, store {store}")
             }
         }
     }

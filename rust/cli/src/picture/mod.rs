@@ -76,7 +76,7 @@ impl Picture<'_> {
                 sent: event.finish,
                 there: event.stamp.unwrap_or_default() as u32,
                 to: to.unwrap_or(event.processor),
-                received: received.map(|other| other.finish),
+                received: received.map(|other| other.has_message()),
             });
         }
         messages

@@ -2,11 +2,16 @@
 
 use super::names::Names;
 use crate::table::aligned;
-use zeldrupa::{Bundle, Command, Sheet};
+use zeldrupa::{Board, Bundle, Command, Sheet};
 
 /// The text of a sheet.
 pub fn sheet_text(sheet: &Sheet, names: &Names) -> String {
-    let mut text = format!("board processors {} store {}\n", sheet.processors(), sheet.limit());
+    let Board { processors, limit, unpacking } = sheet.board();
+    let mut text = format!("board processors {processors} store {limit}");
+    if unpacking > 0 {
+        text += &format!(" unpacking {unpacking}");
+    }
+    text.push('\n');
     let field = |name: &str, value: u16| format!("{name} {value}");
     let tasks = sheet.tasks().iter().enumerate().map(|(number, task)| {
         let name = format!("task {}", names.shown(number));

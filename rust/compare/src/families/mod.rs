@@ -9,6 +9,7 @@ mod loads;
 mod machine;
 mod plans;
 mod small;
+mod unpacking;
 
 use crate::comparison::{Comparison, Outcome};
 use crate::rules::{Fast, Literal, Rules};
@@ -50,6 +51,11 @@ pub const FAST: &[Family<Fast>] = &[
     ("shared processors", plans::shared_processors),
     ("plans of greatest values", plans::greatest_values),
     ("plans of faulty sheets", plans::faulty_sheets),
+    ("plans with unpacking", unpacking::plans),
+    ("largest with unpacking", unpacking::largest),
+    ("bundles with unpacking", unpacking::small_bundles),
+    ("damaged unpacking", unpacking::damaged),
+    ("unpacking everywhere", unpacking::every_offset),
     ("trial pairs", machine::trial_pairs),
     ("right pairs", machine::right),
     ("wrong claims", machine::wrong_claims),
@@ -92,6 +98,10 @@ pub const LITERAL: &[Family<Literal>] = &[
     ("bare boards byte by byte", bare::byte_by_byte),
     ("small boards", small::boards),
     ("small shared processors", small::shared_processors),
+    ("small with unpacking", unpacking::small_boards),
+    ("bundles with unpacking", unpacking::small_bundles),
+    ("damaged unpacking", unpacking::damaged),
+    ("unpacking everywhere", unpacking::every_offset),
     ("damaged small sheets", small::damaged_sheets),
     ("over-full sheets", small::over_full_sheets),
     ("small circles", small::circles),
@@ -185,7 +195,8 @@ fn damage_sheet(random: &mut Random, values: &mut sheets::Sheet) {
         match random.below(8) {
             0 => values.processors = random.bits() as u8,
             1 => values.limit = random.bits() as u32,
-            2..=3 => damage::values(random, &mut values.tasks, 2),
+            2 => values.unpacking = random.pick(&[0, 1, 65_535]),
+            3..=4 => damage::values(random, &mut values.tasks, 2),
             _ => damage::values(random, &mut values.links, 4),
         }
     }

@@ -10,7 +10,7 @@ rest-requires : tie.Need-rest-requires
 rest-requires c κs = let y = c .before .before .before .before .before .before .before .before .before .before .pre in (y .few, omega (arith, y .long, c .before .before .before .before .before .load-all .ensures .long))
 
 wipe-requires : tie.Need-wipe-requires
-wipe-requires c κs = let y = c .before .before .before .before .before .before .before .before .before .before .before .before .before .before .pre in (y .few, omega (arith, y .bounded .few-links, y .bounded .few-tasks), omega (arith, y .long, c .before .before .before .before .before .before .before .before .before .load-all .ensures .long, c .before .before .before .rest .ensures .long))
+wipe-requires c κs = let y = c .before .before .before .before .before .before .before .before .before .before .before .before .before .before .pre in (y .few, omega (arith, y .bounded .few-links, y .bounded .few-tasks), y .bounded .unpacks, omega (arith, y .long, c .before .before .before .before .before .before .before .before .before .load-all .ensures .long, c .before .before .before .rest .ensures .long))
 
 load-needs-requires : tie.Need-load-needs-requires
 load-needs-requires c κs = let y = c .before .before .before .before .before .before .before .before .before .before .before .before .before .before .before .before .before .before .pre in (y .bounded, omega (arith, y .inside), omega (arith, y .long, c .before .before .before .before .before .before .before .before .before .before .before .before .before .load-all .ensures .long, c .before .before .before .before .before .before .before .rest .ensures .long, c .before .before .before .wipe .ensures .long))

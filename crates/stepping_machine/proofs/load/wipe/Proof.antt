@@ -5,7 +5,15 @@ use Rattle.stepping_machine.proofs.load.wipe.Statement.{statement}
 use Rattle.stepping_machine.proofs.load.wipe.Tie as tie
 
 returns : tie.Need-returns
-returns c = let s = c .before .before .before .before .before .before .before .before .before .before .before .before .before .before .before .before .before in wiped _ _ _ _ _ _ _ (s .pre .0) (s .pre .1) (s .pre .2) (c .before .before .before .before .before .before .before .before .before .before .before .before .before .before .clear-words .ensures) (c .before .before .before .before .before .before .before .before .before .before .clear-words2 .ensures) (c .before .before .before .before .before .before .put .ensures) (c .before .before .put2 .ensures)
+returns c =
+    let timed = c .before .before in
+    let linked = timed .before .before .before .before in
+    let counted = linked .before .before .before .before in
+    let idle = counted .before .before .before .before in
+    let clocks = idle .before .before .before .before in
+    let start = clocks .before .before .before .pre in
+    wiped _ _ _ _ _ _ _ _ _ (start .0) (start .1) (start .2) (start .3)
+    (clocks .clear-words .ensures) (idle .clear-words2 .ensures) (counted .put .ensures) (linked .put2 .ensures) (timed .put3 .ensures)
 
 pub wipe-spec : {M : Type 1} → statement M
 wipe-spec =
@@ -13,6 +21,7 @@ wipe-spec =
     (tie.spec
     (λ c κs. search needs)
     (λ c. search needs)
+    (λ c κs. search needs)
     (λ c κs. search needs)
     (λ c κs. search needs)
     (λ c κs. search needs)

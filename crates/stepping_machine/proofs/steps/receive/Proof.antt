@@ -13,9 +13,24 @@ returns c = (rw (eq-eqb (getD (now (c .before .before .before .before .args .w))
 
 returns-2 : tie.Need-returns-2
 unfolding gotWords
-returns-2 c = (rw (ne-eqb (getD (now (c .before .before .before .before .before .before .before .before .args .w)) (c .before .before .before .before .before .before .before .before .args .i) 0) 0 (λ q. c .before .before .before .before .if1 .left (c .before .before .before .before .before .word .ensures .0 ∙ q))), simp (c .before .before .go-on .ensures, c .before .before .before .before .before .word .ensures .0))
+returns-2 c =
+    let unpacking = c .before .before .before .before in
+    let test = unpacking .before .before in
+    let stamp = test .before in
+    let start = stamp .before .before .before in (
+      rw (ne-eqb (getD (now (start .args .w)) (start .args .i) 0) 0 (λ q. test .if1 .left (stamp .word .ensures .0 ∙ q))),
+      simp (c .before .before .go-on .ensures, stamp .word .ensures .0, unpacking .word2 .ensures .0),
+    )
 
 pub receive-spec : {M : Type 1} → statement M
 receive-spec =
     tie.close
-    (tie.spec (λ c κs. search needs) (λ c. search needs) returns (λ c. search needs) (λ c κs. search needs) (λ c. search needs) returns-2)
+    (tie.spec
+    (λ c κs. search needs)
+    (λ c. search needs)
+    returns
+    (λ c κs. search needs)
+    (λ c. search needs)
+    (λ c κs. search needs)
+    (λ c. search needs)
+    returns-2)
