@@ -325,7 +325,7 @@ pub fn starts_before(w: &[u32], kept: &[u32], t: usize, k: usize, limit: usize) 
     start < limit
 }
 
-// When t has unpacked, on a fresh processor, the messages below link l, and that of l, which leads to it, besides: none comes while its source is not placed.
+// The time x of a fresh processor, past link l: its message is received, but none comes while its source is not placed.
 fn unpacked_with(w: &[u32], x: usize, unpacking: usize, l: usize) -> usize
     requires { ⌜ Loaded (now w) × (l < linkCount (sheetIn (now w))) ⌝ }
     requires { ⌜ (x ≤ latestStart) × (unpacking ≡ sheetIn (now w) .unpacking) ⌝ }
