@@ -4,6 +4,7 @@
 //! `compare [SEED]`: the same seed makes the same inputs.
 
 mod comparison;
+mod early;
 mod families;
 mod formats;
 mod lent;
@@ -37,6 +38,8 @@ const FEWEST_LOADS: usize = 50_000;
 /// The fewest sheets with unpacking that are planned, against the fast rewrite and against the literal
 /// rules.
 const FEWEST_UNPACKING: [usize; 2] = [50_000, 1_000_000];
+/// The fewest lists of choices with early ends, and how many of them have to be done before the claim.
+const FEWEST_EARLY: [usize; 2] = [100_000, 10_000];
 /// The fewest calls of each function that are held against the literal rules.
 const FEWEST_OF_EACH: usize = 1_000_000;
 /// How often each family of small inputs is run, so that they share the threads evenly.
@@ -120,8 +123,12 @@ fn fast_shortfalls(tally: &Tally) -> Vec<String> {
 /// What was held against the literal rules too seldom.
 fn literal_shortfalls(tally: &Tally) -> Vec<String> {
     let calls = FUNCTIONS.map(|f| (f.name(), tally.calls_of(f), FEWEST_OF_EACH));
-    let unpacking = ("sheets with unpacking", tally.with_unpacking(), FEWEST_UNPACKING[1]);
-    calls.into_iter().chain([unpacking]).filter_map(shortfall).collect()
+    let inputs = [
+        ("sheets with unpacking", tally.with_unpacking(), FEWEST_UNPACKING[1]),
+        ("lists with early ends", tally.early_ends()[0], FEWEST_EARLY[0]),
+        ("lists done before the claim", tally.early_ends()[1], FEWEST_EARLY[1]),
+    ];
+    calls.into_iter().chain(inputs).filter_map(shortfall).collect()
 }
 
 /// Something that came less often than it has to.

@@ -117,6 +117,9 @@ pub struct Tally {
     reasons: [usize; REASONS.len()],
     /// How many sheets that were planned have a `55` directly behind the board, wrong ones among them.
     unpacking: usize,
+    /// How many lists of choices with early ends were run to their ends, and how many of them were done
+    /// before the claim.
+    early: [usize; 2],
 }
 
 impl Default for Tally {
@@ -126,6 +129,7 @@ impl Default for Tally {
             rules: [0; RULES.len()],
             reasons: [0; REASONS.len()],
             unpacking: 0,
+            early: [0; 2],
         }
     }
 }
@@ -146,6 +150,17 @@ impl Tally {
         self.unpacking
     }
 
+    /// Counts a list of choices with early ends, by whether it was done before the claim.
+    pub fn count_early(&mut self, before: bool) {
+        self.early[0] += 1;
+        self.early[1] += usize::from(before);
+    }
+
+    /// The lists with early ends, and those that were done before the claim.
+    pub fn early_ends(&self) -> [usize; 2] {
+        self.early
+    }
+
     /// Counts a turn of the planner by the step that decided, from 0, and whether the guard did at join
     /// and at share.
     pub fn count_turn(&mut self, step: usize, guarded: [bool; 2]) {
@@ -162,8 +177,9 @@ impl Tally {
     /// Adds another tally's counts.
     pub fn add(&mut self, other: &Tally) {
         let counts = self.counts.as_flattened_mut().iter_mut();
-        let counts = counts.chain(&mut self.rules).chain(&mut self.reasons);
+        let counts = counts.chain(&mut self.rules).chain(&mut self.reasons).chain(&mut self.early);
         let more = other.counts.as_flattened().iter().chain(&other.rules).chain(&other.reasons);
+        let more = more.chain(&other.early);
         counts.zip(more).for_each(|(count, more)| *count += more);
         self.unpacking += other.unpacking;
     }
@@ -192,6 +208,8 @@ impl Tally {
             println!("{what} decided by {}", named.collect::<Vec<_>>().join(", "));
         }
         println!("sheets with unpacking {}", self.unpacking);
+        let [lists, before] = self.early;
+        println!("lists with early ends {lists}, done before the claim {before}");
         for functions in FUNCTIONS.chunks(COLUMNS) {
             let row = |name: &str, cell: &dyn Fn(Function) -> String| {
                 let cells: String = functions.iter().map(|&f| format!("{:>14}", cell(f))).collect();

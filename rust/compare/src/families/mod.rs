@@ -3,6 +3,7 @@
 
 mod bare;
 mod choices;
+mod early;
 mod formats;
 mod formulas;
 mod loads;
@@ -109,6 +110,7 @@ pub const LITERAL: &[Family<Literal>] = &[
     ("arranged small bundles", small::arranged_bundles),
     ("damaged small bundles", small::damaged_bundles),
     ("small sheets in fault", small::sheets_in_fault),
+    ("early ends", early::ends),
     ("even rivals", choices::even),
     ("bare rivals", choices::bare),
     ("every short text", formulas::every_short),
