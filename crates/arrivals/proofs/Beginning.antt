@@ -76,7 +76,7 @@ module _ (s : Sheet) (σ : Schedule) (free : (u : ℕ) → placeOf σ u ≡ 16) 
         record {
           ends = λ k h. z (endsFrom + k) (omega arith) (omega arith) ∙ sym (no-end k h);
           stores = λ k h. z (storesFrom + k) (omega arith) (omega arith) ∙ sym (no-store k h);
-          open = λ k h. z (openFrom + k) (omega arith) (omega arith) ∙ sym (ap bit (no-open k h));
+          opens = λ k h. z (openFrom + k) (omega arith) (omega arith) ∙ sym (ap bit (no-open k h));
         }
 
   pub closed-zero : Closed s σ

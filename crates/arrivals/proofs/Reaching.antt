@@ -1,5 +1,5 @@
 -- A walk over the links into t: its starts, on one processor and on all, by the links below l.
-use Prim.Native.Nat.{ℕ, _+_, _≤_, _<_, max}
+use Prim.Native.Nat.{ℕ, _+_, _*_, _≤_, _<_, max}
 use mathlib.Core.Bool.{Bool, true, false, not}
 use mathlib.Core.Path.{_≡_, refl, ap, ap₂, sym, _∙_}
 use mathlib.Core.Logic.{_≢_}
@@ -24,26 +24,62 @@ use Rattle.adjacency.specs.declared.End.the-variants.{Target}
 use Rattle.adjacency.proofs.Walks.{greatest-first, greatest-next}
 use Rattle.arrivals.specs.Layout.{endsFrom}
 use Rattle.arrivals.specs.Kept.{Ends, Caches}
-use Rattle.arrivals.specs.Lanes.{Lanes, Steps, Away, startPast, startUnpacked, startHopped, startBeyond, startTo, partlyTo, Soon, Early}
+use Rattle.arrivals.specs.Lanes.{lane, Lanes, Steps, Away, startPast, startUnpacked, startHopped, startBeyond, startTo, partlyTo, Soon, Early}
 use Rattle.arrivals.specs.declared.Starts.{Starts}
 use Rattle.arrivals.specs.declared.Row.{Row}
 use Rattle.arrivals.proofs.Numbered.{Walking, walk-begins, walk-ended, walk-more, walk-there}
 use Rattle.arrivals.proofs.Unpacking.{unpacked-first, unpacked-next, comes-else}
 
+-- the time of a message by its cost
+pub time-hopped : (s : Sheet) (l j k : ℕ) {c r : ℕ} → s .cube ≡ true → c ≡ costOf s l → r ≡ c * hops j k → r ≡ linkTime s l j k
+unfolding linkTime
+time-hopped s l j k cubic ec er = er ∙ ap (λ (x : ℕ). x * hops j k) ec ∙ sym (ap (λ (b : Bool). pick b (costOf s l * hops j k) (costOf s l)) cubic)
+
+pub time-flat : (s : Sheet) (l j k : ℕ) {c : ℕ} → s .cube ≡ false → c ≡ costOf s l → c ≡ linkTime s l j k
+time-flat s l j k flat ec = ec ∙ sym (flat-time s l j k flat)
+
+-- a placed task stands on the board
+pub placed-low : (σ : Schedule) (u : ℕ) {k v : ℕ} → k ≡ placeOf σ v → v ≡ u → placed σ u ≡ true → k < 16
+unfolding placed
+placed-low σ u e q p = omega (arith, e ∙ ap (placeOf σ) q, ltb-true (placeOf σ u) 16 p)
+
+-- a lane past link l: on a cube, and elsewhere where receives take no time, and where they do
+module _ (s : Sheet) (σ : Schedule) (l : ℕ) (q : Starts) (k : ℕ) where
+  abbrev hopped : ℕ
+  hopped = startUnpacked (placeOf σ (sourceOf s l)) (reachOn s σ k l) (s .unpacking) k (lane q k)
+
+  abbrev past : ℕ
+  past = startPast (placeOf σ (sourceOf s l)) (finishOf σ (sourceOf s l)) (costOf s l) k (lane q k)
+
+  abbrev received : ℕ
+  received = startUnpacked (placeOf σ (sourceOf s l)) (reachBy s σ l) (s .unpacking) k (lane q k)
+
+  flat-lane : s .cube ≡ false → (b : Bool) → eqb (s .unpacking) 0 ≡ b → pick b past received ≡ startBeyond s σ l k (lane q k)
+  unfolding startBeyond
+  flat-lane flat b e =
+      sym (ap (λ (x : Bool). pick x hopped (pick (eqb (s .unpacking) 0) past received)) flat ∙ ap (λ (x : Bool). pick x past received) e)
+
+  cube-lane : s .cube ≡ true → hopped ≡ startBeyond s σ l k (lane q k)
+  unfolding startBeyond
+  cube-lane cubic = sym (ap (λ (x : Bool). pick x hopped (pick (eqb (s .unpacking) 0) past received)) cubic)
+
 -- the numbers of a link as the code reads them
 module _ (s : Sheet) (σ : Schedule) (l : ℕ) (q : Starts) {a f x u : ℕ} {r : Starts} (ea : a ≡ placeOf σ (sourceOf s l)) (ef : f ≡ finishOf σ (sourceOf s l)) (ex : x ≡ costOf s l) (eu : u ≡ s .unpacking) where
-  module _ (flat : s .cube ≡ false) where
-    pub beyond-plain : u ≡ 0 → Steps (startPast a f x) q r → Steps (startBeyond s σ l) q r
-    unfolding startBeyond
-    beyond-plain z h = record { on = λ k m. h .on k m ∙ rw (flat, eq-eqb (s .unpacking) 0 (sym eu ∙ z), ea, ef, ex) }
+  pub beyond-plain : s .cube ≡ false → u ≡ 0 → Steps (startPast a f x) q r → Steps (startBeyond s σ l) q r
+  beyond-plain flat z h = record { on = λ k m. h .on k m ∙ rw (ea, ef, ex) (flat-lane s σ l q k flat true (eq-eqb (s .unpacking) 0 (sym eu ∙ z))) }
 
-    pub beyond-unpacked : u ≢ 0 → Steps (startUnpacked a (f + x) u) q r → Steps (startBeyond s σ l) q r
-    unfolding startBeyond
-    beyond-unpacked z h = record { on = λ k m. h .on k m ∙ rw (flat, ne-eqb (s .unpacking) 0 (λ e. z (eu ∙ e)), ea, ef, ex, eu) }
+  pub beyond-unpacked : s .cube ≡ false → u ≢ 0 → Steps (startUnpacked a (f + x) u) q r → Steps (startBeyond s σ l) q r
+  beyond-unpacked flat z h = record { on = λ k m. h .on k m ∙ rw (ea, ef, ex, eu) (flat-lane s σ l q k flat false (ne-eqb (s .unpacking) 0 (λ e. z (eu ∙ e)))) }
 
   pub beyond-hopped : s .cube ≡ true → {row : Row} {c : ℕ} → c ≡ x → Away a row → Steps (startHopped row a f c u) q r → Steps (startBeyond s σ l) q r
-  unfolding startBeyond startHopped linkTime
-  beyond-hopped cubic ec away h = record { on = λ k m. h .on k m ∙ rw (cubic, away .on k m, ec, ea, ef, ex, eu) }
+  unfolding startHopped
+  beyond-hopped cubic {row} {c} ec away h =
+      record {
+        on =
+            λ k m.
+            let time : c * getD (row .at) k 0 ≡ linkTime s l (placeOf σ (sourceOf s l)) k = rw (away .on k m, ea) (time-hopped s l (placeOf σ (sourceOf s l)) k cubic (ec ∙ ex) refl) in
+            h .on k m ∙ rw (time, ea, ef, eu) (cube-lane s σ l q k cubic);
+      }
 
 module _ (s : Sheet) (σ : Schedule) (t : ℕ) where
   -- a link that leads elsewhere gives nothing

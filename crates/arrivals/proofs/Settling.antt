@@ -85,10 +85,10 @@ module _ (s : Sheet) (σ : Schedule) (w : List ℕ) (t k a f : ℕ) (long : kept
     open-at j h (no e) =
         let p = g .on in
         getD-set-other stored (openFrom + k) (openFrom + j) 1 0 (λ q. e (omega arith)) ∙ getD-set-other ended (storesFrom + k) (openFrom + j) x 0 (omega arith) ∙ getD-set-other w (endsFrom + k) (openFrom + j) f 0 (omega arith)
-        ∙ ends .open j h ∙ sym (ap bit (open-else s σ t k a f g j h e))
+        ∙ ends .opens j h ∙ sym (ap bit (open-else s σ t k a f g j h e))
 
     settled-ends : Ends s (put σ t k a f) new
-    settled-ends = record { ends = λ j h. end-at j h (ℕ-discrete j k); stores = λ j h. store-at j h (ℕ-discrete j k); open = λ j h. open-at j h (ℕ-discrete j k) }
+    settled-ends = record { ends = λ j h. end-at j h (ℕ-discrete j k); stores = λ j h. store-at j h (ℕ-discrete j k); opens = λ j h. open-at j h (ℕ-discrete j k) }
 
   -- as the code writes it
   pub settled-by : (w₂ : List ℕ) {f₁ x y z v r : ℕ} → f₁ ≡ f → x ≡ getD w (storesFrom + k) 0 → y ≡ storeOf s t → z ≡ getD w (bytesFrom + t) 0 → v ≡ getD w (turnBytesFrom + k) 0

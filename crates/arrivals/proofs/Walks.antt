@@ -79,7 +79,7 @@ gathered-frame few f d =
 
 pub ends-frame : {s : Sheet} {σ : Schedule} {w w′ : List ℕ} → ((i : ℕ) → endsFrom ≤ i → i < waitingFrom → getD w′ i 0 ≡ getD w i 0) → Ends s σ w → Ends s σ w′
 ends-frame f d =
-    record { ends = λ k h. f (endsFrom + k) (omega arith) (omega arith) ∙ d .ends k h; stores = λ k h. f (storesFrom + k) (omega arith) (omega arith) ∙ d .stores k h; open = λ k h. f (openFrom + k) (omega arith) (omega arith) ∙ d .open k h }
+    record { ends = λ k h. f (endsFrom + k) (omega arith) (omega arith) ∙ d .ends k h; stores = λ k h. f (storesFrom + k) (omega arith) (omega arith) ∙ d .stores k h; opens = λ k h. f (openFrom + k) (omega arith) (omega arith) ∙ d .opens k h }
 
 beside-none : (w : List ℕ) → Beside w w
 beside-none w = record { long = refl; low = λ i h. refl; mid = λ i h g. refl }

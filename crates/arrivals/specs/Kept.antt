@@ -71,7 +71,7 @@ Surveyed s σ t w = SurveyedTo s σ t (linkCount s) w
 pub record Ends (s : Sheet) (σ : Schedule) (w : List ℕ) : Type 0 where
   pub ends : (k : ℕ) → k < 16 → getD w (endsFrom + k) 0 ≡ endOf s σ k
   pub stores : (k : ℕ) → k < 16 → getD w (storesFrom + k) 0 ≡ storeOn s σ k
-  pub open : (k : ℕ) → k < 16 → getD w (openFrom + k) 0 ≡ bit (isOpen s σ k)
+  pub opens : (k : ℕ) → k < 16 → getD w (openFrom + k) 0 ≡ bit (isOpen s σ k)
 
 -- no task is placed before its predecessors
 abbrev pub Closed : Sheet → Schedule → Type 0
