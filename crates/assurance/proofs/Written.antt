@@ -66,7 +66,8 @@ module _ (s : Sheet) (proper : Proper s) {φ : Schedule} {ts : List ℕ} (how : 
   run-once : (u : ℕ) → u < taskCount s → whole b (is (run u)) ≡ 1
   run-once u h = whole-is (is (run u)) ∙ total-run s φ u ts ∙ once u h
 
-  home-of : (u : ℕ) → u < taskCount s → home b (run u) ≡ placeOf φ u
+  -- where its programme stands
+  pub home-of : (u : ℕ) → u < taskCount s → home b (run u) ≡ placeOf φ u
   unfolding wholeOf
   home-of u h =
       home-is b (run u) (placeOf φ u) (omega (arith, programmes, at-home u h)) (omega (arith, run-once u h))

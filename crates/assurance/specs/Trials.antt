@@ -28,7 +28,7 @@ use Rattle.better.specs.Ranks.{runsTask, runners, rankOf}
 use Rattle.better.specs.Choices.{firstLent, secondLent, better}
 use Rattle.planner.specs.Schedule.{Schedule, empty, placeOf, startOf, finishOf, placed, stands}
 use Rattle.planner.specs.Placing.{comes, lacks, satisfied, ready, partlyReady, arrivalBy, arrival, priority, unpacked, readyArrival, readyPriority, aheadBy, firstReady, firstPartlyReady, endBy, endOf, startBy, startFrom, elsewhere, nearBy, startOn, storeBy, bytesBy, storeOn, fits, holdsBy, holdsPredecessor, startWith, bestStart, endsWith, delays, barred, followsBy, follows, spentBy, spent}
-use Rattle.planner.specs.Planner.{mayJoin, join, mayTake, idle, opens, mayShare, share, another, lastResort, choice, turn, turns, plannedBy, planned, brings, takesAway, receiveOf, sendOf, blockOf, blocks, programme, claimOf, bundleOf, plan}
+use Rattle.planner.specs.Planner.{mayJoin, join, mayTake, idle, mayOpen, another, mayShare, share, mayCrowd, lastResort, choice, turn, turns, plannedBy, planned, brings, takesAway, receiveOf, sendOf, blockOf, blocks, programme, claimOf, bundleOf, plan}
 use Rattle.planner.specs.Amended.{plannedBefore}
 use Rattle.listing.specs.Listing.{decimalWithin, decimal, planLine, taskLine, refusalLine, scheduleLines, listing}
 
@@ -235,7 +235,7 @@ pub record Trials : Type 0 where
   pub better-bare : better (sheetBytes bare) (bundleBare 0) (0x50 ∷ 0 ∷ bundleBare 0) ≡ value secondLent
 
 pub trials : Trials
-unfolding all any sum greatest first leading least listed gather numberAt judge readFrom readAll taskCount linkCount workOf storeOf sourceOf targetOf costOf bytesOf joinsBy joins readForm sheetBytes reachesBy reaches onCircle circle levelBy levelWithin level readSheet programmeCount programmeOf readBundle bundleBytes weigh wholeOf whole is notOnce holds home before inside sendFault receiveFault orderFault messageFault overStore at26 atMessage at28 firstWith processorOf stampOf next linkTime travels stated stepIn step canStep clockOf latest settle settled unfinished at29 at30 closing checked check placeOf startOf finishOf placed stands comes lacks satisfied ready partlyReady arrivalBy arrival priority unpacked readyArrival readyPriority aheadBy firstReady firstPartlyReady endBy endOf startBy startFrom elsewhere nearBy startOn storeBy bytesBy storeOn fits holdsBy holdsPredecessor startWith bestStart endsWith delays barred followsBy follows spentBy spent mayJoin join mayTake idle opens mayShare share another lastResort choice turn turns plannedBy planned plannedBefore brings takesAway receiveOf sendOf blockOf blocks programme claimOf bundleOf plan decimalWithin decimal planLine taskLine refusalLine scheduleLines listing sheets.fault sheets.ended bundles.fault bundles.ended byBytes byRank runsTask runners rankOf better
+unfolding all any sum greatest first leading least listed gather numberAt judge readFrom readAll taskCount linkCount workOf storeOf sourceOf targetOf costOf bytesOf joinsBy joins readForm sheetBytes reachesBy reaches onCircle circle levelBy levelWithin level readSheet programmeCount programmeOf readBundle bundleBytes weigh wholeOf whole is notOnce holds home before inside sendFault receiveFault orderFault messageFault overStore at26 atMessage at28 firstWith processorOf stampOf next linkTime travels stated stepIn step canStep clockOf latest settle settled unfinished at29 at30 closing checked check placeOf startOf finishOf placed stands comes lacks satisfied ready partlyReady arrivalBy arrival priority unpacked readyArrival readyPriority aheadBy firstReady firstPartlyReady endBy endOf startBy startFrom elsewhere nearBy startOn storeBy bytesBy storeOn fits holdsBy holdsPredecessor startWith bestStart endsWith delays barred isOpen followsBy follows spentBy spent mayJoin join mayTake idle mayOpen another mayShare share mayCrowd lastResort choice turn turns plannedBy planned plannedBefore brings takesAway receiveOf sendOf blockOf blocks programme running claimOf bundleOf plan decimalWithin decimal planLine taskLine refusalLine scheduleLines listing sheets.fault sheets.ended bundles.fault bundles.ended byBytes byRank runsTask runners rankOf better
 trials =
     record {
       k1-read = refl;
