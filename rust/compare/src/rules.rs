@@ -87,8 +87,8 @@ impl Rules for Fast {
     }
 
     fn write_sheet(values: &sheets::Sheet) -> Answered<Vec<u8>> {
-        let sheets::Sheet { processors, limit, unpacking, ref tasks, ref links } = *values;
-        let sheet = Sheet::from_values(processors, limit, unpacking, tasks, links);
+        let sheets::Sheet { processors, limit, unpacking, cube, ref tasks, ref links } = *values;
+        let sheet = Sheet::from_values(processors, limit, unpacking, cube != 0, tasks, links);
         sheet.map(|sheet| sheet.to_bytes()).map_err(refusal)
     }
 
@@ -219,8 +219,8 @@ impl Rules for Literal {
     }
 
     fn write_sheet(values: &sheets::Sheet) -> Answered<Vec<u8>> {
-        let sheets::Sheet { processors, limit, unpacking, ref tasks, ref links } = *values;
-        literal::interface::write_sheet(processors, limit, unpacking, tasks, links)
+        let sheets::Sheet { processors, limit, unpacking, cube, ref tasks, ref links } = *values;
+        literal::interface::write_sheet(processors, limit, unpacking, cube, tasks, links)
     }
 
     fn generate(load: Load) -> Answered<Vec<u8>> {

@@ -6,10 +6,13 @@ use zeldrupa::{Board, Bundle, Command, Sheet};
 
 /// The text of a sheet.
 pub fn sheet_text(sheet: &Sheet, names: &Names) -> String {
-    let Board { processors, limit, unpacking } = sheet.board();
+    let Board { processors, limit, unpacking, cube } = sheet.board();
     let mut text = format!("board processors {processors} store {limit}");
     if unpacking > 0 {
         text += &format!(" unpacking {unpacking}");
+    }
+    if cube {
+        text += " cube";
     }
     text.push('\n');
     let field = |name: &str, value: u16| format!("{name} {value}");

@@ -192,11 +192,12 @@ fn over_full(random: &mut Random, full: &sheets::Sheet) -> [sheets::Sheet; 2] {
 /// Damages the values of a sheet one to three times.
 fn damage_sheet(random: &mut Random, values: &mut sheets::Sheet) {
     for _ in 0..random.within(1..=3) {
-        match random.below(8) {
+        match random.below(9) {
             0 => values.processors = random.bits() as u8,
             1 => values.limit = random.bits() as u32,
             2 => values.unpacking = random.pick(&[0, 1, 65_535]),
-            3..=4 => damage::values(random, &mut values.tasks, 2),
+            3 => values.cube = random.pick(&[0, 1, 255]),
+            4..=5 => damage::values(random, &mut values.tasks, 2),
             _ => damage::values(random, &mut values.links, 4),
         }
     }
