@@ -25,6 +25,14 @@ impl Board {
     pub fn new(processors: u8, limit: u32) -> Self {
         Board { processors, limit, unpacking: 0, cube: false }
     }
+
+    /// How many hops a message makes from one processor to another.
+    pub fn hops(self, from: usize, to: usize) -> u32 {
+        match self.cube {
+            true => (from ^ to).count_ones(),
+            false => u32::from(from != to),
+        }
+    }
 }
 
 /// A task.

@@ -39,6 +39,15 @@ pub fn link_shown(sheet: &Sheet, names: &Names, link: usize) -> String {
     format!("{} -> {}", names.shown(ends.source.into()), names.shown(ends.target.into()))
 }
 
+/// How far a message goes on a cube; on another board all go as far.
+pub fn hops_shown(board: Board, from: usize, to: usize) -> String {
+    match board.hops(from, to) {
+        _ if !board.cube => String::new(),
+        1 => " over 1 hop".into(),
+        hops => format!(" over {hops} hops"),
+    }
+}
+
 /// The text of a bundle; without its sheet links go by their numbers.
 pub fn bundle_text(bundle: &Bundle, sheet: Option<(&Sheet, &Names)>) -> String {
     let task = |task: u8| match sheet {
