@@ -20,7 +20,7 @@ use reference::refusal::STUCK;
 use rules::Rules;
 use std::env;
 use std::process::ExitCode;
-use tally::{Function, Tally, FUNCTIONS};
+use tally::{Function, Tally, DRESSED, FUNCTIONS};
 
 const THREADS: usize = 2;
 /// The fewest calls that count as a comparison.
@@ -34,9 +34,10 @@ const FEWEST_STUCK: usize = 3000;
 const FEWEST_FORMULAS: usize = 1_000_000;
 /// The fewest test loads.
 const FEWEST_LOADS: usize = 50_000;
-/// The fewest sheets with unpacking that are planned, against the fast rewrite and against the literal
-/// rules.
-const FEWEST_UNPACKING: [usize; 2] = [50_000, 1_000_000];
+/// The fewest sheets with unpacking, of cubes, and with a number that is skipped, that are planned,
+/// against the fast rewrite and against the literal rules.
+const FEWEST_DRESSED: [[usize; DRESSED]; 2] =
+    [[50_000, 50_000, 3000], [1_000_000, 1_000_000, 30_000]];
 /// The fewest calls of each function that are held against the literal rules.
 const FEWEST_OF_EACH: usize = 1_000_000;
 /// How often each family of small inputs is run, so that they share the threads evenly.
@@ -112,16 +113,14 @@ fn fast_shortfalls(tally: &Tally) -> Vec<String> {
         ("pairs that get stuck", tally.answers(Function::Check, STUCK), FEWEST_STUCK),
         ("formulas", tally.calls_of(Function::Weight), FEWEST_FORMULAS),
         ("test loads", tally.calls_of(Function::Generate), FEWEST_LOADS),
-        ("sheets with unpacking", tally.with_unpacking(), FEWEST_UNPACKING[0]),
     ];
-    counts.into_iter().filter_map(shortfall).collect()
+    counts.into_iter().chain(tally.dressed(FEWEST_DRESSED[0])).filter_map(shortfall).collect()
 }
 
 /// What was held against the literal rules too seldom.
 fn literal_shortfalls(tally: &Tally) -> Vec<String> {
     let calls = FUNCTIONS.map(|f| (f.name(), tally.calls_of(f), FEWEST_OF_EACH));
-    let unpacking = ("sheets with unpacking", tally.with_unpacking(), FEWEST_UNPACKING[1]);
-    calls.into_iter().chain([unpacking]).filter_map(shortfall).collect()
+    calls.into_iter().chain(tally.dressed(FEWEST_DRESSED[1])).filter_map(shortfall).collect()
 }
 
 /// Something that came less often than it has to.

@@ -146,6 +146,9 @@ impl Rules for Fast {
             }),
             Err(refusal) => Err(*refusal),
         };
+        if let Ok(plan) = &plan {
+            tally.count_plan(plan.placements.iter().map(|placement| placement.processor.into()));
+        }
         let lines = listing::lines(&plan);
         let bundle = sheet.and_then(|sheet| plan.map(|plan| plan.to_bundle(&sheet)));
         (bundle.map_err(refusal), lines)
@@ -264,9 +267,11 @@ impl Rules for Literal {
     }
 
     fn plan(sheet: &[u8], tally: &mut Tally) -> (Answered<Vec<u8>>, Vec<u8>) {
-        for placed in literal::interface::placed(sheet).iter().flatten() {
+        let placed = literal::interface::placed(sheet);
+        for placed in placed.iter().flatten() {
             tally.count_turn(placed.step as usize, [placed.join_guarded, placed.share_guarded]);
         }
+        tally.count_plan(placed.iter().flatten().map(|placed| placed.processor));
         (literal::interface::plan(sheet), literal::interface::listing(sheet))
     }
 

@@ -3,6 +3,8 @@
 
 mod bare;
 mod choices;
+mod cubes;
+mod dressed;
 mod formats;
 mod formulas;
 mod loads;
@@ -56,6 +58,12 @@ pub const FAST: &[Family<Fast>] = &[
     ("bundles with unpacking", unpacking::small_bundles),
     ("damaged unpacking", unpacking::damaged),
     ("unpacking everywhere", unpacking::every_offset),
+    ("plans on cubes", cubes::plans),
+    ("cubes with skipped numbers", cubes::far),
+    ("largest on cubes", cubes::largest),
+    ("bundles on cubes", cubes::small_bundles),
+    ("damaged cubes", cubes::damaged),
+    ("cubes everywhere", cubes::every_offset),
     ("trial pairs", machine::trial_pairs),
     ("right pairs", machine::right),
     ("wrong claims", machine::wrong_claims),
@@ -102,6 +110,10 @@ pub const LITERAL: &[Family<Literal>] = &[
     ("bundles with unpacking", unpacking::small_bundles),
     ("damaged unpacking", unpacking::damaged),
     ("unpacking everywhere", unpacking::every_offset),
+    ("small cubes", cubes::small_boards),
+    ("bundles on cubes", cubes::small_bundles),
+    ("damaged cubes", cubes::damaged),
+    ("cubes everywhere", cubes::every_offset),
     ("damaged small sheets", small::damaged_sheets),
     ("over-full sheets", small::over_full_sheets),
     ("small circles", small::circles),
