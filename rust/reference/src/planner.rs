@@ -396,6 +396,18 @@ impl<'a> Board<'a> {
     }
 }
 
+/// The bits in which two processor numbers differ, by rows: to load them is faster than to count.
+const HOPS: [Row; MOST_PROCESSORS] = {
+    let mut hops = [[0; MOST_PROCESSORS]; MOST_PROCESSORS];
+    let mut at = 0;
+    while at < MOST_PROCESSORS * MOST_PROCESSORS {
+        let (from, to) = (at / MOST_PROCESSORS, at % MOST_PROCESSORS);
+        hops[from][to] = (from ^ to).count_ones();
+        at += 1;
+    }
+    hops
+};
+
 /// What a link brings: the processor of its source, when that has finished, and the link's cost.
 struct Message {
     from: u32,
@@ -411,7 +423,7 @@ impl Message {
 
     /// When it is there on processor k of a cube, after a hop for each bit in which the numbers differ.
     fn there(&self, k: u32) -> u32 {
-        self.finish + self.cost * (self.from ^ k).count_ones()
+        self.finish + self.cost * HOPS[self.from as usize][k as usize]
     }
 }
 
