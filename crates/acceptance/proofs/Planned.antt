@@ -32,8 +32,8 @@ use Rattle.planner.specs.Planner.{brings, takesAway, receiveOf, sendOf, blockOf
 use Rattle.planner.proofs.Ready.{ready-source}
 use Rattle.planner.proofs.Schedules.{Fair, place, Placing, Built, built, placing, plan-of, Whole, on-same, finish-same, finish-other, placed-same, placed-other, fair-place, empty-free, empty-fair, planned-build}
 use Rattle.planner.proofs.Times.{end-same, end-other, starts, empty-end, claim-end}
-use Rattle.assurance.proofs.Written.{plan, programmes, programme-is, home-of, published, few, within, fits}
-use Rattle.assurance.proofs.Running.{Did, did-one, did-at, receive-all, Sent, send-all}
+use Rattle.acceptance.proofs.Written.{plan, programmes, programme-is, home-of, published, few, within, fits}
+use Rattle.acceptance.proofs.Running.{Did, did-one, did-at, receive-all, Sent, send-all}
 
 module _ (s : Sheet) (proper : Proper s) (φ : Schedule) (b : Bundle) (homes : (u : ℕ) → u < taskCount s → home b (run u) ≡ placeOf φ u) where
   -- when the message of l is where its target stands
