@@ -1,8 +1,9 @@
-/* The functions of the static library libzeldrupa.a: planner, checker, stepping machine and weights as formulas.
+/* The functions of the static library libzeldrupa.a: planner, checker, the better of two bundles, stepping
+ * machine, test loads and weights as formulas.
  *
  * docs/INTERFACE.md has each of them in full. Of all of them it holds that:
- * - A slice is a pointer and then its length in elements. The memory has to be valid, no two lent parts may
- *   overlap, and no pointer may be null. Any bytes, values and lengths are safe.
+ * - A slice is a pointer and then its length in elements. The memory has to be valid, no part of it that is
+ *   written may overlap another, and no pointer may be null. Any bytes, values and lengths are safe.
  * - A work area, and the area of a machine's state, has at least ZELDRUPA_WORK_LENGTH words. What a work area
  *   holds before does not matter; it is all zero afterwards, except under 13, where it is untouched.
  * - The result is 0, or the number of a refusal, which changes no output and no state, but for `kept` of
@@ -23,7 +24,7 @@ extern "C" {
 
 /* The greatest lengths in bytes: of a sheet that is read, of a bundle that is accepted, and of a listing.
  * A longer input may be lent: it is refused. */
-#define ZELDRUPA_LONGEST_SHEET 8455
+#define ZELDRUPA_LONGEST_SHEET 8459
 #define ZELDRUPA_LONGEST_BUNDLE 6693
 #define ZELDRUPA_LONGEST_LISTING 7453
 
@@ -65,15 +66,17 @@ struct zeldrupa_bytes {
 };
 
 /* Reads a sheet: two values a task (work, store), four a link (source, target, cost, bytes), and the board
- * (processors, store limit, number of tasks, number of links). *place is 0. */
+ * (processors, store limit, number of tasks, number of links, unpacking time, 1 for a cube). *place is 0. */
 uint8_t zeldrupa_read_sheet(const uint8_t *sheet, size_t sheet_length, uint32_t *work, size_t work_length,
                             uint16_t *tasks, size_t tasks_length, uint16_t *links, size_t links_length,
-                            uint32_t board[4], uint64_t *place);
+                            uint32_t board[6], uint64_t *place);
 
-/* Writes the sheet of such values. *place is the number of bytes. */
-uint8_t zeldrupa_write_sheet(uint8_t processors, uint32_t limit, const uint16_t *tasks, size_t tasks_length,
-                             const uint16_t *links, size_t links_length, uint32_t *work, size_t work_length,
-                             uint8_t *out, size_t out_length, uint64_t *place);
+/* Writes the sheet of such values; an unpacking time of 0 is none, a cube of 0 is none and any other is one.
+ * *place is the number of bytes. */
+uint8_t zeldrupa_write_sheet(uint8_t processors, uint32_t limit, uint16_t unpacking, uint8_t cube,
+                             const uint16_t *tasks, size_t tasks_length, const uint16_t *links,
+                             size_t links_length, uint32_t *work, size_t work_length, uint8_t *out,
+                             size_t out_length, uint64_t *place);
 
 /* Writes the sheet that a seed gives, with so many tasks and tries for links: the same numbers give the same
  * bytes. ZELDRUPA_RANGE, with place 0, for seed 0, tasks outside 1 to 256, tries above 1,024 or processors
@@ -102,7 +105,8 @@ uint8_t zeldrupa_check(const uint8_t *sheet, size_t sheet_length, const uint8_t 
 
 /* Checks two bundles for a sheet: *kept becomes the better one, the very bytes that were lent and no copy. An
  * accepted bundle is better than a refused one, then the smaller claim, then fewer processors that run a task,
- * then the first differing byte lower; of equal bundles the first is kept. *place is the length of what is kept.
+ * then the first differing byte lower, a shorter bundle before a longer one that begins with it; of equal
+ * bundles the first is kept. *place is the length of what is kept.
  * A refusal, ZELDRUPA_BOTH_REFUSED behind those of the sheet, makes *kept the empty front of the first: its
  * address, and length 0. Before the call *kept has to hold valid bytes, of any length, as {first, 0} does. */
 uint8_t zeldrupa_better(const uint8_t *sheet, size_t sheet_length, const uint8_t *first, size_t first_length,

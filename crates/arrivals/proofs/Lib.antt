@@ -9,6 +9,7 @@ pub mod Links
 pub mod Walks
 pub mod Numbered
 pub mod Stepping
+pub mod Unpacking
 pub mod Reaching
 pub mod Surveys
 pub mod Placing

@@ -14,9 +14,8 @@ use Rattle.folds.proofs.Tests.{pick-le}
 use Rattle.folds.proofs.Loops.{sum-zero, sum-one}
 use Rattle.folds.proofs.Laws.{sum-le, sum-skip}
 use Rattle.sheet.specs.Sheet.{Sheet, taskCount, linkCount, sourceOf, targetOf, bytesOf}
-use Rattle.sheet.specs.Times.{linkTime}
 use Rattle.sheet.specs.Tables.{sheetIn, Ranged}
-use Rattle.planner.specs.Schedule.{Schedule, placed, stands, placeOf, finishOf}
+use Rattle.planner.specs.Schedule.{Schedule, placed, stands, placeOf}
 use Rattle.planner.specs.Placing.{ready, startOn}
 use Rattle.planner.proofs.Ready.{ready-source}
 use Rattle.schedule.specs.Layout.{scheduleIn}
@@ -26,11 +25,11 @@ use Rattle.adjacency.specs.declared.End.the-variants.{Target}
 use Rattle.adjacency.proofs.Frames.{only-none, only-set, only-trans}
 use Rattle.arrivals.specs.Layout.{endsFrom, turnBytesFrom, turnLinksFrom, packedFrom, keptLength}
 use Rattle.arrivals.specs.Kept.{countedBy, intoFrom, oneBy, known, Gathered, SurveyedTo, Surveyed, Ends, Kept}
-use Rattle.arrivals.specs.Lanes.{Lanes, Steps, startPast, startTo}
+use Rattle.arrivals.specs.Lanes.{Lanes, Steps, startBeyond, startTo, Soon, Early}
 use Rattle.arrivals.specs.Steps.{Zero}
 use Rattle.arrivals.specs.declared.Starts.{Starts}
 use Rattle.arrivals.proofs.Numbered.{Walking, walk-begins, walk-ended, walk-more, walk-there}
-use Rattle.arrivals.proofs.Reaching.{starts-first, starts-next, starts-done}
+use Rattle.arrivals.proofs.Reaching.{starts-first, starts-next, starts-done, starts-soon}
 use Rattle.arrivals.proofs.Walks.{counted-frame, gathered-frame, ends-frame}
 
 pub survey-none : {s : Sheet} {σ : Schedule} (t : ℕ) {w : List ℕ} → Zero turnBytesFrom packedFrom w → SurveyedTo s σ t 0 w
@@ -142,23 +141,26 @@ module _ {s : Sheet} {σ : Schedule} {w kept₀ : List ℕ} (chained : Chained T
     pub there-more : {n : ℕ} → n ≡ getD kept₀ t 0 → i < n → l < linkCount s
     there-more e h = walk-there chained gathered t t-in (g .walk) e h
 
+    pub there-soon : Ranged s → Early σ → Soon r
+    there-soon ranged early = starts-soon s σ t (g .walk .here) ranged early (g .lanes)
+
     pub there-link : ready s σ t ≡ true → l < linkCount s → (l < linkCount s) × (targetOf s l ≡ t) × (placed σ (sourceOf s l) ≡ true)
     there-link isReady h = (h, g .walk .own h, ready-source s σ t l isReady h (g .walk .own h))
 
     pub survey-more : {l′ : ℕ} {kept′ : List ℕ} {r′ : Starts} → ready s σ t ≡ true → Only turnBytesFrom packedFrom kept kept′ → l < linkCount s → l′ ≡ nextOf Target w l → l′ ≤ linkCount s → l < l′ → SurveyedTo s σ t (l + 1) kept′
-        → Steps (startPast (placeOf σ (sourceOf s l)) (finishOf σ (sourceOf s l)) (linkTime s l)) r r′ → Surveying s σ t (i + 1) l′ kept₀ kept′ r′
-    survey-more {l′} {kept′} isReady o h e few more d step =
+        → Ranged s → Steps (startBeyond s σ l) r r′ → Surveying s σ t (i + 1) l′ kept₀ kept′ r′
+    survey-more {l′} {kept′} isReady o h e few more d ranged step =
         record {
           only = only-trans (g .only) o;
           walk = walk-more chained gathered t t-in (g .walk) h e more few;
           surveyed = survey-skip s σ t (l + 1) l′ kept′ (omega arith) (λ j x y z. chained .next-none l h j (omega arith) (rw e at y) (z ∙ sym (g .walk .own h))) d;
-          lanes = starts-next s σ t chained t-in h (g .walk .own h) (ready-source s σ t l isReady h (g .walk .own h)) e more few step (g .lanes);
+          lanes = starts-next s σ t chained t-in h (g .walk .own h) (ready-source s σ t l isReady h (g .walk .own h)) (ranged .source l h) e more few step (g .lanes);
         }
 
-    pub survey-done : {n : ℕ} → n ≡ getD kept₀ t 0 → n ≤ i → Only turnBytesFrom packedFrom kept₀ kept × Surveyed s σ t kept × Lanes (startOn s σ t) r
-    survey-done e h =
+    pub survey-done : {n : ℕ} → Ranged s → n ≡ getD kept₀ t 0 → n ≤ i → Only turnBytesFrom packedFrom kept₀ kept × Surveyed s σ t kept × Lanes (startOn s σ t) r
+    survey-done ranged e h =
         let z = walk-ended chained gathered t t-in (g .walk) e h in
-        (g .only, subst (λ (n : ℕ). SurveyedTo s σ t n kept) z (g .surveyed), starts-done s σ t z (g .lanes))
+        (g .only, subst (λ (n : ℕ). SurveyedTo s σ t n kept) z (g .surveyed), starts-done s σ t (ranged .source) z (g .lanes))
 
 -- a survey leaves all else as it was
 module _ {w kept kept′ : List ℕ} (h : Kept w kept) (o : Only turnBytesFrom packedFrom kept kept′) where

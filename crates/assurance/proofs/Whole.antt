@@ -18,7 +18,8 @@ use Rattle.bundle.specs.Writing.{bundleBytes}
 use Rattle.bundle.proofs.Backs.{read-back}
 use Rattle.admission.specs.Messages.{at26, atMessage, at28}
 use Rattle.admission.specs.Admitted.{admitted, admittedBytes}
-use Rattle.machine.specs.Runs.{runFrom, runOf}
+use Rattle.machine.specs.Runs.{runFrom, runOf, Choice, earlyOf}
+use Rattle.machine.proofs.Early.{on-time}
 use Rattle.checker.specs.Checker.{checked, check}
 use Rattle.checker.proofs.Accepted.{accepted, passes}
 use Rattle.planner.specs.Placing.{barred}
@@ -29,25 +30,25 @@ use Rattle.zeldrupa.specs.Promises.{checkAnswer, GivesCheck, planAnswer, GivesP
 use Rattle.entry_points.specs.Values.{steppedIn}
 use Rattle.zeldrupa.specs.Stepping.{startAnswer}
 use Rattle.zeldrupa.proofs.Gives.{enough}
-use Rattle.assurance.specs.Demand.{Holds, Read, Begun, started, ran, Stepped, Agrees, About, Demand}
+use Rattle.assurance.specs.Demand.{OnTime, InTime, Read, Begun, started, ran, Stepped, Agrees, About, Demand}
 use Rattle.assurance.proofs.Numbers.{returned-0, numbered-long, numbered-check, numbered-starting, numbered-plan, numbered-given}
 use Rattle.assurance.proofs.Results.{long-value, fitting-value, gave}
 use Rattle.assurance.proofs.Calls.{agreed}
-use Rattle.assurance.proofs.Holding.{holding, passing}
-use Rattle.assurance.proofs.Planned.{plan-accepted}
+use Rattle.assurance.proofs.Holding.{holding, stated-of, passing}
+use Rattle.acceptance.proofs.Planned.{plan-accepted}
 
 check-is : (sheet out : List ℕ) (s : Sheet) (b : Bundle) → readSheet sheet ≡ value s → readBundle s out ≡ value b → check sheet out ≡ checked s b
 unfolding check
 check-is sheet out s b e f = rw (e, f)
 
 check-promised : (sheet bundle : List ℕ) (b : Bundle) → check sheet bundle ≡ value b →
-    (s : Sheet) × (readSheet sheet ≡ value s) × (readBundle s bundle ≡ value b) × ((ks : List ℕ) → Holds s b (runOf s b ks))
+    (s : Sheet) × (readSheet sheet ≡ value s) × (readBundle s bundle ≡ value b) × ((cs : List Choice) → InTime s b cs (earlyOf s b cs))
 unfolding check
 check-promised sheet bundle b e =
     let r = andThen-value (readSheet sheet) (λ s. andThen (readBundle s bundle) (checked s)) b e in
     let q = andThen-value (readBundle (r .0) bundle) (checked (r .0)) b (r .2) in
     let p = passes (r .0) (q .0) b (q .2) in
-    (r .0, r .1, q .1 ∙ ap value (p .1), subst (λ x. (ks : List ℕ) → Holds (r .0) x (runOf (r .0) x ks)) (p .1) (holding (r .0) (q .0) (p .0)))
+    (r .0, r .1, q .1 ∙ ap value (p .1), subst (λ x. (cs : List Choice) → InTime (r .0) x cs (earlyOf (r .0) x cs)) (p .1) (holding (r .0) (q .0) (p .0)))
 
 plan-checked : (sheet out : List ℕ) → Bytes sheet → plan sheet ≡ value out → (b : Bundle) × (check sheet out ≡ value b)
 unfolding plan planned
@@ -138,18 +139,18 @@ one-read {sheet} {bundle} x y =
     let e : x .s ≡ y .s = value-same (sym (x .sheet-is) ∙ y .sheet-is) in
     (e, value-same (sym (x .bundle-is) ∙ ap (λ (z : Sheet). readBundle z bundle) e ∙ y .bundle-is))
 
-check-read : (sheet bundle area area′ : List ℕ) (q : ℕ) → GivesCheck sheet bundle area area′ q 0 → (x : Read sheet bundle) × (check sheet bundle ≡ value (x .b)) × ((ks : List ℕ) → Holds (x .s) (x .b) (runOf (x .s) (x .b) ks))
+check-read : (sheet bundle area area′ : List ℕ) (q : ℕ) → GivesCheck sheet bundle area area′ q 0 → (x : Read sheet bundle) × (check sheet bundle ≡ value (x .b)) × ((cs : List Choice) → InTime (x .s) (x .b) cs (earlyOf (x .s) (x .b) cs))
 check-read sheet bundle area area′ q g =
     let v = check-value sheet bundle area area′ q g in
     let c = check-promised sheet bundle (v .0) (v .1) in
     (record { s = c .0; b = v .0; sheet-is = c .1; bundle-is = c .2 }, v .1, c .3)
 
 module _ {sheet bundle : List ℕ} (x : Read sheet bundle) where
-  checked-here : (area area′ : List ℕ) (q : ℕ) → GivesCheck sheet bundle area area′ q 0 → (check sheet bundle ≡ value (x .b)) × ((ks : List ℕ) → Holds (x .s) (x .b) (runOf (x .s) (x .b) ks))
+  checked-here : (area area′ : List ℕ) (q : ℕ) → GivesCheck sheet bundle area area′ q 0 → (check sheet bundle ≡ value (x .b)) × ((cs : List Choice) → InTime (x .s) (x .b) cs (earlyOf (x .s) (x .b) cs))
   checked-here area area′ q g =
       let v = check-read sheet bundle area area′ q g in
       let e = one-read (v .0) x in
-      (v .1 ∙ ap value (e .1), subst (λ (t : Sheet). (ks : List ℕ) → Holds t (x .b) (runOf t (x .b) ks)) (e .0) (subst (λ (c : Bundle). (ks : List ℕ) → Holds (v .0 .s) c (runOf (v .0 .s) c ks)) (e .1) (v .2)))
+      (v .1 ∙ ap value (e .1), subst (λ (t : Sheet). (cs : List Choice) → InTime t (x .b) cs (earlyOf t (x .b) cs)) (e .0) (subst (λ (c : Bundle). (cs : List Choice) → InTime (v .0 .s) c cs (earlyOf (v .0 .s) c cs)) (e .1) (v .2)))
 
   begun-agrees : {work work′ state state′ made : List ℕ} {p r : ℕ} → fixed ≤ length state → startAnswer sheet bundle (length work) (length state) ≡ value (x .s, x .b)
       → Begun sheet bundle work work′ state state′ made p r
@@ -166,16 +167,18 @@ module _ {sheet bundle : List ℕ} (x : Read sheet bundle) where
             λ area area′ q c work work′ state state′ made p r l m g.
             let h = checked-here area area′ q c in
             let a = begun-agrees m (start-accepted sheet bundle (x .s) (x .b) (length work) (length state) l m (x .sheet-is) (x .bundle-is) (h .0)) g in
-            (a .0, λ ks ps last z. (h .1 (made ++ ks), a .2 ks ps last z));
+            (a .0, λ ks ps last z. (stated-of (x .s) (x .b) (h .1) (made ++ ks), a .2 ks ps last z));
         exactly =
-            λ area area′ q r l g h. (
-              λ z. checked-here area area′ q (subst (GivesCheck sheet bundle area area′ q) z g) .1,
-              λ z. check-returns sheet bundle area area′ q r (x .b) l g (check-is sheet bundle (x .s) (x .b) (x .sheet-is) (x .bundle-is) ∙ accepted (x .s) (x .b) (passing (x .s) (x .b) h z)),
-            );
+            λ area area′ q r l g h.
+            let holds : r ≡ 0 → (cs : List Choice) → InTime (x .s) (x .b) cs (earlyOf (x .s) (x .b) cs) = λ z. checked-here area area′ q (subst (GivesCheck sheet bundle area area′ q) z g) .1 in
+            let accepts : ((ks : List ℕ) → OnTime (x .s) (x .b) (runOf (x .s) (x .b) ks)) → r ≡ 0 =
+            λ z. check-returns sheet bundle area area′ q r (x .b) l g (check-is sheet bundle (x .s) (x .b) (x .sheet-is) (x .bundle-is) ∙ accepted (x .s) (x .b) (passing (x .s) (x .b) h z)) in
+            ((λ z. stated-of (x .s) (x .b) (holds z), accepts), (holds, λ z. accepts (stated-of (x .s) (x .b) z)));
         planned =
             λ work work′ out out′ n y g e area area′ q r l c.
             let v = plan-checked sheet bundle y (plan-value sheet work work′ out out′ n g ∙ ap value e) in
             check-returns sheet bundle area area′ q r (v .0) l c (v .1);
+        stated = on-time (x .s) (x .b);
         agrees =
             λ work work′ state state′ made p g.
             let v = start-value sheet bundle (length work) (length state) (begun-returns g) in

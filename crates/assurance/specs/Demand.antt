@@ -1,5 +1,5 @@
 -- Demand 3, of the functions of the interface, as one statement about the bytes of a sheet and a bundle: what holds after every list of choices of a processor,
--- that the checker accepts just the bundles for which it does, that it accepts every plan, and that the public machine agrees. `Gives..` is what a call of the
+-- with times up to the stated ones, that the checker accepts just the bundles for which it does, that it accepts every plan, and that the public machine agrees. `Gives..` is what a call of the
 -- function of that name promises, word for word.
 use Prim.Native.Nat.{ℕ, _+_, _≤_, _<_}
 use mathlib.Core.Bool.{true}
@@ -19,7 +19,7 @@ use Rattle.bundle.specs.Format.{readBundle}
 use Rattle.admission.specs.Counting.{weigh, whole, each, is, need}
 use Rattle.admission.specs.Messages.{Published}
 use Rattle.machine.specs.Machine.{processorOf, stampOf, canStep}
-use Rattle.machine.specs.Runs.{Run, runOf, answers, doneOf, done, left, latest}
+use Rattle.machine.specs.Runs.{Run, runOf, Choice, onTime, earlyOf, Stated, answers, doneOf, done, left, latest}
 use Rattle.stepping_machine.specs.Represents.{Represents}
 use Rattle.zeldrupa.specs.Promises.{GivesCheck, GivesPlan}
 use Rattle.entry_points.specs.Values.{numbersOf}
@@ -30,6 +30,7 @@ abbrev pub Present : Sheet → List Command → ℕ → ℕ → Type 0
 Present s p i t =
     (l : ℕ) → l < linkCount s → targetOf s l ≡ t → 0 < weigh (is (run (sourceOf s l))) (take i p) + weigh (is (receive l)) (take i p)
 
+-- what holds of a run r at every moment, whatever times its steps took
 pub record Holds (s : Sheet) (b : Bundle) (r : Run) : Type 0 where
   -- "commands still to do are those standing in the programmes and not yet done": each choice that stepped did one of them
   pub count : left b (r .state) each + r .stepped ≡ whole b each
@@ -43,8 +44,21 @@ pub record Holds (s : Sheet) (b : Bundle) (r : Run) : Type 0 where
   pub holds : (k : ℕ) → processorOf (r .state) k .store ≡ doneOf b (r .state) (need s) k
   -- "the limit is M, for the store in use"
   pub store : (k : ℕ) → processorOf (r .state) k .store ≤ s .limit
-  -- once no command is left every task has run just once, and "the latest clock" is the claim
-  pub finish : left b (r .state) each ≡ 0 → ((t : ℕ) → t < taskCount s → done b (r .state) (is (run t)) ≡ 1) × (latest (r .state) ≡ b .claim)
+  -- once no command is left every task has run just once
+  pub finish : left b (r .state) each ≡ 0 → (t : ℕ) → t < taskCount s → done b (r .state) (is (run t)) ≡ 1
+
+-- .. of a run with stated times throughout: once no command is left, "the latest clock" is the claim
+pub record OnTime (s : Sheet) (b : Bundle) (r : Run) : Type 0 where
+  pub holds : Holds s b r
+  pub claimed : left b (r .state) each ≡ 0 → latest (r .state) ≡ b .claim
+
+-- .. of the run r after the choices cs, each of whose steps took any whole time up to the stated one (C-23 of document 02)
+pub record InTime (s : Sheet) (b : Bundle) (cs : List Choice) (r : Run) : Type 0 where
+  pub holds : Holds s b r
+  -- "the latest clock is at most the claim", at every moment
+  pub late : latest (r .state) ≤ b .claim
+  -- "with stated times throughout that clock is the claim"
+  pub claimed : Stated cs → left b (r .state) each ≡ 0 → latest (r .state) ≡ b .claim
 
 -- the bytes of a sheet and of a bundle for it, neither refused by the readers
 pub record Read (sheet bundle : List ℕ) : Type 0 where
@@ -79,22 +93,25 @@ pub record Agrees (s : Sheet) (b : Bundle) (made ks ps last : List ℕ) : Type 0
 
 -- what is said of one sheet and one bundle
 pub record About {sheet bundle : List ℕ} (x : Read sheet bundle) : Type 0 where
-  -- if zeldrupa_check accepts the bundle, all of `Holds` is true after "a list of choices, of any length and any numbers, from the fresh state"
+  -- if zeldrupa_check accepts the bundle, all of `InTime` is true after "a list of choices, of any length and any numbers, from the fresh state", whatever times
+  -- are "chosen afresh at every step"
   pub promised :
-      (area area′ : List ℕ) (q : ℕ) → GivesCheck sheet bundle area area′ q 0 → (ks : List ℕ) → Holds (x .s) (x .b) (runOf (x .s) (x .b) ks)
+      (area area′ : List ℕ) (q : ℕ) → GivesCheck sheet bundle area area′ q 0 → (cs : List Choice) → InTime (x .s) (x .b) cs (earlyOf (x .s) (x .b) cs)
   -- and a start or a run on the same bytes, with areas long enough, returns 0; after every list of calls behind it the machine agrees with the run of its choices
   pub accepted :
       (area area′ : List ℕ) (q : ℕ) → GivesCheck sheet bundle area area′ q 0 →
       (work work′ state state′ made : List ℕ) (p r : ℕ) → fixed ≤ length work → fixed ≤ length state → Begun sheet bundle work work′ state state′ made p r →
-      (r ≡ 0) × ((ks ps last : List ℕ) → Stepped ks ps state′ last → Holds (x .s) (x .b) (runOf (x .s) (x .b) (made ++ ks)) × Agrees (x .s) (x .b) made ks ps last)
-  -- it accepts a bundle with "the published messages" exactly when all this holds for every list
+      (r ≡ 0) × ((ks ps last : List ℕ) → Stepped ks ps state′ last → OnTime (x .s) (x .b) (runOf (x .s) (x .b) (made ++ ks)) × Agrees (x .s) (x .b) made ks ps last)
+  -- it accepts a bundle with "the published messages" exactly when all this holds for every list with stated times, and exactly when it does for every list
   pub exactly :
       (area area′ : List ℕ) (q r : ℕ) → fixed ≤ length area → GivesCheck sheet bundle area area′ q r → Published (x .s) (x .b) →
-      (r ≡ 0) ↔ ((ks : List ℕ) → Holds (x .s) (x .b) (runOf (x .s) (x .b) ks))
+      ((r ≡ 0) ↔ ((ks : List ℕ) → OnTime (x .s) (x .b) (runOf (x .s) (x .b) ks))) × ((r ≡ 0) ↔ ((cs : List Choice) → InTime (x .s) (x .b) cs (earlyOf (x .s) (x .b) cs)))
   -- it accepts the bundle that zeldrupa_plan writes
   pub planned :
       (work work′ out out′ : List ℕ) (n : ℕ) → Bytes sheet → GivesPlan sheet work work′ out out′ n 0 → take n out′ ≡ bundle →
       (area area′ : List ℕ) (q r : ℕ) → fixed ≤ length area → GivesCheck sheet bundle area area′ q r → r ≡ 0
+  -- "the public machine keeps the stated times": its runs, here and above, are those with stated times throughout
+  pub stated : (ks : List ℕ) → earlyOf (x .s) (x .b) (map onTime ks) ≡ runOf (x .s) (x .b) ks
   -- the public machine, once started, agrees, also on a bundle that zeldrupa_check refuses with 29 or 30; a run says how many of its choices stepped
   pub agrees :
       (work work′ state state′ made : List ℕ) (p : ℕ) → Begun sheet bundle work work′ state state′ made p 0 →

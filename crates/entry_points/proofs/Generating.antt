@@ -1,5 +1,5 @@
 -- The sheet of a seed, from the tables to the output.
-use Prim.Native.Nat.{ℕ, _+_, _*_, _<_, _≤_}
+use Prim.Native.Nat.{ℕ, _<_, _≤_}
 use native.Mathlib.Omega.{arith}
 use mathlib.Core.Bool.{true, false}
 use mathlib.Core.Path.{_≡_, refl, sym, ap, _∙_}
@@ -8,7 +8,8 @@ use lib.ListN.{length}
 use Rattle.folds.specs.Answers.{Answer, value, refused, andThen, fitting, written}
 use Rattle.numbers.specs.Number.{stored}
 use Rattle.numbers.proofs.Puts.{kept, front, fits-not, fits-well}
-use Rattle.sheet.specs.Sheet.{Sheet, taskCount, linkCount}
+use Rattle.sheet.specs.Sheet.{Sheet}
+use Rattle.sheet.specs.Sizes.{sizeOf}
 use Rattle.sheet.specs.Tables.{sheetIn, LoadedOf}
 use Rattle.sheet.specs.Writing.{sheetBytes}
 use Rattle.sheet_reader.proofs.Backs.{sheet-length}
@@ -32,7 +33,7 @@ module _ (seed n m p l : ℕ) (work out : List ℕ) where
       part-is (refused 6 0) (ap (λ (a : Answer Sheet). andThen a (λ s. fitting (length out) (sheetBytes s))) (generated-no seed n m p l e)) refl out (Refused 6 0) refl (kept out 6 0)
 
   -- the tables hold the sheet, and k is how many bytes it has
-  module _ {mid : List ℕ} (k : ℕ) (inside : outside seed n m p ≡ false) (h : LoadedOf (sheetFrom seed n p l m) work mid) (count : k ≡ 7 + 5 * taskCount (sheetIn mid) + 7 * linkCount (sheetIn mid)) where
+  module _ {mid : List ℕ} (k : ℕ) (inside : outside seed n m p ≡ false) (h : LoadedOf (sheetFrom seed n p l m) work mid) (count : k ≡ sizeOf (sheetIn mid)) where
     long-is : k ≡ length (sheetBytes (sheetIn mid))
     long-is = count ∙ sym (sheet-length (sheetIn mid))
 

@@ -114,18 +114,18 @@ module _ (seed n p l : ℕ) (some : 1 ≤ n) where
       made-more n s (tryAt seed n m) (try-target seed n m (omega arith)) (try-fits seed n m) (made m) (isNew s (tryAt seed n m)) refl
 
   -- the rest of the sheet stays as it is with the tasks alone
-  same-board : (m : ℕ) → (sheetFrom seed n p l m .processors ≡ p) × (sheetFrom seed n p l m .limit ≡ l) × (sheetFrom seed n p l m .tasks ≡ listed n (taskAt seed))
+  same-board : (m : ℕ) → (sheetFrom seed n p l m .processors ≡ p) × (sheetFrom seed n p l m .limit ≡ l) × (sheetFrom seed n p l m .tasks ≡ listed n (taskAt seed)) × (sheetFrom seed n p l m .unpacking ≡ 0)
   unfolding sheetFrom tasksFrom
-  same-board zero = (refl, refl, refl)
+  same-board zero = (refl, refl, refl, refl)
   same-board (suc m) =
       let s = sheetFrom seed n p l m in
       let b = same-board m in
       let k = kept s (tryAt seed n m) (isNew s (tryAt seed n m)) refl in
-      (k .0 ∙ b .0, k .1 ∙ b .1, k .2 ∙ b .2)
+      (k .0 ∙ b .0, k .1 ∙ b .1, k .2 ∙ b .2, k .3 ∙ b .3)
     where
-      kept : (s : Sheet) (x : Link) (b : Bool) → isNew s x ≡ b → (tried s x .processors ≡ s .processors) × (tried s x .limit ≡ s .limit) × (tried s x .tasks ≡ s .tasks)
-      kept s x true e = let q = tried-new s x e in (ap (λ (y : Sheet). y .processors) q, ap (λ (y : Sheet). y .limit) q, ap (λ (y : Sheet). y .tasks) q)
-      kept s x false e = let q = tried-same s x e in (ap (λ (y : Sheet). y .processors) q, ap (λ (y : Sheet). y .limit) q, ap (λ (y : Sheet). y .tasks) q)
+      kept : (s : Sheet) (x : Link) (b : Bool) → isNew s x ≡ b → (tried s x .processors ≡ s .processors) × (tried s x .limit ≡ s .limit) × (tried s x .tasks ≡ s .tasks) × (tried s x .unpacking ≡ s .unpacking)
+      kept s x true e = let q = tried-new s x e in (ap (λ (y : Sheet). y .processors) q, ap (λ (y : Sheet). y .limit) q, ap (λ (y : Sheet). y .tasks) q, ap (λ (y : Sheet). y .unpacking) q)
+      kept s x false e = let q = tried-same s x e in (ap (λ (y : Sheet). y .processors) q, ap (λ (y : Sheet). y .limit) q, ap (λ (y : Sheet). y .tasks) q, ap (λ (y : Sheet). y .unpacking) q)
 
 module _ (seed n m p l : ℕ) (h : Inside seed n m p) where
   abbrev whole : Sheet
@@ -166,7 +166,8 @@ module _ (seed n m p l : ℕ) (h : Inside seed n m p) where
   pub proper-made : l < 4294967296 → Proper whole
   unfolding taskCount linkCount
   proper-made small =
-      proper whole shaped (omega (arith, same-board seed n p l (h .some-task) m .1)) (λ i k. subst TaskFits (sym (task-is i k)) (task-fits seed i))
+      let b = same-board seed n p l (h .some-task) m in
+      proper whole shaped (omega (arith, b .1)) (omega (arith, b .3)) (λ i k. subst TaskFits (sym (task-is i k)) (task-fits seed i))
       (λ i k. made seed n p l (h .some-task) m .upward i k .fits)
 
   pub form-again : l < 4294967296 → readForm (sheetBytes whole) ≡ value whole

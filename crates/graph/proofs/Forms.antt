@@ -37,6 +37,7 @@ form-read b s e =
 -- where every byte is one, the numbers of a sheet have their widths
 pub record Sized (s : Sheet) : Type 0 where
   pub limit : s .limit < 4294967296
+  pub unpacks : s .unpacking ≤ 65535
   pub works : (t : ℕ) → t < taskCount s → workOf s t ≤ 65535
   pub stores : (t : ℕ) → t < taskCount s → storeOf s t ≤ 65535
   pub costs : (l : ℕ) → l < linkCount s → costOf s l ≤ 65535
@@ -48,6 +49,7 @@ form-sizes b s h e =
     let r = p .ranged in
     record {
       limit = p .limit;
+      unpacks = omega (arith, r .unpacks);
       works = λ t k. omega (arith, r .works t k);
       stores = λ t k. omega (arith, r .stores t k);
       costs = λ l k. omega (arith, r .costs l k);

@@ -4,3 +4,5 @@ pub mod Runs
 pub mod Choices
 pub mod Kept
 pub mod Orders
+pub mod Near
+pub mod Early

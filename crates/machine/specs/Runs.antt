@@ -1,14 +1,15 @@
 -- Runs: the state after a list of choices of a processor, and what is done and left of the programmes then.
-use Prim.Native.Nat.{ℕ, zero, suc}
+use Prim.Native.Nat.{ℕ, zero, suc, _-_}
 use mathlib.Core.Bool.{Bool}
 use mathlib.Core.Option.{Option, none, some}
 use mathlib.Core.List.{List, [], _∷_}
+use mathlib.Core.Path.{_≡_}
 use lib.ListN.{length, take, drop}
 use Rattle.folds.specs.Folds.{sum, greatest, first, then}
 use Rattle.sheet.specs.Sheet.{Sheet}
 use Rattle.bundle.specs.Bundle.{Command, Bundle, programmeCount, programmeOf}
 use Rattle.admission.specs.Counting.{weigh, whole, each}
-use Rattle.machine.specs.Machine.{State, freshState, processorOf, step, canStep}
+use Rattle.machine.specs.Machine.{State, freshState, processorOf, stated, stepIn, step, canStep}
 
 -- a run: the state after a list of choices, and how many of them stepped
 pub record Run : Type 0 where
@@ -38,6 +39,34 @@ freshRun s b = record { state = freshState s b; stepped = 0 }
 -- "a list of choices, of any length and any numbers, from the fresh state"
 unfoldable pub runOf : Sheet → Bundle → List ℕ → Run
 runOf s b ks = runFrom s b (freshRun s b) ks
+
+-- a choice of a processor whose command ends early, or whose message comes early: by this much, and by all of its stated time where that is less.
+-- So "any whole time up to" the stated one can be chosen "afresh at every step", and with 0 it is the stated one
+pub record Choice : Type 0 where
+  pub processor : ℕ
+  pub early : ℕ
+
+abbrev pub onTime : ℕ → Choice
+onTime k = record { processor = k; early = 0 }
+
+abbrev pub shortened : Sheet → Bundle → ℕ → ℕ → Command → ℕ
+shortened s b e k c = stated s b k c - e
+
+unfoldable pub chooseEarly : Sheet → Bundle → Run → Choice → Run
+chooseEarly s b r c = took r (stepIn s b (shortened s b (c .early)) (r .state) (c .processor))
+
+unfoldable pub earlyFrom : Sheet → Bundle → Run → List Choice → Run
+earlyFrom s b r [] = r
+earlyFrom s b r (c ∷ cs) = earlyFrom s b (chooseEarly s b r c) cs
+
+-- a list of choices with their times, of any length and any numbers, from the fresh state
+unfoldable pub earlyOf : Sheet → Bundle → List Choice → Run
+earlyOf s b cs = earlyFrom s b (freshRun s b) cs
+
+-- "stated times throughout"
+abbrev pub Stated : List Choice → Type 0
+Stated [] = Unit {0}
+Stated (c ∷ cs) = (c .early ≡ 0) × Stated cs
 
 -- what each choice of a list is told: whether it stepped
 unfoldable pub answers : Sheet → Bundle → Run → List ℕ → List Bool

@@ -1,7 +1,8 @@
 -- What the guard bars: before its arrival the first partly ready task u can start only where its latest message comes from, so that only
 -- there its best start can rise.
-use Prim.Native.Nat.{ℕ, zero, suc, _+_, _≤_, _<_, max, min}
-use mathlib.Core.Path.{_≡_, refl, ap, sym, _∙_}
+use Prim.Native.Nat.{ℕ, zero, suc, _+_, _*_, _≤_, _<_, max, min}
+use native.Mathlib.Nat.{mul-le-mul}
+use mathlib.Core.Path.{_≡_, refl, ap, ap₂, sym, _∙_}
 use mathlib.Core.Logic.{_≢_, ⊎-elim}
 use mathlib.Core.Bool.{Bool, true, false, true≢false}
 use mathlib.Core.Option.{Option, none, some}
@@ -14,10 +15,13 @@ use lib.Dec.{eqb, ltb}
 use Rattle.folds.specs.Folds.{pick, both, greatest, prefer, leading, least}
 use Rattle.folds.proofs.Tests.{below-suc, both-parts}
 use Rattle.folds.proofs.Laws.{any-found, greatest-some, term-le-greatest}
-use Rattle.sheet.specs.Sheet.{Sheet, taskCount, linkCount, workOf, sourceOf, targetOf}
+use Rattle.sheet.specs.Sheet.{Sheet, taskCount, linkCount, workOf, sourceOf, targetOf, costOf}
+use Rattle.sheet.specs.Hops.{hops, linkTime}
+use Rattle.sheet.proofs.Hopping.{some-hop}
 use Rattle.sheet.specs.Tables.{sheetIn}
+use Rattle.graph.specs.Graph.{level}
 use Rattle.planner.specs.Schedule.{Schedule, placed, stands, placeOf}
-use Rattle.planner.specs.Placing.{comes, reachBy, arrival, priority, firstPartlyReady, endOf, startBy, startFrom, startOn, startWith, startAt, holdsBy, holdsPredecessor, bestStart, endsWith, delays, barredFor, barred}
+use Rattle.planner.specs.Placing.{comes, reachBy, arrival, priority, readyArrival, readyPriority, firstPartlyReady, endOf, startBy, startFrom, startOn, startWith, startAt, holdsBy, holdsPredecessor, bestStart, endsWith, delays, barredFor, barred}
 use Rattle.schedule.specs.Layout.{scheduleIn}
 use Rattle.arrivals.specs.Layout.{arrivalsFrom, sendersFrom}
 use Rattle.arrivals.specs.Kept.{countedBy, intoFrom, known, Kept}
@@ -28,9 +32,17 @@ use Rattle.workspace.specs.declared.total.Found.the-variants.{At, Nothing}
 use Rattle.readiness.proofs.Counts.{arrival-kept}
 use Rattle.placing.specs.Guards.{delaysFor, Rival, BarsFor, Bars, JoinBarsFor, JoinBars}
 
-pub end-le-start : (s : Sheet) (σ : Schedule) (t k : ℕ) → endOf s σ k ≤ startOn s σ t k
-unfolding startOn startFrom
-end-le-start s σ t k = omega arith
+-- a message between two processors takes its cost at least
+time-least : (s : Sheet) (l j k : ℕ) → j < 16 → k < 16 → (j ≡ k → ⊥) → costOf s l ≤ linkTime s l j k
+unfolding linkTime
+time-least s l j k h g d = by (s .cube)
+  where
+    times : (c n : ℕ) → 1 ≤ n → c ≤ c * n
+    times c n m = omega (arith, mul-le-mul {n₁ = c} {m₁ = 1} {n₂ = c} {m₂ = n} (omega arith) m)
+
+    by : (t : Bool) → costOf s l ≤ pick t (costOf s l * hops j k) (costOf s l)
+    by true = times (costOf s l) (hops j k) (some-hop j k h g d)
+    by false = omega arith
 
 -- what `least` finds
 module _ (p : ℕ → Bool) (f : ℕ → ℕ) where
@@ -81,6 +93,14 @@ module _ (w own : List ℕ) (kept : Kept w own) (u : ℕ) (h : u < taskCount (sh
   abbrev near : ℕ
   near = greatest (linkCount s) (startBy s σ u main)
 
+  -- the start of u on k, as things are
+  abbrev startNow : ℕ → ℕ
+  startNow k = startFrom s σ u k (endOf s σ k)
+
+  end-le-now : (k : ℕ) → endOf s σ k ≤ startNow k
+  unfolding startFrom
+  end-le-now k = omega arith
+
   latest-is : latest ≡ arrival s σ u
   latest-is = arrival-kept (kept-arrived kept u h)
 
@@ -129,11 +149,12 @@ module _ (w own : List ℕ) (kept : Kept w own) (u : ℕ) (h : u < taskCount (sh
     unfolding holdsPredecessor holdsBy
     main-holds = any-found (linkCount s) (holdsBy s σ u main) link (message .1) from-main
 
-    -- on every other one u waits for it
-    elsewhere : (j : ℕ) → j ≢ main → startBy s σ u j link ≡ latest
+    -- on every other one, which is a hop away at least, u waits for it
+    elsewhere : (j : ℕ) → j < 16 → j ≢ main → latest ≤ startBy s σ u j link
     unfolding startBy comes stands
-    elsewhere j n =
-        rw (both-parts (eqb (targetOf s link) u) (stands σ (sourceOf s link) main) from-main .0, source-placed, ne-eqb (placeOf σ (sourceOf s link)) j (λ q. n (sym q ∙ source-main))) reach-is
+    elsewhere j l n =
+        rw (both-parts (eqb (targetOf s link) u) (stands σ (sourceOf s link) main) from-main .0, source-placed, ne-eqb (placeOf σ (sourceOf s link)) j (λ q. n (sym q ∙ source-main)))
+        (omega (arith, reach-is, time-least s link (placeOf σ (sourceOf s link)) j (omega (arith, source-main, main-open, kept .few-opened)) l (λ q. n (sym q ∙ source-main))))
 
     -- processors that end at `ends`
     module _ (ends : ℕ → ℕ) where
@@ -141,9 +162,9 @@ module _ (w own : List ℕ) (kept : Kept w own) (u : ℕ) (h : u < taskCount (sh
       unfolding startWith startFrom
       start-main = refl
 
-      start-else : (j : ℕ) → j ≢ main → latest ≤ startWith s σ ends u j
+      start-else : (j : ℕ) → j < 16 → j ≢ main → latest ≤ startWith s σ ends u j
       unfolding startWith startFrom
-      start-else j n = omega (arith, elsewhere j n, term-le-greatest (linkCount s) (startBy s σ u j) link (message .1))
+      start-else j l n = omega (arith, elsewhere j l n, term-le-greatest (linkCount s) (startBy s σ u j) link (message .1))
 
       best-at : (o : Option ℕ) → LeastIs (holdsPredecessor s σ u) (startWith s σ ends u) (σ .opened) o
           → (startAt s σ ends u o ≤ max (ends main) near) × ((x : ℕ) → x ≤ max (ends main) near → x ≤ latest → x ≤ startAt s σ ends u o)
@@ -152,15 +173,14 @@ module _ (w own : List ℕ) (kept : Kept w own) (u : ℕ) (h : u < taskCount (sh
         where
           go : (x : ℕ) → x ≤ max (ends main) near → x ≤ latest → Dec (k ≡ main) → x ≤ startWith s σ ends u k
           go x a b (yes e) = omega (arith, ap (startWith s σ ends u) e, start-main)
-          go x a b (no e) = omega (arith, start-else k e)
+          go x a b (no e) = omega (arith, start-else k (omega (arith, l .0, kept .few-opened)) e)
 
       best : (bestStart s σ ends u ≤ max (ends main) near) × ((x : ℕ) → x ≤ max (ends main) near → x ≤ latest → x ≤ bestStart s σ ends u)
       unfolding bestStart
       best = best-at (least (σ .opened) (holdsPredecessor s σ u) (startWith s σ ends u)) (least-is (holdsPredecessor s σ u) (startWith s σ ends u) (σ .opened))
 
-    -- the start of u there, as things are
-    best-start : startOn s σ u main ≡ max (endOf s σ main) near
-    unfolding startOn startFrom
+    best-start : startNow main ≡ max (endOf s σ main) near
+    unfolding startFrom
     best-start = refl
 
     module _ (t k : ℕ) where
@@ -184,13 +204,13 @@ module _ (w own : List ℕ) (kept : Kept w own) (u : ℕ) (h : u < taskCount (sh
       unfolding endsWith
       then-else e = rw (ne-eqb main k e)
 
-      pub delays-late : latest ≤ startOn s σ u main → delays s σ t u k ≡ false
+      pub delays-late : latest ≤ startNow main → delays s σ t u k ≡ false
       unfolding delays
       delays-late l = rw (le-ltb now (arrival s σ u) (omega (arith, latest-is, now-best .1 latest (omega (arith, best-start)) (omega arith))))
 
-      module _ (soon : startOn s σ u main < latest) where
-        now-is : now ≡ startOn s σ u main
-        now-is = omega (arith, best-start, now-best .0, now-best .1 (startOn s σ u main) (omega (arith, best-start)) (omega arith))
+      module _ (soon : startNow main < latest) where
+        now-is : now ≡ startNow main
+        now-is = omega (arith, best-start, now-best .0, now-best .1 (startNow main) (omega (arith, best-start)) (omega arith))
 
         delays-by : delays s σ t u k ≡ ltb now then
         unfolding delays
@@ -199,16 +219,16 @@ module _ (w own : List ℕ) (kept : Kept w own) (u : ℕ) (h : u < taskCount (sh
         soon-else : main ≢ k → delays s σ t u k ≡ false
         soon-else e = delays-by ∙ le-ltb now then (omega (arith, now-is, best-start, then-best .0, then-else e))
 
-        pub delays-done : startOn s σ t main + workOf s t ≤ startOn s σ u main → main ≡ k → delays s σ t u k ≡ false
+        pub delays-done : startOn s σ t main + workOf s t ≤ startNow main → main ≡ k → delays s σ t u k ≡ false
         delays-done l e = delays-by ∙ le-ltb now then (omega (arith, now-is, best-start, then-best .0, then-main e))
 
-        pub delays-here : startOn s σ u main < startOn s σ t main + workOf s t → main ≡ k → delays s σ t u k ≡ true
-        delays-here l e = delays-by ∙ lt-ltb now then (omega (arith, now-is, then-best .1 (startOn s σ u main + 1) (omega (arith, then-main e)) (omega arith)))
+        pub delays-here : startNow main < startOn s σ t main + workOf s t → main ≡ k → delays s σ t u k ≡ true
+        delays-here l e = delays-by ∙ lt-ltb now then (omega (arith, now-is, then-best .1 (startNow main + 1) (omega (arith, then-main e)) (omega arith)))
 
       pub delays-else : main ≢ k → delays s σ t u k ≡ false
-      delays-else e = go (decLt (startOn s σ u main) latest)
+      delays-else e = go (decLt (startNow main) latest)
         where
-          go : Dec (startOn s σ u main < latest) → delays s σ t u k ≡ false
+          go : Dec (startNow main < latest) → delays s σ t u k ≡ false
           go (yes l) = soon-else l e
           go (no l) = delays-late (omega arith)
 
@@ -239,31 +259,36 @@ module _ (w own : List ℕ) (kept : Kept w own) (u : ℕ) (h : u < taskCount (sh
           record { is = λ j l m. ne-eqb j 16 (omega arith) ∙ sym (delays-else late t j (λ q. true≢false (sym m ∙ ap (holdsPredecessor s σ t) (sym q ∙ sym ek) ∙ e))) }
 
       pub bars-busy : {x : ℕ} → x ≡ endOf s σ k → a ≤ x → BarsFor s σ t u 16
-      bars-busy ex l = not-here (λ j q. delays-late late t j (omega (arith, latest-is, end-le-start s σ u main, ap (endOf s σ) ek)))
+      bars-busy ex l = not-here (λ j q. delays-late late t j (omega (arith, latest-is, end-le-now main, ap (endOf s σ) ek)))
 
-      module _ {finish limit : ℕ} {test : Bool} (ef : finish ≡ startOn s σ t k + workOf s t) (el : limit ≡ min a finish) (et : test ≡ ltb (startOn s σ u k) limit) where
-        best-main : startOn s σ u k ≡ startOn s σ u main
-        best-main = ap (startOn s σ u) ek
+      module _ {finish limit : ℕ} {test : Bool} (ef : finish ≡ startOn s σ t k + workOf s t) (el : limit ≡ min a finish) (et : test ≡ ltb (startNow k) limit) where
+        best-main : startNow k ≡ startNow main
+        best-main = ap startNow ek
 
         finish-main : finish ≡ startOn s σ t main + workOf s t
         finish-main = ef ∙ ap (λ (j : ℕ). startOn s σ t j + workOf s t) ek
 
         -- u starts there by its arrival, or by t's finish
         pub bars-past : test ≡ false → BarsFor s σ t u 16
-        bars-past e = not-here (λ j q. go j q (ltb-false (startOn s σ u k) limit (sym et ∙ e)) (decLt (startOn s σ u main) latest))
+        bars-past e = not-here (λ j q. go j q (ltb-false (startNow k) limit (sym et ∙ e)) (decLt (startNow main) latest))
           where
-            go : (j : ℕ) → main ≡ j → limit ≤ startOn s σ u k → Dec (startOn s σ u main < latest) → delays s σ t u j ≡ false
+            go : (j : ℕ) → main ≡ j → limit ≤ startNow k → Dec (startNow main < latest) → delays s σ t u j ≡ false
             go j q l (yes d) = delays-done late t j d (omega (arith, latest-is, best-main, finish-main)) q
             go j q l (no d) = delays-late late t j (omega arith)
 
         pub bars-here : test ≡ true → BarsFor s σ t u k
-        bars-here e = record { is = λ j n. go j (ltb-true (startOn s σ u k) limit (sym et ∙ e)) (ℕ-discrete main j) }
+        bars-here e = record { is = λ j n. go j (ltb-true (startNow k) limit (sym et ∙ e)) (ℕ-discrete main j) }
           where
-            go : (j : ℕ) → startOn s σ u k < limit → Dec (main ≡ j) → eqb j k ≡ delays s σ t u j
+            go : (j : ℕ) → startNow k < limit → Dec (main ≡ j) → eqb j k ≡ delays s σ t u j
             go j l (yes q) =
                 eq-eqb j k (sym q ∙ sym ek)
                 ∙ sym (delays-here late t j (omega (arith, latest-is, best-main)) (omega (arith, best-main, finish-main)) q)
             go j l (no q) = ne-eqb j k (λ x. q (sym ek ∙ sym x)) ∙ sym (delays-else late t j q)
+
+-- t's priority as the code finds it
+pub priority-by : (s : Sheet) (σ : Schedule) (t : ℕ) {a v : ℕ} → a ≡ readyArrival s σ t → v ≡ level s t → a + v ≡ readyPriority s σ t
+unfolding readyPriority
+priority-by s σ t ea ev = ap₂ _+_ ea ev
 
 -- for whose sake the guard applies, by the first partly ready task
 module _ (s : Sheet) (σ : Schedule) (t : ℕ) {g : Found} (first : foundOf g ≡ firstPartlyReady s σ) where
@@ -271,7 +296,7 @@ module _ (s : Sheet) (σ : Schedule) (t : ℕ) {g : Found} (first : foundOf g �
   unfolding barred
   rival-none e = record { is = λ k. sym (ap (barredFor s σ t k) (sym first ∙ ap foundOf e)) }
 
-  module _ {u : ℕ} (e : g ≡ At u) {p q : ℕ} (ep : p ≡ priority s σ t) (eq : q ≡ priority s σ u) where
+  module _ {u : ℕ} (e : g ≡ At u) {p q : ℕ} (ep : p ≡ readyPriority s σ t) (eq : q ≡ priority s σ u) where
     barred-at : (k : ℕ) → barred s σ t k ≡ both (ltb p q) (delays s σ t u k)
     unfolding barred
     barred-at k = ap (barredFor s σ t k) (sym first ∙ ap foundOf e) ∙ rw (← ep, ← eq)

@@ -15,13 +15,13 @@ use Rattle.sheet.specs.Tables.{sheetIn}
 use Rattle.planner.specs.Schedule.{Schedule, put, placed, stands, placeOf}
 use Rattle.planner.specs.Placing.{startOn, fits, storeOn, holdsBy, holdsPredecessor}
 use Rattle.planner.proofs.Ready.{ready-free, ready-source}
+use Rattle.planner.proofs.Finishes.{start-early, into-le}
 use Rattle.schedule.specs.Layout.{scheduleIn}
 use Rattle.schedule.proofs.Rows.{on-long, finish-long}
 use Rattle.arrivals.specs.Layout.{bytesFrom, storesFrom, turnBytesFrom, turnLinksFrom}
 use Rattle.arrivals.specs.Kept.{countedBy, intoFrom, oneBy, known}
 use Rattle.arrivals.specs.Steps.{Placeable}
 use Rattle.arrivals.proofs.Placing.{stands-placed, store-put}
-use Rattle.arrivals.proofs.Reaching.{start-early}
 use Rattle.placing.specs.Choosing.{Choosing}
 
 -- the ready task can go on k
@@ -40,8 +40,14 @@ placeable w own t k c k-in =
     }
 
 -- a start fits a word
-pub start-small : (w own : List ℕ) (t k : ℕ) → Choosing w own t → startOn (sheetIn w) (scheduleIn w) t k < 4294967296
-start-small w own t k c = omega (arith, start-early (sheetIn w) (scheduleIn w) t (c .kept .ranged) 33553920 (λ u. c .early .early u) k)
+pub start-small : (w own : List ℕ) (t k : ℕ) → Choosing w own t → k < 16 → startOn (sheetIn w) (scheduleIn w) t k < 4294967296
+start-small w own t k c h =
+    let ranged = c .kept .ranged in
+    omega (
+      arith,
+      start-early (sheetIn w) (scheduleIn w) t _ (c .early .early) k h,
+      into-le (sheetIn w) (ranged .few-links) (λ l m. omega (arith, ranged .costs l m)) (omega (arith, ranged .unpacks)) t (linkCount (sheetIn w)) (omega arith),
+    )
 
 -- k from which no link leads to t holds no predecessor of it
 module _ (w own : List ℕ) (t k : ℕ) (c : Choosing w own t) (k-in : k < 16) where

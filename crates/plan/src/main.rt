@@ -1,5 +1,5 @@
 // Lists the schedule of the sheet on standard input, or its refusal. Of a longer input the first 8,512 bytes settle the answer
-// (crates/lines/proofs/Settled.antt). Where a read fails, nothing is listed; a read or a write that fails is named on standard error, since a
+// (crates/listing_writer/proofs/Settled.antt). Where a read fails, nothing is listed; a read or a write that fails is named on standard error, since a
 // program has no exit status to say so.
 ghost use Prim.Native.Nat.{_≤_, _-_};
 ghost use lib.ListN.{length};

@@ -2,6 +2,9 @@
 pub mod Ready
 pub mod Choosing
 pub mod Schedules
+pub mod Unpacking
 pub mod Times
 pub mod Finishes
 pub mod Amending
+pub mod Flat
+pub mod Same

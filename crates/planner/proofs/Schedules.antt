@@ -18,7 +18,7 @@ use Rattle.folds.proofs.Lists.{getD-replicate}
 use Rattle.sheet.specs.Sheet.{Sheet, taskCount, linkCount, sourceOf, targetOf, workOf}
 use Rattle.graph.proofs.Proper.{Proper}
 use Rattle.planner.specs.Schedule.{Schedule, nowhere, empty, placeOf, finishOf, placed, stands, put}
-use Rattle.planner.specs.Placing.{ready, ahead, firstReady, startOn, storeBy, bytesBy, storeOn, fits}
+use Rattle.planner.specs.Placing.{ready, readyPriority, aheadBy, firstReady, startOn, storeBy, bytesBy, storeOn, fits}
 use Rattle.planner.specs.Planner.{choice, placeOn, placeTask, turn, turns, plannedBy}
 use Rattle.planner.proofs.Ready.{ready-free, all-placed}
 use Rattle.planner.proofs.Choosing.{leading-some, leading-none, Room, chosen}
@@ -64,6 +64,13 @@ module _ (σ : Schedule) (t k a b u : ℕ) (d : u ≢ t) where
   unfolding placed
   placed-other = ap (λ x. ltb x nowhere) on-other
 
+-- x counted for the placed tasks is counted once more, for t
+pub once-put : (σ : Schedule) (t k a b : ℕ) → placed σ t ≡ false → t < length (σ .on) → k < nowhere → (x u : ℕ) → pick (placed σ u) x 0 + pick (eqb u t) x 0 ≡ pick (placed (put σ t k a b) u) x 0
+unfolding placed placeOf
+once-put σ t k a b free h board x u =
+    ⊎-elim (λ q. rw q (rw (free, eq-eqb t t refl, getD-set-same (σ .on) t k nowhere h, lt-ltb k nowhere board) (omega arith)))
+    (λ d. rw (ne-eqb u t d, getD-set-other (σ .on) t u k nowhere d) (omega arith)) (equal-or u t)
+
 -- what placing t on k changes
 module _ (s : Sheet) (proper : Proper s) {σ : Schedule} (fair : Fair s σ) {t k : ℕ} (p : Placing s σ t k) where
   free : placed σ t ≡ false
@@ -104,8 +111,7 @@ module _ (s : Sheet) (proper : Proper s) {σ : Schedule} (fair : Fair s σ) {t k
 
   -- x counted for the placed tasks is counted once more, for t
   pub once-place : (x u : ℕ) → pick (placed σ u) x 0 + pick (eqb u t) x 0 ≡ pick (placed (place s σ t k) u) x 0
-  once-place x u =
-      ⊎-elim (λ q. rw q (rw (free, eq-eqb t t refl, placed-same) (omega arith))) (λ d. rw (ne-eqb u t d, placed-other σ t k (startOn s σ t k) (startOn s σ t k + workOf s t) u d) (omega arith)) (equal-or u t)
+  once-place x u = once-put σ t k _ _ free (omega (arith, fair .on, p .below)) (omega (arith, p .room .board, proper .form .board-few)) x u
 
   pub fair-place : Fair s (place s σ t k)
   unfolding fits storeOn storeBy bytesBy stands placeOf
@@ -181,14 +187,14 @@ module _ (s : Sheet) (proper : Proper s) where
         go : (o : Option ℕ) → firstReady s σ ≡ o → andThen (placeTask s guard amended σ o) (turns s guard amended n) ≡ value φ
             → ((τ ψ : Schedule) → Fair s τ → unplaced τ ≤ n → turns s guard amended n τ ≡ value ψ → Completed s τ ψ) → Completed s σ φ
         go none q g r =
-            let all = all-placed s proper σ (leading-none (taskCount s) (ready s σ) (ahead s σ) q) in
+            let all = all-placed s proper σ (leading-none (taskCount s) (ready s σ) (aheadBy s (readyPriority s σ)) q) in
             r σ φ f (omega (arith, sum-zeros (taskCount s) (missing σ) (λ u l. rw (all u l)))) g
         go (some t) q g r = on (choice s guard amended σ t) refl g
           where
             on : (o : Option ℕ) → choice s guard amended σ t ≡ o → andThen (placeOn s guard σ t o) (turns s guard amended n) ≡ value φ → Completed s σ φ
             on none c g = not-value g
             on (some k) c g =
-                let m = leading-some (taskCount s) (ready s σ) (ahead s σ) t q in
+                let m = leading-some (taskCount s) (ready s σ) (aheadBy s (readyPriority s σ)) t q in
                 let p : Placing s σ t k = record { below = m .0; isReady = m .1; room = chosen s guard σ t k amended (f .opened) c } in
                 let i = r (place s σ t k) φ (fair-place s proper f p) (omega (arith, one-less f p)) g in
                 (t ∷ i .0, placing p (i .1), i .2)

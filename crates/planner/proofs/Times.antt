@@ -1,24 +1,21 @@
 -- When processors end and a task starts, as tasks are placed.
-use Prim.Native.Nat.{ℕ, _+_, _≤_, _<_, max}
+use Prim.Native.Nat.{ℕ, _+_, _<_}
 use native.Mathlib.Omega.{arith}
-use mathlib.Core.Bool.{Bool, true, false, not}
+use mathlib.Core.Bool.{true}
 use mathlib.Core.Path.{_≡_, refl, ap, _∙_}
 use mathlib.Core.Logic.{_≢_, ⊎-elim}
 use borrow.Author.Tests.{eq-eqb, ne-eqb}
 use Rattle.folds.specs.Folds.{pick, greatest}
 use Rattle.folds.proofs.Tests.{equal-or, pick-le}
-use Rattle.folds.proofs.Laws.{term-le-greatest, greatest-le, greatest-cong, greatest-past, greatest-is}
-use Rattle.sheet.specs.Sheet.{Sheet, taskCount, linkCount, sourceOf, targetOf, workOf, costOf}
+use Rattle.folds.proofs.Laws.{term-le-greatest, greatest-le, greatest-cong, greatest-is}
+use Rattle.sheet.specs.Sheet.{Sheet, taskCount, linkCount, sourceOf, targetOf, workOf}
 use Rattle.graph.proofs.Proper.{Proper}
 use Rattle.planner.specs.Schedule.{Schedule, nowhere, empty, placeOf, finishOf, placed, stands}
-use Rattle.planner.specs.Placing.{comes, reachBy, endBy, endOf, startBy, startFrom, startOn}
+use Rattle.planner.specs.Placing.{comes, reachOn, unpacked, elsewhere, endBy, endOf, startOn}
 use Rattle.planner.specs.Planner.{brings, claimOf}
 use Rattle.planner.proofs.Ready.{ready-source}
+use Rattle.planner.proofs.Unpacking.{unpacked-cong, end-le-start, start-unpacked}
 use Rattle.planner.proofs.Schedules.{Fair, place, Placing, on-same, on-other, finish-same, finish-other, stands-not, stands-other, empty-stands, Whole}
-
--- what l brings to t on k, where the tasks stand as on φ
-abbrev pub broughtBy : Sheet → Schedule → Schedule → ℕ → ℕ → ℕ → ℕ
-broughtBy s σ φ k t l = pick (brings s φ k t l) (reachBy s σ l) 0
 
 module _ (s : Sheet) (proper : Proper s) {σ : Schedule} (fair : Fair s σ) {t k : ℕ} (p : Placing s σ t k) where
   by-same : endBy s (place s σ t k) k t ≡ startOn s σ t k + workOf s t
@@ -29,17 +26,13 @@ module _ (s : Sheet) (proper : Proper s) {σ : Schedule} (fair : Fair s σ) {t k
   unfolding endBy stands
   by-other j u d = rw (on-other σ t k _ _ u d, finish-other σ t k _ _ u d)
 
-  end-le-start : endOf s σ k ≤ startOn s σ t k
-  unfolding startOn startFrom
-  end-le-start = omega arith
-
   -- k ends when t does, and every other processor as before
   pub end-same : endOf s (place s σ t k) k ≡ startOn s σ t k + workOf s t
   unfolding endOf
   end-same =
       greatest-is (taskCount s) (endBy s (place s σ t k) k) t (startOn s σ t k + workOf s t) (p .below) by-same
       (λ u h. ⊎-elim (λ q. omega (arith, ap (endBy s (place s σ t k) k) q ∙ by-same))
-      (λ d. omega (arith, by-other k u d, term-le-greatest (taskCount s) (endBy s σ k) u h, end-le-start)) (equal-or u t))
+      (λ d. omega (arith, by-other k u d, term-le-greatest (taskCount s) (endBy s σ k) u h, end-le-start s σ t k)) (equal-or u t))
 
   pub end-other : (j : ℕ) → j < nowhere → j ≢ k → endOf s (place s σ t k) j ≡ endOf s σ j
   unfolding endOf endBy
@@ -49,21 +42,16 @@ module _ (s : Sheet) (proper : Proper s) {σ : Schedule} (fair : Fair s σ) {t k
       (λ (q : u ≡ t). rw (stands-other s proper fair p j h d u, ap (λ x. stands σ x j) q ∙ stands-not s proper fair p j h))
       (λ n. by-other j u n) (equal-or u t))
 
-  -- a predecessor on k is over by k's end, so that only messages can come later
-  module _ (φ : Schedule) (same : (u : ℕ) → placed σ u ≡ true → placeOf φ u ≡ placeOf σ u) where
-    past : (l : ℕ) → l < linkCount s → (x : Bool) → stands σ (sourceOf s l) k ≡ x
-        → max (endOf s σ k) (pick (not x) (reachBy s σ l) 0) ≡ max (endOf s σ k) (finishOf σ (sourceOf s l) + pick x 0 (costOf s l))
-    unfolding endOf endBy
-    past l h true q = omega (arith, term-le-greatest (taskCount s) (endBy s σ k) (sourceOf s l) (proper .form .source l h), ap (λ x. pick x (finishOf σ (sourceOf s l)) 0) q)
-    past l h false q = refl
-
-    pub starts : max (endOf s σ k) (greatest (linkCount s) (broughtBy s σ φ k t)) ≡ startOn s σ t k
-    unfolding startOn startFrom startBy comes brings stands
-    starts =
-        greatest-past (linkCount s) (endOf s σ k) (broughtBy s σ φ k t) (startBy s σ t k)
-        (λ l h. ⊎-elim
-        (λ q. let r = ready-source s σ t l (p .isReady) h q in rw (eq-eqb (targetOf s l) t q, r, same (sourceOf s l) r) (past l h (stands σ (sourceOf s l) k) refl))
-        (λ d. rw (ne-eqb (targetOf s l) t d)) (equal-or (targetOf s l) t))
+  -- the receives of t's block on k, where the tasks stand as on φ, end when t starts
+  pub starts : (φ : Schedule) → ((u : ℕ) → placed σ u ≡ true → placeOf φ u ≡ placeOf σ u) → unpacked s (brings s φ k t) (reachOn s σ k) (endOf s σ k) (linkCount s) ≡ startOn s σ t k
+  unfolding elsewhere comes brings stands
+  starts φ same =
+      unpacked-cong s (brings s φ k t) (elsewhere s σ t k) (reachOn s σ k) (reachOn s σ k) (endOf s σ k) (linkCount s)
+      (λ l h. ⊎-elim
+      (λ (q : targetOf s l ≡ t). let r = ready-source s σ t l (p .isReady) h q in rw (eq-eqb (targetOf s l) t q, r, same (sourceOf s l) r))
+      (λ d. rw (ne-eqb (targetOf s l) t d)) (equal-or (targetOf s l) t))
+      (λ l h w. refl) ∙
+      start-unpacked s σ t k (proper .form .source)
 
 module _ (s : Sheet) (proper : Proper s) where
   pub empty-end : (k : ℕ) → k < nowhere → endOf s (empty s) k ≡ 0

@@ -18,13 +18,12 @@ use Rattle.readiness.proofs.Leading.{index-more, leader}
 use Rattle.sheet.specs.Sheet.{Sheet, taskCount, linkCount, sourceOf, targetOf, costOf}
 use Rattle.sheet.specs.Tables.{Ranged}
 use Rattle.graph.specs.Graph.{levelBy, levelWithin, level}
-use Rattle.planner.specs.Schedule.{Schedule, finishOf}
-use Rattle.planner.specs.Placing.{comes, ready, partlyReady, arrivalBy, arrival, priority, ahead, firstReady, firstPartlyReady}
+use Rattle.planner.specs.Schedule.{Schedule}
+use Rattle.planner.specs.Placing.{ready, partlyReady, priority, readyPriority, aheadBy, firstReady, firstPartlyReady}
 use Rattle.planner.proofs.Choosing.{leading-some}
 use Rattle.workspace.specs.Found.{foundOf, Below}
 use Rattle.workspace.specs.declared.total.Found.{Found}
 use Rattle.workspace.specs.declared.total.Found.the-variants.{At, Nothing}
-use Rattle.arrivals.specs.Lanes.{Early}
 use Rattle.readiness.specs.Keyed.{keyOf, readyKey, partlyKey, taskOf, Keyed}
 
 module _ (s : Sheet) (ranged : Ranged s) where
@@ -44,44 +43,33 @@ module _ (s : Sheet) (ranged : Ranged s) where
   unfolding level
   level-le t h = omega (arith, within-le (taskCount s) t h, ranged .few-tasks)
 
-  pub priority-le : {σ : Schedule} → Early σ → (t : ℕ) → t < taskCount s → priority s σ t ≤ 67173375
-  unfolding priority arrival arrivalBy
-  priority-le {σ} e t h =
-      omega (
-        arith,
-        level-le t h,
-        greatest-le (linkCount s) (arrivalBy s σ t) 33619455
-            (λ l k. pick-le (comes s σ t l) (finishOf σ (sourceOf s l) + costOf s l) 0 33619455 (omega (arith, e .early (sourceOf s l), ranged .costs l k)) (omega arith)),
-      )
-
-  module _ (σ : Schedule) where
+  -- by the priorities f
+  module _ (f : ℕ → ℕ) where
     -- with t behind j, t is ahead of j just if its key is greater
-    ahead-key : (t j : ℕ) → j < t → t < taskCount s → Dec (priority s σ j < priority s σ t) → Dec (priority s σ j ≡ priority s σ t) → Dec (level s j < level s t)
-        → ahead s σ t j ≡ ltb (keyOf s σ j) (keyOf s σ t)
-    unfolding ahead keyOf
+    ahead-key : (t j : ℕ) → j < t → t < taskCount s → Dec (f j < f t) → Dec (f j ≡ f t) → Dec (level s j < level s t) → aheadBy s f t j ≡ ltb (keyOf s (f j) j) (keyOf s (f t) t)
+    unfolding aheadBy keyOf
     ahead-key t j h k a b c = go (level-le t k) (level-le j (omega arith)) (ranged .few-tasks) a b c
       where
-        go : level s t ≤ 33553920 → level s j ≤ 33553920 → taskCount s ≤ 256 → Dec (priority s σ j < priority s σ t) → Dec (priority s σ j ≡ priority s σ t) → Dec (level s j < level s t)
-            → ahead s σ t j ≡ ltb (keyOf s σ j) (keyOf s σ t)
-        go u v f (yes a) b d = rw (lt-ltb (priority s σ j) (priority s σ t) a) (sym (lt-ltb (keyOf s σ j) (keyOf s σ t) (omega arith)))
-        go u v f (no a) (yes b) (yes d) = rw (le-ltb (priority s σ j) (priority s σ t) (omega arith), eq-eqb (priority s σ j) (priority s σ t) b, lt-ltb (level s j) (level s t) d) (sym (lt-ltb (keyOf s σ j) (keyOf s σ t) (omega arith)))
-        go u v f (no a) (yes b) (no d) = rw (le-ltb (priority s σ j) (priority s σ t) (omega arith), eq-eqb (priority s σ j) (priority s σ t) b, le-ltb (level s j) (level s t) (omega arith)) (sym (le-ltb (keyOf s σ j) (keyOf s σ t) (omega arith)))
-        go u v f (no a) (no b) d = rw (le-ltb (priority s σ j) (priority s σ t) (omega arith), ne-eqb (priority s σ j) (priority s σ t) b) (sym (le-ltb (keyOf s σ j) (keyOf s σ t) (omega arith)))
+        go : level s t ≤ 33553920 → level s j ≤ 33553920 → taskCount s ≤ 256 → Dec (f j < f t) → Dec (f j ≡ f t) → Dec (level s j < level s t) → aheadBy s f t j ≡ ltb (keyOf s (f j) j) (keyOf s (f t) t)
+        go u v m (yes a) b d = rw (lt-ltb (f j) (f t) a) (sym (lt-ltb (keyOf s (f j) j) (keyOf s (f t) t) (omega arith)))
+        go u v m (no a) (yes b) (yes d) = rw (le-ltb (f j) (f t) (omega arith), eq-eqb (f j) (f t) b, lt-ltb (level s j) (level s t) d) (sym (lt-ltb (keyOf s (f j) j) (keyOf s (f t) t) (omega arith)))
+        go u v m (no a) (yes b) (no d) = rw (le-ltb (f j) (f t) (omega arith), eq-eqb (f j) (f t) b, le-ltb (level s j) (level s t) (omega arith)) (sym (le-ltb (keyOf s (f j) j) (keyOf s (f t) t) (omega arith)))
+        go u v m (no a) (no b) d = rw (le-ltb (f j) (f t) (omega arith), ne-eqb (f j) (f t) b) (sym (le-ltb (keyOf s (f j) j) (keyOf s (f t) t) (omega arith)))
 
     -- the task of a key
-    task-key : (t : ℕ) → t < taskCount s → taskOf (keyOf s σ t) ≡ some t
+    task-key : (t : ℕ) → t < taskCount s → taskOf (keyOf s (f t) t) ≡ some t
     unfolding keyOf
-    task-key t h = index-more 256 (keyOf s σ t) (omega arith) ∙ ap some (omega (arith, ranged .few-tasks))
+    task-key t h = index-more 256 (keyOf s (f t) t) (omega arith) ∙ ap some (omega (arith, ranged .few-tasks))
 
-    key-more : (t : ℕ) → 0 < keyOf s σ t
+    key-more : (t : ℕ) → 0 < keyOf s (f t) t
     unfolding keyOf
     key-more t = omega arith
 
     -- of the tasks that p asks for, the leading one has the greatest key
-    pub first-by-key : (p : ℕ → Bool) {g : ℕ} → g ≡ greatest (taskCount s) (λ t. pick (p t) (keyOf s σ t) 0) → taskOf g ≡ leading (taskCount s) p (ahead s σ)
+    pub first-by-key : (p : ℕ → Bool) {g : ℕ} → g ≡ greatest (taskCount s) (λ t. pick (p t) (keyOf s (f t) t) 0) → taskOf g ≡ leading (taskCount s) p (aheadBy s f)
     first-by-key p =
-        leader (taskCount s) p (ahead s σ) (keyOf s σ)
-        (λ a b h k. ahead-key a b h k (decLt (priority s σ b) (priority s σ a)) (ℕ-discrete (priority s σ b) (priority s σ a)) (decLt (level s b) (level s a)))
+        leader (taskCount s) p (aheadBy s f) (λ t. keyOf s (f t) t)
+        (λ a b h k. ahead-key a b h k (decLt (f b) (f a)) (ℕ-discrete (f b) (f a)) (decLt (level s b) (level s a)))
         (λ t h. key-more t) taskOf refl task-key
 
 -- half a table of keys
@@ -101,18 +89,18 @@ module _ {s : Sheet} {σ : Schedule} {q : List ℕ} (ranged : Ranged s) (k : Key
   zero-add : (u : ℕ) → getD q (256 * 0 + u) 0 ≡ getD q u 0
   zero-add u = ap (λ (x : ℕ). getD q x 0) (omega arith)
 
-  below : (r : Found) (p : ℕ → Bool) → foundOf r ≡ leading (taskCount s) p (ahead s σ) → Below (taskCount s) r
-  below (At i) p e = leading-some (taskCount s) p (ahead s σ) i (sym e) .0
-  below Nothing p e = tt
+  below : (r : Found) (p : ℕ → Bool) (f : ℕ → ℕ) → foundOf r ≡ leading (taskCount s) p (aheadBy s f) → Below (taskCount s) r
+  below (At i) p f e = leading-some (taskCount s) p (aheadBy s f) i (sym e) .0
+  below Nothing p f e = tt
 
   pub first-ready-is : (r : Found) {g : ℕ} → foundOf r ≡ taskOf g → g ≡ greatest 16 (keyBy q 512) → (foundOf r ≡ firstReady s σ) × Below (taskCount s) r
   unfolding firstReady readyKey
   first-ready-is r e m =
-      let d = e ∙ first-by-key s ranged σ (ready s σ) (m ∙ half 0 (readyKey s σ) (omega arith) (λ u h. zero-add u ∙ k .keys .fresh u h .ready) (λ u h l. zero-add u ∙ k .keys .blank u h l .ready)) in
-      (d, below r (ready s σ) d)
+      let d = e ∙ first-by-key s ranged (readyPriority s σ) (ready s σ) (m ∙ half 0 (readyKey s σ) (omega arith) (λ u h. zero-add u ∙ k .keys .fresh u h .ready) (λ u h l. zero-add u ∙ k .keys .blank u h l .ready)) in
+      (d, below r (ready s σ) (readyPriority s σ) d)
 
   pub first-partly-is : (r : Found) {g : ℕ} → foundOf r ≡ taskOf g → g ≡ greatest 16 (keyBy q 528) → (foundOf r ≡ firstPartlyReady s σ) × Below (taskCount s) r
   unfolding firstPartlyReady partlyKey
   first-partly-is r e m =
-      let d = e ∙ first-by-key s ranged σ (partlyReady s σ) (m ∙ half 1 (partlyKey s σ) (omega arith) (λ u h. k .keys .fresh u h .partly) (λ u h l. k .keys .blank u h l .partly)) in
-      (d, below r (partlyReady s σ) d)
+      let d = e ∙ first-by-key s ranged (priority s σ) (partlyReady s σ) (m ∙ half 1 (partlyKey s σ) (omega arith) (λ u h. k .keys .fresh u h .partly) (λ u h l. k .keys .blank u h l .partly)) in
+      (d, below r (partlyReady s σ) (priority s σ) d)

@@ -6,19 +6,21 @@ use mathlib.Core.Logic.{_≢_, ⊎-elim}
 use mathlib.Core.List.{List}
 use native.Mathlib.Omega.{arith}
 use native.Mathlib.Decide.{ℕ-discrete, decLt}
-use borrow.Author.Tests.{eq-eqb, ne-eqb}
+use borrow.Author.Tests.{eq-eqb, ne-eqb, eqb-true}
 use lib.ListN.{getD, replicate, length-replicate}
 use lib.Dec.{eqb}
 use Rattle.folds.specs.Folds.{pick, both, either, any, greatest}
-use Rattle.folds.proofs.Tests.{equal-or, both-false, parts-both, pick-le}
+use Rattle.folds.proofs.Tests.{equal-or, both-false, both-parts, parts-both, pick-le}
 use Rattle.folds.proofs.Lists.{getD-replicate}
 use Rattle.folds.proofs.Laws.{greatest-le, greatest-mono, greatest-cong, any-found, none-any, any-cong, all-cong}
 use Rattle.readiness.specs.Keys.{keyBy, Blocked, Changed}
 use Rattle.sheet.specs.Sheet.{Sheet, taskCount, linkCount, sourceOf, targetOf, costOf}
 use Rattle.sheet.specs.Tables.{Ranged}
+use Rattle.graph.specs.Graph.{level}
 use Rattle.planner.specs.Schedule.{Schedule, placed, finishOf, put}
-use Rattle.planner.specs.Placing.{comes, lacks, satisfied, ready, partlyReady, arrivalBy, arrival, priority}
+use Rattle.planner.specs.Placing.{comes, lacks, satisfied, ready, partlyReady, reachBy, arrivalBy, arrival, priority, readyArrival, readyPriority}
 use Rattle.planner.proofs.Ready.{ready-source}
+use Rattle.planner.proofs.Unpacking.{unpacked-cong}
 use Rattle.planner.proofs.Schedules.{finish-other, placed-other}
 use Rattle.adjacency.specs.Chains.{headOf, nextOf, Chained}
 use Rattle.adjacency.specs.declared.End.the-variants.{Source}
@@ -28,13 +30,22 @@ use Rattle.arrivals.proofs.Placing.{free-off, not-t, now-on, landed}
 use Rattle.readiness.proofs.Counts.{placed-ready, placed-partly}
 use Rattle.readiness.specs.Keyed.{keyOf, readyKey, partlyKey, Fresh, Blank, Renewed, Waiting, Keyed, KeyedTo, Passed, KeyedPast, KeyedBeside}
 
-pub ready-key : (s : Sheet) (σ : Schedule) (t : ℕ) {r x : ℕ} {b : Bool} → r ≡ pick b x 0 → b ≡ ready s σ t → x ≡ keyOf s σ t → r ≡ readyKey s σ t
+pub ready-key : (s : Sheet) (σ : Schedule) (t : ℕ) {r x : ℕ} {b : Bool} → r ≡ pick b x 0 → b ≡ ready s σ t → x ≡ keyOf s (readyPriority s σ t) t → r ≡ readyKey s σ t
 unfolding readyKey
 ready-key s σ t e eb ex = e ∙ ap₂ (λ (b : Bool) (x : ℕ). pick b x 0) eb ex
 
-pub partly-key : (s : Sheet) (σ : Schedule) (t : ℕ) {r x : ℕ} {b : Bool} → r ≡ pick b x 0 → b ≡ partlyReady s σ t → x ≡ keyOf s σ t → r ≡ partlyKey s σ t
+pub partly-key : (s : Sheet) (σ : Schedule) (t : ℕ) {r x : ℕ} {b : Bool} → r ≡ pick b x 0 → b ≡ partlyReady s σ t → x ≡ keyOf s (priority s σ t) t → r ≡ partlyKey s σ t
 unfolding partlyKey
 partly-key s σ t e eb ex = e ∙ ap₂ (λ (b : Bool) (x : ℕ). pick b x 0) eb ex
+
+-- keys by the arrivals
+pub ready-by : (s : Sheet) (σ : Schedule) (t : ℕ) {a x : ℕ} → x ≡ keyOf s (a + level s t) t → a ≡ readyArrival s σ t → x ≡ keyOf s (readyPriority s σ t) t
+unfolding readyPriority
+ready-by s σ t e ea = e ∙ ap (λ (a : ℕ). keyOf s (a + level s t) t) ea
+
+pub partly-by : (s : Sheet) (σ : Schedule) (t : ℕ) {a x : ℕ} → x ≡ keyOf s (a + level s t) t → a ≡ arrival s σ t → x ≡ keyOf s (priority s σ t) t
+unfolding priority
+partly-by s σ t e ea = e ∙ ap (λ (a : ℕ). keyOf s (a + level s t) t) ea
 
 -- key i stays
 pub as-was : {q : List ℕ} → Blocked q → (i : ℕ) → Changed q q i (getD q i 0)
@@ -207,17 +218,21 @@ module _ (s : Sheet) (σ : Schedule) (t k a f : ℕ) where
     unfolding partlyReady
     partly-same = ap₂ both unplaced-same (ap₂ both (any-cong (linkCount s) (comes s σ′ u) (comes s σ u) comes-same) (any-cong (linkCount s) (lacks s σ′ u) (lacks s σ u) lacks-same))
 
-    key-same : keyOf s σ′ u ≡ keyOf s σ u
-    unfolding keyOf priority arrival
-    key-same = rw (greatest-cong (linkCount s) (arrivalBy s σ′ u) (arrivalBy s σ u) arrival-by-same)
+    priority-same : priority s σ′ u ≡ priority s σ u
+    unfolding priority arrival
+    priority-same = rw (greatest-cong (linkCount s) (arrivalBy s σ′ u) (arrivalBy s σ u) arrival-by-same)
+
+    reach-same : (l : ℕ) → l < linkCount s → comes s σ′ u l ≡ true → reachBy s σ′ l ≡ reachBy s σ l
+    unfolding comes
+    reach-same l h e = rw (source-same l h (eqb-true (targetOf s l) u (both-parts (eqb (targetOf s l) u) (placed σ′ (sourceOf s l)) e .0)) .1)
+
+    ready-priority-same : readyPriority s σ′ u ≡ readyPriority s σ u
+    unfolding readyPriority readyArrival
+    ready-priority-same = rw (unpacked-cong s (comes s σ′ u) (comes s σ u) (reachBy s σ′) (reachBy s σ) 0 (linkCount s) comes-same reach-same)
 
     stays-fresh : {q : List ℕ} → Fresh s σ q u → Fresh s σ′ q u
     unfolding readyKey partlyKey
-    stays-fresh c =
-        record {
-          ready = c .ready ∙ sym (ap₂ (λ (b : Bool) (x : ℕ). pick b x 0) ready-same key-same);
-          partly = c .partly ∙ sym (ap₂ (λ (b : Bool) (x : ℕ). pick b x 0) partly-same key-same);
-        }
+    stays-fresh c = record { ready = rw (ready-same, ready-priority-same) (c .ready); partly = rw (partly-same, priority-same) (c .partly) }
 
   module _ (g : Placeable s σ t k) where
     -- of the messages to u none was later before
@@ -229,7 +244,7 @@ module _ (s : Sheet) (σ : Schedule) (t k a f : ℕ) where
         go (yes e) = rw (e, free-off s σ t k a f g, both-false (eqb (targetOf s l) u)) (omega arith)
         go (no e) = rw (placed-other σ t k a f (sourceOf s l) e, finish-other σ t k a f (sourceOf s l) e) (omega arith)
 
-    key-rises : (u : ℕ) → keyOf s σ u ≤ keyOf s σ′ u
+    key-rises : (u : ℕ) → keyOf s (priority s σ u) u ≤ keyOf s (priority s σ′ u) u
     unfolding keyOf priority arrival
     key-rises u = omega (arith, greatest-mono (linkCount s) (arrivalBy s σ u) (arrivalBy s σ′ u) (λ l h. arrival-by-rises u l))
 
@@ -251,7 +266,7 @@ module _ (s : Sheet) (σ : Schedule) (t k a f : ℕ) where
             free = now .before i h o;
             known = any-found (linkCount s) (comes s σ′ u) i h (parts-both (eqb u u) (placed σ′ (sourceOf s i)) (eq-eqb u u refl) (ap (placed σ′) o ∙ now .on));
             ready = c .ready ∙ not-ready (ready s σ u) refl;
-            partly = omega (arith, c .partly, pick-le (partlyReady s σ u) (keyOf s σ u) 0 (keyOf s σ u) (omega arith) (omega arith), key-rises u);
+            partly = omega (arith, c .partly, pick-le (partlyReady s σ u) (keyOf s (priority s σ u) u) 0 (keyOf s (priority s σ u) u) (omega arith) (omega arith), key-rises u);
           }
 
     -- t, whose predecessors are placed, was not partly ready

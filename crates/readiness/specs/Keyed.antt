@@ -12,16 +12,17 @@ use Rattle.readiness.specs.Keys.{indexOf, Blocked}
 use Rattle.sheet.specs.Sheet.{Sheet, taskCount, linkCount, sourceOf, targetOf}
 use Rattle.graph.specs.Graph.{level}
 use Rattle.planner.specs.Schedule.{Schedule, placed}
-use Rattle.planner.specs.Placing.{comes, ready, partlyReady, priority}
+use Rattle.planner.specs.Placing.{comes, ready, partlyReady, priority, readyPriority}
 
-unfoldable pub keyOf : Sheet → Schedule → ℕ → ℕ
-keyOf s σ t = (priority s σ t * 33554432 + level s t + 1) * 256 + (255 - t)
+-- .. of t, whose priority is p
+unfoldable pub keyOf : Sheet → ℕ → ℕ → ℕ
+keyOf s p t = (p * 33554432 + level s t + 1) * 256 + (255 - t)
 
 unfoldable pub readyKey : Sheet → Schedule → ℕ → ℕ
-readyKey s σ t = pick (ready s σ t) (keyOf s σ t) 0
+readyKey s σ t = pick (ready s σ t) (keyOf s (readyPriority s σ t) t) 0
 
 unfoldable pub partlyKey : Sheet → Schedule → ℕ → ℕ
-partlyKey s σ t = pick (partlyReady s σ t) (keyOf s σ t) 0
+partlyKey s σ t = pick (partlyReady s σ t) (keyOf s (priority s σ t) t) 0
 
 -- the task of a key, and none of 0
 abbrev pub taskOf : ℕ → Option ℕ
@@ -63,7 +64,7 @@ pub record Waiting (s : Sheet) (σ : Schedule) (q : List ℕ) (u : ℕ) : Type 0
   pub free : placed σ u ≡ false
   pub known : any (linkCount s) (comes s σ u) ≡ true
   pub ready : getD q u 0 ≡ 0
-  pub partly : getD q (256 + u) 0 ≤ keyOf s σ u
+  pub partly : getD q (256 + u) 0 ≤ keyOf s (priority s σ u) u
 
 -- .. but not those of the tasks to which the links from t lead, from number l on
 pub record KeyedPast (s : Sheet) (σ : Schedule) (t l : ℕ) (q : List ℕ) : Type 0 where

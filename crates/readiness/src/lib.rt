@@ -2,19 +2,20 @@
 pub mod keys; // keys.rt: the table of keys, with the greatest of each block
 
 ghost use mathlib.Core.Path.{_≡_};
-ghost use Prim.Native.Nat.{_<_, _≤_};
+ghost use Prim.Native.Nat.{_+_, _<_, _≤_};
 ghost use lib.ListN.{length, replicate};
 ghost use Rattle.folds.specs.Folds.{pick};
 ghost use Rattle.readiness.specs.Keys.{Blocked};
 ghost use Rattle.workspace.specs.Found.{foundOf, Below};
 ghost use Rattle.sheet.specs.Sheet.{taskCount};
 ghost use Rattle.sheet.specs.Tables.{sheetIn, Loaded};
-ghost use Rattle.planner.specs.Schedule.{placed};
-ghost use Rattle.planner.specs.Placing.{ready, partlyReady, arrival, priority, firstReady, firstPartlyReady};
+ghost use Rattle.graph.specs.Graph.{level};
+ghost use Rattle.planner.specs.Schedule.{latestStart, placed};
+ghost use Rattle.planner.specs.Placing.{ready, partlyReady, arrival, priority, readyArrival, firstReady, firstPartlyReady};
 ghost use Rattle.levelling.specs.Found.{Levelled};
 ghost use Rattle.schedule.specs.Layout.{scheduleIn};
 ghost use Rattle.adjacency.specs.Chains.{Chained};
-ghost use Rattle.adjacency.specs.declared.End.the-variants.{Source};
+ghost use Rattle.adjacency.specs.declared.End.the-variants.{Source, Target};
 ghost use Rattle.arrivals.specs.Layout.{keptLength};
 ghost use Rattle.arrivals.specs.Kept.{known, Single, Gathered, Counted, Kept, Arrived};
 ghost use Rattle.arrivals.specs.Steps.{upTo, Beside, Landed};
@@ -71,16 +72,27 @@ pub fn priority_of(w: &[u32], kept: &[u32], t: usize) -> usize
     arrival_of(w, kept, t) + schedule::level_of(w, t)
 }
 
-// The key of t.
-fn key_of(w: &[u32], kept: &[u32], t: usize) -> u64
+// A of a ready t: when it has unpacked all its messages on a fresh processor, which is its arrival where unpacking takes no time.
+pub fn ready_arrival(w: &[u32], kept: &[u32], t: usize) -> usize
     requires { ⌜ Arrived (now w) (now kept) t ⌝ }
-    requires { ⌜ Levelled (sheetIn (now w)) (now w) ⌝ }
-    requires { ⌜ Early (scheduleIn (now w)) ⌝ }
-    ensures { λ r. ⌜ r ≡ keyOf (sheetIn (now (w .entry))) (scheduleIn (now (w .entry))) t ⌝ }
+    requires { ⌜ Chained Target (sheetIn (now w)) (now w) × Early (scheduleIn (now w)) ⌝ }
+    ensures { λ r. ⌜ (r ≡ readyArrival (sheetIn (now (w .entry))) (scheduleIn (now (w .entry))) t) × (r ≤ latestStart) ⌝ }
 {
-    let p = priority_of(w, kept, t);
+    let unpacking = tables::unpacking(w);
+    if unpacking == 0 {
+        return arrival_of(w, kept, t);
+    }
+    arrivals::fresh_start(w, t, unpacking)
+}
+
+// The key of t by its arrival.
+fn key_of(w: &[u32], t: usize, a: usize) -> u64
+    requires { ⌜ Loaded (now w) × Levelled (sheetIn (now w)) (now w) ⌝ }
+    requires { ⌜ (t < taskCount (sheetIn (now w))) × (a ≤ latestStart) ⌝ }
+    ensures { λ r. ⌜ r ≡ keyOf (sheetIn (now (w .entry))) (a + level (sheetIn (now (w .entry))) t) t ⌝ }
+{
     let v = schedule::level_of(w, t);
-    ((p * 33554432 + v + 1) * 256 + (255 - t)) as u64
+    (((a + v) * 33554432 + v + 1) * 256 + (255 - t)) as u64
 }
 
 // The key where the test holds, and 0 elsewhere.
@@ -94,13 +106,14 @@ fn key_if(test: bool, key: u64) -> u64
 fn renew_task(w: &[u32], kept: &[u32], q: &mut [u64], t: usize)
     requires { ⌜ Arrived (now w) (now kept) t ⌝ }
     requires { ⌜ Levelled (sheetIn (now w)) (now w) ⌝ }
-    requires { ⌜ Early (scheduleIn (now w)) ⌝ }
+    requires { ⌜ Chained Target (sheetIn (now w)) (now w) × Early (scheduleIn (now w)) ⌝ }
     requires { ⌜ Blocked (now q) ⌝ }
     ensures { λ _. ⌜ Renewed (sheetIn (now (w .entry))) (scheduleIn (now (w .entry))) (now (q .entry)) (now (q .exit)) t ⌝ }
 {
-    let key = key_of(w, kept, t);
-    let ready = key_if(is_ready(w, kept, t), key);
-    let partly = key_if(is_partly_ready(w, kept, t), key);
+    let a = ready_arrival(w, kept, t);
+    let ready = key_if(is_ready(w, kept, t), key_of(w, t, a));
+    let b = arrival_of(w, kept, t);
+    let partly = key_if(is_partly_ready(w, kept, t), key_of(w, t, b));
     keys::put(q, t, ready);
     keys::put(q, 256 + t, partly);
 }
@@ -109,16 +122,19 @@ fn renew_task(w: &[u32], kept: &[u32], q: &mut [u64], t: usize)
 fn renew_target(w: &[u32], kept: &[u32], q: &mut [u64], t: usize)
     requires { ⌜ Arrived (now w) (now kept) t ⌝ }
     requires { ⌜ Levelled (sheetIn (now w)) (now w) ⌝ }
-    requires { ⌜ Early (scheduleIn (now w)) ⌝ }
+    requires { ⌜ Chained Target (sheetIn (now w)) (now w) × Early (scheduleIn (now w)) ⌝ }
     requires { ⌜ Blocked (now q) ⌝ }
     requires { ⌜ Waiting (sheetIn (now w)) (scheduleIn (now w)) (now q) t ⌝ }
     ensures { λ _. ⌜ Renewed (sheetIn (now (w .entry))) (scheduleIn (now (w .entry))) (now (q .entry)) (now (q .exit)) t ⌝ }
 {
-    let key = key_of(w, kept, t);
     if workspace::word(kept, arrivals::SEEN + t) == workspace::word(kept, t) {
+        let a = ready_arrival(w, kept, t);
+        let key = key_of(w, t, a);
         keys::raise(q, t, key);
         keys::put(q, 256 + t, 0);
     } else {
+        let a = arrival_of(w, kept, t);
+        let key = key_of(w, t, a);
         keys::raise(q, 256 + t, key);
     }
 }
@@ -127,7 +143,7 @@ fn renew_target(w: &[u32], kept: &[u32], q: &mut [u64], t: usize)
 // each target's counts are whole once its link is counted.
 pub fn count_links(w: &[u32], kept: &mut [u32], q: &mut [u64], t: usize, k: usize, f: usize)
     requires { ⌜ Loaded (now w) × (keptLength ≤ length (now kept)) ⌝ }
-    requires { ⌜ Chained Source (sheetIn (now w)) (now w) ⌝ }
+    requires { ⌜ Chained Source (sheetIn (now w)) (now w) × Chained Target (sheetIn (now w)) (now w) ⌝ }
     requires { ⌜ (k < 16) × (f < 2147483648) × (t < taskCount (sheetIn (now w))) ⌝ }
     requires { ⌜ Single (sheetIn (now w)) × Landed (sheetIn (now w)) (scheduleIn (now w)) t k f ⌝ }
     requires { ⌜ Gathered (sheetIn (now w)) (now kept) × Counted (sheetIn (now w)) (scheduleIn (now w)) (upTo (sheetIn (now w)) (scheduleIn (now w)) t 0) (now kept) ⌝ }

@@ -2,14 +2,29 @@
 use Prim.Native.Nat.{ℕ, _+_, _≤_}
 use mathlib.Core.Bool.{Bool, true, false}
 use mathlib.Core.Path.{_≡_, refl}
+use mathlib.Core.Logic.{_≢_}
 use mathlib.Core.List.{[], _∷_, _++_}
 use native.Mathlib.Omega.{arith}
+use borrow.Author.Tests.{eq-eqb, ne-eqb}
 use lib.ListN.{length}
 use lib.Dec.{eqb}
 use Rattle.folds.specs.Folds.{pick}
 use Rattle.numbers.specs.Number.{numberBytes}
 use Rattle.sheet.specs.Sizes.{boardSize, unpackingSize, cubeSize, frontBy}
 use Rattle.sheet.specs.Writing.{boardBytes}
+
+-- without a cube, and with one
+pub front-none : (u : ℕ) → u ≡ 0 → frontBy u false ≡ boardSize
+unfolding frontBy
+front-none u h = rw (eq-eqb u 0 h)
+
+pub front-some : (u : ℕ) → u ≢ 0 → frontBy u false ≡ boardSize + unpackingSize
+unfolding frontBy
+front-some u h = rw (ne-eqb u 0 h)
+
+pub front-cube : (u : ℕ) (c : Bool) → frontBy u c ≡ frontBy u false + pick c cubeSize 0
+unfolding frontBy
+front-cube u c = omega arith
 
 pub front-most : (u : ℕ) (c : Bool) → frontBy u c ≤ boardSize + unpackingSize + cubeSize
 unfolding frontBy
@@ -20,6 +35,10 @@ front-most u c = by (eqb u 0) c
     by true false = omega arith
     by false true = omega arith
     by false false = omega arith
+
+pub front-least : (u : ℕ) (c : Bool) → boardSize ≤ frontBy u c
+unfolding frontBy
+front-least u c = omega arith
 
 pub board-length : (p l u : ℕ) (c : Bool) → length (boardBytes p l u c) ≡ frontBy u c
 unfolding frontBy

@@ -97,37 +97,45 @@ sound p k ops e =
 pub sound-of : (p : Progress) (d : List ℕ) (k : Kind) → judge sheetFormat p d ≡ go k → Sound p k (drop 1 d)
 sound-of p d k j = sound p k _ (comes sheetFormat p d k j .clear)
 
--- each way out of judging an unpacking time, a cube, a task and a link
+-- whether nothing but an unpacking time stands behind the board, by the tables
+pub unwired-in : (w : List ℕ) (c : Bool) (n m : ℕ) → c ≡ sheetIn w .cube → n ≡ getD w taskCountAt 0 → m ≡ getD w linkCountAt 0
+    → unwired (sheetIn w) ≡ both (not c) (both (eqb n 0) (eqb m 0))
+unwired-in w c n m p q r = rw (tasks-in w ∙ sym q, links-in w ∙ sym r, ← p)
+
+-- each way out of judging an unpacking time and a cube
+module _ (s : Sheet) where
+  pub wire-turn : (ops : List ℕ) → unwired s ≡ false → fault (begun s) wire ops ≡ some 3
+  wire-turn ops h = fault-wire s ops ∙ rw h
+
+  pub wire-clear : (ops : List ℕ) → unwired s ≡ true → fault (begun s) wire ops ≡ none
+  wire-clear ops h = fault-wire s ops ∙ rw h
+
+  pub unpack-again : (ops : List ℕ) → s .unpacking ≢ 0 → fault (begun s) unpack ops ≡ some 3
+  unpack-again ops h = fault-unpack s ops ∙ rw (ne-eqb (s .unpacking) 0 h)
+
+  module _ (first : s .unpacking ≡ 0) where
+    pub unpack-turn : (ops : List ℕ) → unwired s ≡ false → fault (begun s) unpack ops ≡ some 3
+    unpack-turn ops h = fault-unpack s ops ∙ rw (eq-eqb (s .unpacking) 0 first, h)
+
+    module _ (b : List ℕ) (at : ℕ) (bare-board : unwired s ≡ true) where
+      pub unpack-cut : at < length b → length b - at < unpackingSize → fault (begun s) unpack (drop (at + 1) b) ≡ some 1
+      unpack-cut l h = fault-unpack s (drop (at + 1) b) ∙ rw (eq-eqb (s .unpacking) 0 first, bare-board, length-drop (at + 1) b, lt-ltb (length b - (at + 1)) 2 (omega arith))
+
+      unpack-number : (time : ℕ) → unpackingSize ≤ length b - at → time ≡ numberAt 2 b (at + 1)
+          → fault (begun s) unpack (drop (at + 1) b) ≡ pick (eqb time 0) (some 6) none
+      unpack-number time h q =
+          let same : numberAt 2 (drop (at + 1) b) 0 ≡ time = numberAt-drop 2 (at + 1) b 0 ∙ ap (numberAt 2 b) (add-zero (at + 1)) ∙ sym q in
+          fault-unpack s (drop (at + 1) b)
+          ∙ rw (eq-eqb (s .unpacking) 0 first, bare-board, length-drop (at + 1) b, le-ltb (length b - (at + 1)) 2 (omega arith), same)
+
+      pub unpack-zero : (time : ℕ) → unpackingSize ≤ length b - at → time ≡ numberAt 2 b (at + 1) → time ≡ 0 → fault (begun s) unpack (drop (at + 1) b) ≡ some 6
+      unpack-zero time h q z = unpack-number time h q ∙ rw (eq-eqb time 0 z)
+
+      pub unpack-clear : (time : ℕ) → unpackingSize ≤ length b - at → time ≡ numberAt 2 b (at + 1) → time ≢ 0 → fault (begun s) unpack (drop (at + 1) b) ≡ none
+      unpack-clear time h q z = unpack-number time h q ∙ rw (ne-eqb time 0 z)
+
+-- .. a task and a link
 module _ (w : List ℕ) where
-  -- by the numbers of the board
-  module _ (c : Bool) (n m : ℕ) (e : (c ≡ sheetIn w .cube) × (n ≡ getD w taskCountAt 0) × (m ≡ getD w linkCountAt 0)) where
-    unwired-in : (t : Bool) → both (not c) (both (eqb n 0) (eqb m 0)) ≡ t → unwired (sheetIn w) ≡ t
-    unwired-in t h = rw (tasks-in w ∙ sym (e .1), links-in w ∙ sym (e .2), ← e .0) h
-
-    pub wire-turn : (ops : List ℕ) → both (not c) (both (eqb n 0) (eqb m 0)) ≡ false → fault (begun (sheetIn w)) wire ops ≡ some 3
-    wire-turn ops h = fault-wire (sheetIn w) ops ∙ rw (unwired-in false h)
-
-    pub wire-clear : (ops : List ℕ) → both (not c) (both (eqb n 0) (eqb m 0)) ≡ true → fault (begun (sheetIn w)) wire ops ≡ none
-    wire-clear ops h = fault-wire (sheetIn w) ops ∙ rw (unwired-in true h)
-
-    module _ (u : ℕ) (eu : u ≡ sheetIn w .unpacking) where
-      bare-in : (t : Bool) → both (eqb u 0) (both (not c) (both (eqb n 0) (eqb m 0))) ≡ t → bare (sheetIn w) ≡ t
-      bare-in t h = rw (tasks-in w ∙ sym (e .1), links-in w ∙ sym (e .2), ← e .0, ← eu) h
-
-      pub unpack-turn : (ops : List ℕ) → both (eqb u 0) (both (not c) (both (eqb n 0) (eqb m 0))) ≡ false → fault (begun (sheetIn w)) unpack ops ≡ some 3
-      unpack-turn ops h = fault-unpack (sheetIn w) ops ∙ rw (bare-in false h)
-
-      module _ (b : List ℕ) (at : ℕ) (first : both (eqb u 0) (both (not c) (both (eqb n 0) (eqb m 0))) ≡ true) where
-        pub unpack-cut : at < length b → length b - at < unpackingSize → fault (begun (sheetIn w)) unpack (drop (at + 1) b) ≡ some 1
-        unpack-cut l h = fault-unpack (sheetIn w) (drop (at + 1) b) ∙ rw (bare-in true first, length-drop (at + 1) b, lt-ltb (length b - (at + 1)) 2 (omega arith))
-
-        pub unpack-number : (time : ℕ) → unpackingSize ≤ length b - at → time ≡ numberAt 2 b (at + 1)
-            → fault (begun (sheetIn w)) unpack (drop (at + 1) b) ≡ pick (eqb time 0) (some 6) none
-        unpack-number time h q =
-            let same : numberAt 2 (drop (at + 1) b) 0 ≡ time = numberAt-drop 2 (at + 1) b 0 ∙ ap (numberAt 2 b) (add-zero (at + 1)) ∙ sym q in
-            fault-unpack (sheetIn w) (drop (at + 1) b)
-            ∙ rw (bare-in true first, length-drop (at + 1) b, le-ltb (length b - (at + 1)) 2 (omega arith), same)
-
   pub task-turn : (m : ℕ) (ops : List ℕ) → m ≡ getD w linkCountAt 0 → m ≢ 0 → fault (begun (sheetIn w)) task ops ≡ some 3
   task-turn m ops e h = fault-task (sheetIn w) ops ∙ rw (ne-eqb (linkCount (sheetIn w)) 0 (λ q. h (e ∙ sym (links-in w) ∙ q)))
 

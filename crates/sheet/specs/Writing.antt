@@ -1,7 +1,7 @@
 -- A sheet's bytes, and the bytes of a sheet that is given by its values.
 use Prim.Native.Nat.{ℕ, _+_, _*_, _/_, _%_, _<_}
 use mathlib.Core.List.{List, [], _∷_, _++_}
-use mathlib.Core.Bool.{Bool}
+use mathlib.Core.Bool.{Bool, not}
 use lib.ListN.{length, getD}
 use lib.Dec.{eqb}
 use Rattle.folds.specs.Folds.{pick, listed}
@@ -11,6 +11,10 @@ use Rattle.sheet.specs.Sheet.{Sheet, Task, Link}
 -- "without it the time is 0"
 abbrev pub unpackingBytes : ℕ → List ℕ
 unpackingBytes unpacking = pick (eqb unpacking 0) [] (0x55 ∷ numberBytes 2 unpacking)
+
+-- whether a value says that the board is a cube: 0 does not
+abbrev pub cubeOf : ℕ → Bool
+cubeOf value = not (eqb value 0)
 
 abbrev pub cubeBytes : Bool → List ℕ
 cubeBytes cube = pick cube (0x48 ∷ []) []

@@ -2,10 +2,11 @@
 ghost use mathlib.Core.Path.{_≡_};
 ghost use mathlib.Core.Bool.{false};
 ghost use mathlib.Core.List.{[]};
-ghost use Prim.Native.Nat.{_<_, _≤_};
+ghost use Prim.Native.Nat.{_+_, _<_, _≤_};
 ghost use lib.ListN.{length};
 ghost use Rattle.workspace.specs.Area.{fixed};
 ghost use Rattle.sheet.specs.Sheet.{taskCount, linkCount, workOf, storeOf, sourceOf, targetOf, costOf, bytesOf};
+ghost use Rattle.sheet.specs.Sizes.{boardSize, unpackingSize, cubeSize, frontOf};
 ghost use Rattle.sheet.specs.Tables.{sheetIn, Loaded, LoadedOf, taskWords, linkWords, unpackingWords, cubeWords};
 use workspace::CUBE;
 use workspace::LIMIT;
@@ -57,6 +58,14 @@ pub fn cube(w: &[u32]) -> bool
     ensures { λ r. ⌜ r ≡ sheetIn (now (w .entry)) .cube ⌝ }
 {
     workspace::word(w, CUBE) == 1
+}
+
+// Where the tasks begin in the sheet's bytes.
+pub fn front(w: &[u32]) -> usize
+    requires { ⌜ Loaded (now w) ⌝ }
+    ensures { λ r. ⌜ (r ≡ frontOf (sheetIn (now (w .entry)))) × (r ≤ boardSize + unpackingSize + cubeSize) ⌝ }
+{
+    crate::front(unpacking(w), cube(w))
 }
 
 pub fn work(w: &[u32], t: usize) -> usize

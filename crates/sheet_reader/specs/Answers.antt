@@ -9,23 +9,46 @@ use Rattle.folds.specs.Folds.{pick}
 use Rattle.folds.specs.Answers.{Answer, value, refused}
 use Rattle.commands.specs.Commands.{Outcome, refuse, go}
 use Rattle.sheet.specs.Sheet.{Sheet}
-use Rattle.sheet.specs.Format.{Kind, board, task, link, end}
+use Rattle.sheet.specs.Sizes.{linkSize}
+use Rattle.sheet.specs.Format.{Kind, board, unpack, wire, task, link, end}
 use Rattle.sheet.specs.Tables.{sheetIn, Loaded}
 use Rattle.sheet_reader.specs.declared.bytes.Next.{Next}
-use Rattle.sheet_reader.specs.declared.bytes.Next.the-variants.{Task, Link, End, No}
+use Rattle.sheet_reader.specs.declared.bytes.Next.the-variants.{Unpacking, Cube, Task, Link, End, No}
 use Rattle.sheet_reader.specs.declared.Reading.{Reading}
 use Rattle.sheet_reader.specs.declared.Reading.the-variants.{Read, Refused}
 
 abbrev pub outcomeOf : Next → Outcome Kind
+outcomeOf Unpacking = go unpack
+outcomeOf Cube = go wire
 outcomeOf Task = go task
 outcomeOf Link = go link
 outcomeOf End = go end
 outcomeOf (No r) = refuse r
 
--- whether a task comes, whether a link comes
+-- whether an unpacking time comes, a cube, a task, a link
+abbrev pub isUnpacking : Outcome Kind → Bool
+isUnpacking (refuse r) = false
+isUnpacking (go board) = false
+isUnpacking (go unpack) = true
+isUnpacking (go wire) = false
+isUnpacking (go task) = false
+isUnpacking (go link) = false
+isUnpacking (go end) = false
+
+abbrev pub isCube : Outcome Kind → Bool
+isCube (refuse r) = false
+isCube (go board) = false
+isCube (go unpack) = false
+isCube (go wire) = true
+isCube (go task) = false
+isCube (go link) = false
+isCube (go end) = false
+
 abbrev pub isTask : Outcome Kind → Bool
 isTask (refuse r) = false
 isTask (go board) = false
+isTask (go unpack) = false
+isTask (go wire) = false
 isTask (go task) = true
 isTask (go link) = false
 isTask (go end) = false
@@ -33,6 +56,8 @@ isTask (go end) = false
 abbrev pub isLink : Outcome Kind → Bool
 isLink (refuse r) = false
 isLink (go board) = false
+isLink (go unpack) = false
+isLink (go wire) = false
 isLink (go task) = false
 isLink (go link) = true
 isLink (go end) = false
@@ -56,7 +81,6 @@ pub record ReadIs (a : Answer Sheet) (w last : List ℕ) (r : Reading) : Type 0 
 unfoldable pub closedOf : ℕ → ℕ → Reading
 closedOf long e = pick (ltb (e + 1) long) (Refused 4 (e + 1)) Read
 
--- what stands behind m values of links and n tasks: a link that is cut, or a sheet
+-- what stands behind m values of links, whose commands begin at offset e: a link that is cut, or a sheet
 unfoldable pub valuesClosed : ℕ → ℕ → Reading
-valuesClosed m n =
-    pick (eqb (m % 4) 0) Read (Refused 1 (6 + 5 * n + 7 * (m / 4)))
+valuesClosed m e = pick (eqb (m % 4) 0) Read (Refused 1 (e + linkSize * (m / 4)))

@@ -2,23 +2,30 @@
 ghost use mathlib.Core.Path.{_≡_};
 ghost use mathlib.Core.Bool.{false};
 ghost use mathlib.Core.Option.{some};
-ghost use mathlib.Core.Logic.{_≢_};
 ghost use Prim.Native.Nat.{_+_, _*_, _≤_, _<_};
 ghost use lib.ListN.{length, getD, drop};
 ghost use Rattle.numbers.specs.Number.{numberAt};
-ghost use Rattle.commands.specs.Commands.{numbered, judge, judgeKind, go};
-ghost use Rattle.workspace.specs.Area.{fixed};
-ghost use Rattle.sheet.specs.Format.{task, link, sheetFormat, fresh, readForm};
+ghost use Rattle.commands.specs.Commands.{numbered, judge, judgeKind};
+ghost use Rattle.workspace.specs.Area.{fixed, linkCountAt, taskCountAt};
+ghost use Rattle.sheet.specs.Sizes.{boardSize, taskSize, linkSize};
+ghost use Rattle.sheet.specs.Format.{unwired, unpack, wire, task, link, sheetFormat, fresh, readForm};
 ghost use Rattle.sheet.specs.Tables.{sheetIn, pairIn, Loaded, Filling, taskWords};
 ghost use Rattle.sheet.specs.Faults.{begun, taskFault, linkFault};
-ghost use Rattle.sheet_reader.specs.Answers.{outcomeOf, isTask, isLink, openingOf, closedOf, ReadIs};
-ghost use Rattle.sheet_reader.specs.Scanning.{Walking, Linking, addedWords};
+ghost use Rattle.sheet_reader.specs.Answers.{outcomeOf, isUnpacking, isCube, isTask, isLink, openingOf, closedOf, ReadIs};
+ghost use Rattle.sheet_reader.specs.Scanning.{Absent, BoardRead, Walking, Linking, addedWords};
 use crate::Reading;
+use sheet::BOARD_SIZE;
+use sheet::CUBE_SIZE;
+use sheet::LINK_SIZE;
+use sheet::TASK_SIZE;
+use sheet::UNPACKING_SIZE;
 use sheet::pairs;
 use sheet::tables;
 
 // The next command behind the board command: its kind, or the number that refuses it.
 pub enum Next {
+    Unpacking,
+    Cube,
     Task,
     Link,
     End,
@@ -41,7 +48,7 @@ pub fn task_fault(tasks: usize, work: u16) -> u8
 // The number that refuses a link between these tasks, or 0.
 pub fn link_fault(w: &[u32], tasks: usize, links: usize, source: usize, target: usize) -> u8
     requires { ⌜ Filling (now w) ⌝ }
-    requires { ⌜ (tasks ≡ getD (now w) 0 0) × (links ≡ getD (now w) 1 0) ⌝ }
+    requires { ⌜ (tasks ≡ getD (now w) taskCountAt 0) × (links ≡ getD (now w) linkCountAt 0) ⌝ }
     ensures { λ r. ⌜ numbered r ≡ linkFault (sheetIn (now (w .entry))) source target ⌝ }
 {
     if 1024 <= links {
@@ -59,16 +66,64 @@ pub fn link_fault(w: &[u32], tasks: usize, links: usize, source: usize, target: 
     0
 }
 
+// Whether the board has neither a cube nor a task nor a link behind it.
+fn unwired(w: &[u32], tasks: usize, links: usize) -> bool
+    requires { ⌜ Loaded (now w) ⌝ }
+    requires { ⌜ (tasks ≡ getD (now w) taskCountAt 0) × (links ≡ getD (now w) linkCountAt 0) ⌝ }
+    ensures { λ r. ⌜ r ≡ unwired (sheetIn (now (w .entry))) ⌝ }
+{
+    if tables::cube(w) {
+        return false;
+    }
+    if tasks != 0 {
+        return false;
+    }
+    links == 0
+}
+
+// The unpacking time at `at`, which is in turn only directly behind the board.
+fn unpacking_at(bytes: &[u8], at: usize, w: &[u32], tasks: usize, links: usize) -> Next
+    requires { ⌜ Loaded (now w) ⌝ }
+    requires { ⌜ (tasks ≡ getD (now w) taskCountAt 0) × (links ≡ getD (now w) linkCountAt 0) × (at < length (now bytes)) ⌝ }
+    ensures { λ r. ⌜ outcomeOf r ≡ judgeKind sheetFormat (begun (sheetIn (now (w .entry)))) (some unpack) (drop (at + 1) (now (bytes .entry))) ⌝ }
+{
+    if tables::unpacking(w) != 0 {
+        return Next::No(3);
+    }
+    if !unwired(w, tasks, links) {
+        return Next::No(3);
+    }
+    if bytes.len() - at < UNPACKING_SIZE {
+        return Next::No(1);
+    }
+    if reader::get16(bytes, at + 1) == 0 {
+        return Next::No(6);
+    }
+    Next::Unpacking
+}
+
+// A cube, which is in turn only behind the board and its unpacking time.
+fn cube_at(bytes: &[u8], at: usize, w: &[u32], tasks: usize, links: usize) -> Next
+    requires { ⌜ Loaded (now w) ⌝ }
+    requires { ⌜ (tasks ≡ getD (now w) taskCountAt 0) × (links ≡ getD (now w) linkCountAt 0) ⌝ }
+    ensures { λ r. ⌜ outcomeOf r ≡ judgeKind sheetFormat (begun (sheetIn (now (w .entry)))) (some wire) (drop (at + 1) (now (bytes .entry))) ⌝ }
+{
+    if unwired(w, tasks, links) {
+        return Next::Cube;
+    }
+    Next::No(3)
+}
+
 // The task command at `at`.
 fn task_at(bytes: &[u8], at: usize, w: &[u32], tasks: usize, links: usize) -> Next
     requires { ⌜ Loaded (now w) ⌝ }
-    requires { ⌜ (tasks ≡ getD (now w) 0 0) × (links ≡ getD (now w) 1 0) × (at < length (now bytes)) ⌝ }
+    requires { ⌜ (tasks ≡ getD (now w) taskCountAt 0) × (links ≡ getD (now w) linkCountAt 0) × (at < length (now bytes)) ⌝ }
     ensures { λ r. ⌜ outcomeOf r ≡ judgeKind sheetFormat (begun (sheetIn (now (w .entry)))) (some task) (drop (at + 1) (now (bytes .entry))) ⌝ }
 {
     if links != 0 {
         return Next::No(3);
     }
-    if bytes.len() - (at + 1) < 4 {
+    if bytes.len() - at < TASK_SIZE {
         return Next::No(1);
     }
     let fault = task_fault(tasks, reader::get16(bytes, at + 1));
@@ -81,10 +136,10 @@ fn task_at(bytes: &[u8], at: usize, w: &[u32], tasks: usize, links: usize) -> Ne
 // The link command at `at`.
 fn link_at(bytes: &[u8], at: usize, w: &[u32], tasks: usize, links: usize) -> Next
     requires { ⌜ Filling (now w) ⌝ }
-    requires { ⌜ (tasks ≡ getD (now w) 0 0) × (links ≡ getD (now w) 1 0) × (at < length (now bytes)) ⌝ }
+    requires { ⌜ (tasks ≡ getD (now w) taskCountAt 0) × (links ≡ getD (now w) linkCountAt 0) × (at < length (now bytes)) ⌝ }
     ensures { λ r. ⌜ outcomeOf r ≡ judgeKind sheetFormat (begun (sheetIn (now (w .entry)))) (some link) (drop (at + 1) (now (bytes .entry))) ⌝ }
 {
-    if bytes.len() - (at + 1) < 6 {
+    if bytes.len() - at < LINK_SIZE {
         return Next::No(1);
     }
     let fault = link_fault(
@@ -103,7 +158,7 @@ fn link_at(bytes: &[u8], at: usize, w: &[u32], tasks: usize, links: usize) -> Ne
 // The command at `at`, behind the board command.
 fn next_at(bytes: &[u8], at: usize, w: &[u32], tasks: usize, links: usize) -> Next
     requires { ⌜ Filling (now w) ⌝ }
-    requires { ⌜ (tasks ≡ getD (now w) 0 0) × (links ≡ getD (now w) 1 0) × (at ≤ length (now bytes)) ⌝ }
+    requires { ⌜ (tasks ≡ getD (now w) taskCountAt 0) × (links ≡ getD (now w) linkCountAt 0) × (at ≤ length (now bytes)) ⌝ }
     ensures { λ r. ⌜ outcomeOf r ≡ judge sheetFormat (begun (sheetIn (now (w .entry)))) (drop at (now (bytes .entry))) ⌝ }
 {
     if bytes.len() <= at {
@@ -118,6 +173,12 @@ fn next_at(bytes: &[u8], at: usize, w: &[u32], tasks: usize, links: usize) -> Ne
     }
     if c == 0x51 {
         return Next::End;
+    }
+    if c == 0x55 {
+        return unpacking_at(bytes, at, w, tasks, links);
+    }
+    if c == 0x48 {
+        return cube_at(bytes, at, w, tasks, links);
     }
     if c == 0x4D {
         return Next::No(3);
@@ -142,10 +203,16 @@ fn opening(bytes: &[u8]) -> u8
     if c == 0x51 {
         return 3;
     }
+    if c == 0x55 {
+        return 3;
+    }
+    if c == 0x48 {
+        return 3;
+    }
     if c != 0x4D {
         return 2;
     }
-    if bytes.len() - 1 < 5 {
+    if bytes.len() < BOARD_SIZE {
         return 1;
     }
     let processors = reader::get8(bytes, 1);
@@ -160,7 +227,7 @@ fn opening(bytes: &[u8]) -> u8
 
 // Puts the task at `at` into the tables.
 fn add_task(bytes: &[u8], at: usize, w: &mut [u32], tasks: usize)
-    requires { ⌜ (at + 5 ≤ length (now bytes)) × (fixed ≤ length (now w)) × (tasks < 256) ⌝ }
+    requires { ⌜ (at + taskSize ≤ length (now bytes)) × (fixed ≤ length (now w)) × (tasks < 256) ⌝ }
     ensures { λ _. ⌜ now (w .exit) ≡ taskWords (now (w .entry)) tasks (numberAt 2 (now (bytes .entry)) (at + 1)) (numberAt 2 (now (bytes .entry)) (at + 3)) ⌝ }
 {
     tables::put_task(
@@ -173,7 +240,7 @@ fn add_task(bytes: &[u8], at: usize, w: &mut [u32], tasks: usize)
 
 // Puts the link at `at` into the tables.
 fn add_link(bytes: &[u8], at: usize, w: &mut [u32], links: usize)
-    requires { ⌜ (at + 7 ≤ length (now bytes)) × (fixed ≤ length (now w)) × (links < 1024) ⌝ }
+    requires { ⌜ (at + linkSize ≤ length (now bytes)) × (fixed ≤ length (now w)) × (links < 1024) ⌝ }
     requires { ⌜ pairIn (now w) (getD (now bytes) (at + 1) 0) (getD (now bytes) (at + 2) 0) ≡ false ⌝ }
     ensures { λ _. ⌜ now (w .exit) ≡ addedWords (now (bytes .entry)) at (now (w .entry)) links ⌝ }
 {
@@ -197,10 +264,47 @@ fn closing(bytes: &[u8], at: usize) -> Reading
     Reading::Read
 }
 
+// Whether an unpacking time stands at `at` that nothing refuses, where there is no task and no link yet.
+fn is_unpacking(bytes: &[u8], at: usize, w: &[u32]) -> bool
+    requires { ⌜ Loaded (now w) ⌝ }
+    requires { ⌜ (getD (now w) taskCountAt 0 ≡ 0) × (getD (now w) linkCountAt 0 ≡ 0) × (at ≤ length (now bytes)) ⌝ }
+    ensures { λ r. ⌜ r ≡ isUnpacking (judge sheetFormat (begun (sheetIn (now (w .entry)))) (drop at (now (bytes .entry)))) ⌝ }
+{
+    if bytes.len() <= at {
+        return false;
+    }
+    if reader::get8(bytes, at) != 0x55 {
+        return false;
+    }
+    match unpacking_at(bytes, at, w, 0, 0) {
+        Next::Unpacking => true,
+        Next::Cube => false,
+        Next::Task => false,
+        Next::Link => false,
+        Next::End => false,
+        Next::No(r) => false,
+    }
+}
+
+// Whether a cube stands at `at` that nothing refuses, where there is no task and no link yet.
+fn is_cube(bytes: &[u8], at: usize, w: &[u32]) -> bool
+    requires { ⌜ Loaded (now w) ⌝ }
+    requires { ⌜ (getD (now w) taskCountAt 0 ≡ 0) × (getD (now w) linkCountAt 0 ≡ 0) × (at ≤ length (now bytes)) ⌝ }
+    ensures { λ r. ⌜ r ≡ isCube (judge sheetFormat (begun (sheetIn (now (w .entry)))) (drop at (now (bytes .entry)))) ⌝ }
+{
+    if bytes.len() <= at {
+        return false;
+    }
+    if reader::get8(bytes, at) != 0x48 {
+        return false;
+    }
+    unwired(w, 0, 0)
+}
+
 // Whether a task stands at `at` that nothing refuses, where there is no link yet.
 fn is_task(bytes: &[u8], at: usize, w: &[u32], tasks: usize) -> bool
     requires { ⌜ Loaded (now w) ⌝ }
-    requires { ⌜ (tasks ≡ getD (now w) 0 0) × (getD (now w) 1 0 ≡ 0) × (at ≤ length (now bytes)) ⌝ }
+    requires { ⌜ (tasks ≡ getD (now w) taskCountAt 0) × (getD (now w) linkCountAt 0 ≡ 0) × (at ≤ length (now bytes)) ⌝ }
     ensures { λ r. ⌜ r ≡ isTask (judge sheetFormat (begun (sheetIn (now (w .entry)))) (drop at (now (bytes .entry)))) ⌝ }
 {
     if bytes.len() <= at {
@@ -210,6 +314,8 @@ fn is_task(bytes: &[u8], at: usize, w: &[u32], tasks: usize) -> bool
         return false;
     }
     match task_at(bytes, at, w, tasks, 0) {
+        Next::Unpacking => false,
+        Next::Cube => false,
         Next::Task => true,
         Next::Link => false,
         Next::End => false,
@@ -220,7 +326,7 @@ fn is_task(bytes: &[u8], at: usize, w: &[u32], tasks: usize) -> bool
 // Whether a link stands at `at` that nothing refuses.
 fn is_link(bytes: &[u8], at: usize, w: &[u32], tasks: usize, links: usize) -> bool
     requires { ⌜ Filling (now w) ⌝ }
-    requires { ⌜ (tasks ≡ getD (now w) 0 0) × (links ≡ getD (now w) 1 0) × (at ≤ length (now bytes)) ⌝ }
+    requires { ⌜ (tasks ≡ getD (now w) taskCountAt 0) × (links ≡ getD (now w) linkCountAt 0) × (at ≤ length (now bytes)) ⌝ }
     ensures { λ r. ⌜ r ≡ isLink (judge sheetFormat (begun (sheetIn (now (w .entry)))) (drop at (now (bytes .entry)))) ⌝ }
 {
     if bytes.len() <= at {
@@ -230,6 +336,8 @@ fn is_link(bytes: &[u8], at: usize, w: &[u32], tasks: usize, links: usize) -> bo
         return false;
     }
     match link_at(bytes, at, w, tasks, links) {
+        Next::Unpacking => false,
+        Next::Cube => false,
         Next::Task => false,
         Next::Link => true,
         Next::End => false,
@@ -237,18 +345,43 @@ fn is_link(bytes: &[u8], at: usize, w: &[u32], tasks: usize, links: usize) -> bo
     }
 }
 
-// Adds the tasks behind the board command; the answer is how many there are. A loop for each kind of command tells the usual
-// commands from the rest by tests that go one way.
-fn add_tasks(bytes: &[u8], w: &mut [u32]) -> usize
-    requires { ⌜ Walking (readForm (now bytes)) (now bytes) (now w) (now w) 0 0 6 ⌝ }
-    ensures { λ r. ⌜ Walking (readForm (now (bytes .entry))) (now (bytes .entry)) (now (w .entry)) (now (w .exit)) r 0 (6 + 5 * r) × (judge sheetFormat (begun (sheetIn (now (w .exit)))) (drop (6 + 5 * r) (now (bytes .entry))) ≢ go task) ⌝ }
+// Adds the unpacking time behind the board command, where there is one; the answer is the offset behind it.
+fn add_unpacking(bytes: &[u8], w: &mut [u32]) -> usize
+    requires { ⌜ Walking (readForm (now bytes)) (now bytes) (now w) (now w) 0 0 boardSize ⌝ }
+    ensures { λ r. ⌜ Walking (readForm (now (bytes .entry))) (now (bytes .entry)) (now (w .entry)) (now (w .exit)) 0 0 r × Absent unpack (now (bytes .entry)) (now (w .exit)) r ⌝ }
 {
-    let mut at = 6;
+    if is_unpacking(bytes, BOARD_SIZE, w) {
+        tables::put_unpacking(w, reader::get16(bytes, BOARD_SIZE + 1));
+        return BOARD_SIZE + UNPACKING_SIZE;
+    }
+    BOARD_SIZE
+}
+
+// Adds the unpacking time and the cube behind the board command, where they are; the answer is the offset behind them.
+fn add_board(bytes: &[u8], w: &mut [u32]) -> usize
+    requires { ⌜ Walking (readForm (now bytes)) (now bytes) (now w) (now w) 0 0 boardSize ⌝ }
+    ensures { λ r. ⌜ Walking (readForm (now (bytes .entry))) (now (bytes .entry)) (now (w .entry)) (now (w .exit)) 0 0 r × BoardRead (now (bytes .entry)) (now (w .exit)) r ⌝ }
+{
+    let at = add_unpacking(bytes, w);
+    if is_cube(bytes, at, w) {
+        tables::put_cube(w);
+        return at + CUBE_SIZE;
+    }
+    at
+}
+
+// Adds the tasks from `start` on, behind the board; the answer is how many there are. A loop for each kind of command tells the
+// usual commands from the rest by tests that go one way.
+fn add_tasks(bytes: &[u8], start: usize, w: &mut [u32]) -> usize
+    requires { ⌜ Walking (readForm (now bytes)) (now bytes) (now w) (now w) 0 0 start × BoardRead (now bytes) (now w) start ⌝ }
+    ensures { λ r. ⌜ Walking (readForm (now (bytes .entry))) (now (bytes .entry)) (now (w .entry)) (now (w .exit)) r 0 (start + taskSize * r) × BoardRead (now (bytes .entry)) (now (w .exit)) (start + taskSize * r) × Absent task (now (bytes .entry)) (now (w .exit)) (start + taskSize * r) ⌝ }
+{
+    let mut at = start;
     let mut tasks = 0;
     while is_task(bytes, at, w, tasks) {
         add_task(bytes, at, w, tasks);
         tasks += 1;
-        at += 5;
+        at += TASK_SIZE;
     }
     tasks
 }
@@ -256,26 +389,28 @@ fn add_tasks(bytes: &[u8], w: &mut [u32]) -> usize
 // Adds the links from `start` on, behind so many tasks; the answer is how many there are.
 fn add_links(bytes: &[u8], start: usize, w: &mut [u32], tasks: usize) -> usize
     requires { ⌜ Linking (readForm (now bytes)) (now bytes) (now w) (now w) tasks 0 start ⌝ }
-    ensures { λ r. ⌜ Linking (readForm (now (bytes .entry))) (now (bytes .entry)) (now (w .entry)) (now (w .exit)) tasks r (start + 7 * r) × (judge sheetFormat (begun (sheetIn (now (w .exit)))) (drop (start + 7 * r) (now (bytes .entry))) ≢ go link) ⌝ }
+    ensures { λ r. ⌜ Linking (readForm (now (bytes .entry))) (now (bytes .entry)) (now (w .entry)) (now (w .exit)) tasks r (start + linkSize * r) × Absent link (now (bytes .entry)) (now (w .exit)) (start + linkSize * r) ⌝ }
 {
     let mut at = start;
     let mut links = 0;
     while is_link(bytes, at, w, tasks, links) {
         add_link(bytes, at, w, links);
         links += 1;
-        at += 7;
+        at += LINK_SIZE;
     }
     links
 }
 
-// What stands at `at`, behind the tasks and the links: the end, or what is refused. Neither a task nor a link that nothing refuses
-// is left.
+// What stands at `at`, behind the tasks and the links: the end, or what is refused. Nothing of the board, and no task or link,
+// is left that nothing refuses.
 fn rest(bytes: &[u8], at: usize, w: &[u32], tasks: usize, links: usize) -> Reading
     requires { ⌜ Linking (readForm (now bytes)) (now bytes) (now w) (now w) tasks links at ⌝ }
-    requires { ⌜ judge sheetFormat (begun (sheetIn (now w))) (drop at (now bytes)) ≢ go link ⌝ }
+    requires { ⌜ Absent link (now bytes) (now w) at ⌝ }
     ensures { λ r. ⌜ ReadIs (readForm (now (bytes .entry))) (now (w .entry)) (now (w .entry)) r ⌝ }
 {
     match next_at(bytes, at, w, tasks, links) {
+        Next::Unpacking => Reading::Refused(3, at),
+        Next::Cube => Reading::Refused(3, at),
         Next::Task => Reading::Refused(3, at),
         Next::Link => Reading::Refused(8, at),
         Next::End => closing(bytes, at),
@@ -283,17 +418,18 @@ fn rest(bytes: &[u8], at: usize, w: &[u32], tasks: usize, links: usize) -> Readi
     }
 }
 
-// Reads command by command behind the board command: the tasks, whose rows are then cleared for the pairs that the links join, the
-// links, and what is left.
+// Reads command by command behind the board command: what more there is of the board, the tasks, whose rows are then cleared for the
+// pairs that the links join, the links, and what is left.
 fn walk(bytes: &[u8], w: &mut [u32]) -> Reading
-    requires { ⌜ Walking (readForm (now bytes)) (now bytes) (now w) (now w) 0 0 6 ⌝ }
+    requires { ⌜ Walking (readForm (now bytes)) (now bytes) (now w) (now w) 0 0 boardSize ⌝ }
     ensures { λ r. ⌜ ReadIs (readForm (now (bytes .entry))) (now (w .entry)) (now (w .exit)) r ⌝ }
 {
-    let tasks = add_tasks(bytes, w);
+    let start = add_board(bytes, w);
+    let tasks = add_tasks(bytes, start, w);
     pairs::blank(w, tasks);
-    let at = 6 + 5 * tasks;
+    let at = start + TASK_SIZE * tasks;
     let links = add_links(bytes, at, w, tasks);
-    rest(bytes, at + 7 * links, w, tasks, links)
+    rest(bytes, at + LINK_SIZE * links, w, tasks, links)
 }
 
 // Reads any bytes as a sheet: the first of refusals 1 to 8, or the sheet in the tables.

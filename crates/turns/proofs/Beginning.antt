@@ -29,7 +29,7 @@ use Rattle.arrivals.specs.Steps.{Zero, GatheredTo}
 use Rattle.arrivals.proofs.Gathering.{gather-none, gathered-all}
 use Rattle.arrivals.proofs.Beginning.{counted-zero, ends-zero, closed-zero}
 use Rattle.turns.specs.Turns.{Timely, Going, Emptied, Afterwards}
-use Rattle.turns.proofs.Bounds.{empty-timely}
+use Rattle.turns.proofs.Bounds.{empty-timely, early}
 
 module _ {w w₁ : List ℕ} (loaded : Loaded w) (levelled : Levelled (sheetIn w) w) (single : Single (sheetIn w)) (e₁ : Emptied w w₁) where
   abbrev s : Sheet
@@ -118,7 +118,7 @@ module _ {w w₁ : List ℕ} (loaded : Loaded w) (levelled : Levelled (sheetIn w
                     caches = subst (λ (x : Sheet). Caches x (scheduleIn w₂) w₂ own) (sym sheet₂) caches₂;
                   };
               levelled = subst (λ (x : Sheet). Levelled x w₂) (sym sheet₂) (record { inward = inward₂; levels = λ t h. low₂ (levelsAt + t) (omega (arith, ranged w loaded .few-tasks)) ∙ levelled .levels t h });
-              timely = subst (Timely 0) (sym schedule₂) (empty-timely s);
+              timely = subst (λ (x : Sheet). Timely x (scheduleIn w₂)) (sym sheet₂) (subst (Timely s) (sym schedule₂) (empty-timely s));
               placed = omega (arith, r₂ .only .high placedAt (omega arith), e₁ .placed);
             }
 
@@ -140,7 +140,7 @@ module _ {w w₁ : List ℕ} (loaded : Loaded w) (levelled : Levelled (sheetIn w
             inward = subst (λ (x : Sheet). Chained Target x w₃) sheet (g .kept .caches .inward);
             few-opened = g .kept .few-opened;
             few-placed = omega (arith, order-long w₃, g .placed);
-            early = λ t. omega (arith, g .timely .early t);
+            early = early (g .kept .ranged) (g .timely) .early;
           }
 
       pub scheduled : {a : Answer Schedule} → a ≡ turns (sheetIn w₂) (barred (sheetIn w₂)) true (taskCount (sheetIn w₂)) (scheduleIn w₂) → (a ≡ planned s) × Afterwards w w₃

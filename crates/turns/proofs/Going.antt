@@ -1,7 +1,7 @@
 -- t goes on k from a to f: of what is kept the ends and stores (own₁) and the links that wait (own₂), then the schedule (w₃), then the links out of t (own₄).
-use Prim.Native.Nat.{ℕ, _+_, _*_, _%_, _≤_, _<_, max}
+use Prim.Native.Nat.{ℕ, _+_, _%_, _≤_, _<_, max}
 use mathlib.Core.Bool.{true}
-use mathlib.Core.Path.{_≡_, refl, ap, sym, _∙_, subst}
+use mathlib.Core.Path.{_≡_, refl, ap, ap₂, sym, _∙_, subst}
 use mathlib.Core.List.{List}
 use native.Mathlib.Omega.{arith}
 use native.Mathlib.Decide.{ℕ-discrete}
@@ -13,13 +13,14 @@ use Rattle.sheet.proofs.Rows.{ranged, work-in}
 use Rattle.planner.specs.Schedule.{Schedule, placeOf, placed, put}
 use Rattle.planner.specs.Placing.{ready, endOf, startOn}
 use Rattle.planner.proofs.Schedules.{on-other, placed-other}
+use Rattle.planner.proofs.Unpacking.{end-le-start}
 use Rattle.levelling.specs.Found.{Levelled}
 use Rattle.schedule.specs.Layout.{scheduleIn, putWords}
 use Rattle.schedule.proofs.Rows.{levelled-frame}
 use Rattle.schedule.proofs.Puts.{put-low, put-long, put-placed, schedule-put}
 use Rattle.adjacency.specs.Chains.{Chained}
 use Rattle.adjacency.specs.Frames.{Only}
-use Rattle.adjacency.specs.declared.End.the-variants.{Source}
+use Rattle.adjacency.specs.declared.End.the-variants.{Source, Target}
 use Rattle.adjacency.proofs.Frames.{same-sheet, same-loaded}
 use Rattle.adjacency.proofs.Walks.{chained-frame}
 use Rattle.arrivals.specs.Layout.{endsFrom, waitingFrom, turnBytesFrom, turnLinksFrom, packedFrom, keptLength}
@@ -34,9 +35,8 @@ use Rattle.readiness.specs.Keyed.{Keyed, KeyedBeside}
 use Rattle.readiness.proofs.Renewing.{keyed-beside}
 use Rattle.placing.specs.Choosing.{Choosing}
 use Rattle.placing.proofs.Starts.{placeable}
-use Rattle.placing.proofs.Guards.{end-le-start}
 use Rattle.turns.specs.Turns.{Timely, Going}
-use Rattle.turns.proofs.Bounds.{put-timely, finish-early, early}
+use Rattle.turns.proofs.Bounds.{put-timely, finish-small, early}
 
 -- what is known of the numbers when t is placed at turn j
 pub record Putting (w own : List ℕ) (j t k a f p o : ℕ) : Type 0 where
@@ -45,7 +45,8 @@ pub record Putting (w own : List ℕ) (j t k a f p o : ℕ) : Type 0 where
   pub surveyed : Surveyed (sheetIn w) (scheduleIn w) t own
   pub turn : j < 256
   pub late : endOf (sheetIn w) (scheduleIn w) k ≤ f
-  pub early : f ≤ 131070 * (j + 1)
+  pub small : f < 2147483648
+  pub timely : Timely (sheetIn w) (put (scheduleIn w) t k a f)
   pub lasts : f ≡ a + getD w (16 + t) 0 % 65536
   pub placed-is : p ≡ getD w placedAt 0
   pub opened-is : o ≡ max (scheduleIn w .opened) (k + 1)
@@ -66,8 +67,8 @@ module _ {w own own₁ : List ℕ} {j t k a f p o : ℕ} (u : Putting w own j t 
   pub t-small : t < 256
   t-small = omega (arith, range .few-tasks, u .can .task)
 
-  timely′ : Timely (j + 1) σ′
-  timely′ = put-timely σ j t k a f (u .going .timely) (u .early)
+  early′ : Early σ′
+  early′ = early range (u .timely)
 
   p-small : p < 256
   p-small = omega (arith, u .placed-is, u .going .placed, u .turn)
@@ -116,21 +117,24 @@ module _ {w own own₁ : List ℕ} {j t k a f p o : ℕ} (u : Putting w own j t 
       chain₃ : Chained Source s w₃
       chain₃ = chained-frame (range .few-tasks) (range .few-links) (λ i h l. low₃ i l) (u .going .kept .caches .outward)
 
+      inward₃ : Chained Target s w₃
+      inward₃ = chained-frame (range .few-tasks) (range .few-links) (λ i h l. low₃ i l) (u .going .kept .caches .inward)
+
       levelled₃ : Levelled s w₃
       levelled₃ = levelled-frame (range .few-tasks) (range .few-links) low₃ (u .going .levelled)
 
       -- what the walk over the links out of t starts from
-      pub walks₃ : {q : List ℕ} → Keyed s σ q → (Loaded w₃ × (keptLength ≤ length own₂)) × (Chained Source (sheetIn w₃) w₃ × (((k < 16) × (f < 2147483648) × (t < taskCount (sheetIn w₃))) × ((Single (sheetIn w₃) × Landed (sheetIn w₃) (scheduleIn w₃) t k f)
+      pub walks₃ : {q : List ℕ} → Keyed s σ q → (Loaded w₃ × (keptLength ≤ length own₂)) × ((Chained Source (sheetIn w₃) w₃ × Chained Target (sheetIn w₃) w₃) × (((k < 16) × (f < 2147483648) × (t < taskCount (sheetIn w₃))) × ((Single (sheetIn w₃) × Landed (sheetIn w₃) (scheduleIn w₃) t k f)
           × ((Gathered (sheetIn w₃) own₂ × Counted (sheetIn w₃) (scheduleIn w₃) (upTo (sheetIn w₃) (scheduleIn w₃) t 0) own₂) × ((Levelled (sheetIn w₃) w₃ × Early (scheduleIn w₃)) × KeyedBeside (sheetIn w₃) (scheduleIn w₃) t q)))))
       walks₃ keyed = (
         (loaded₃, omega (arith, long₂)),
         rw (sheet₃, schedule₃) (
-          chain₃,
+          (chain₃, inward₃),
           (
-            (u .can .on, omega (arith, u .early, u .turn), u .can .task),
+            (u .can .on, u .small, u .can .task),
             (
               (u .going .kept .single, placing.landed s σ t k a f (u .can)),
-              ((gathered₂, counted₂), ((levelled₃, early timely′ (omega (arith, u .turn))), keyed-beside s σ t k a f (u .can) keyed)),
+              ((gathered₂, counted₂), ((levelled₃, early′), keyed-beside s σ t k a f (u .can) keyed)),
             ),
           ),
         ),
@@ -141,7 +145,7 @@ module _ {w own own₁ : List ℕ} {j t k a f p o : ℕ} (u : Putting w own j t 
         caches₄ =
             record {
               outward = chain₃;
-              inward = chained-frame (range .few-tasks) (range .few-links) (λ i h l. low₃ i l) (u .going .kept .caches .inward);
+              inward = inward₃;
               gathered = gathered-frame (range .few-tasks) (λ i h l. b₄ .low i l) gathered₂;
               counted = subst (λ (τ : Schedule). Counted s τ (known s τ) own₄) schedule₃ (subst (λ (x : Sheet). Counted x (scheduleIn w₃) (known x (scheduleIn w₃)) own₄) sheet₃ counted);
               ends = ends-frame (λ i h l. b₄ .mid i h l ∙ r₂ .low i l) ends;
@@ -172,13 +176,13 @@ module _ {w own own₁ : List ℕ} {j t k a f p o : ℕ} (u : Putting w own j t 
                     caches = subst (λ (x : Sheet). Caches x (scheduleIn w₃) w₃ own₄) (sym sheet₃) (subst (λ (τ : Schedule). Caches s τ w₃ own₄) (sym schedule₃) caches₄);
                   };
               levelled = subst (λ (x : Sheet). Levelled x w₃) (sym sheet₃) levelled₃;
-              timely = subst (Timely (j + 1)) (sym schedule₃) timely′;
+              timely = subst (λ (x : Sheet). Timely x (scheduleIn w₃)) (sym sheet₃) (subst (Timely s) (sym schedule₃) (u .timely));
               placed = omega (arith, placed₃, u .placed-is, u .going .placed);
             }
 
 -- the task is chosen for
 pub choosing : {w own : List ℕ} {j t : ℕ} → Going w j w own → j < 256 → t < taskCount (sheetIn w) → ready (sheetIn w) (scheduleIn w) t ≡ true → Surveyed (sheetIn w) (scheduleIn w) t own → Choosing w own t
-choosing g turn h r v = record { kept = g .kept; levelled = g .levelled; task = h; isReady = r; surveyed = v; early = early (g .timely) (omega arith) }
+choosing g turn h r v = record { kept = g .kept; levelled = g .levelled; task = h; isReady = r; surveyed = v; early = early (g .kept .ranged) (g .timely) }
 
 -- the numbers as the code finds them
 pub putting : {w own : List ℕ} {j t k a y p x o : ℕ} → Going w j w own → j < 256 → t < taskCount (sheetIn w) → k < 16 → ready (sheetIn w) (scheduleIn w) t ≡ true → Surveyed (sheetIn w) (scheduleIn w) t own
@@ -190,7 +194,8 @@ putting {w} {own} {j} {t} {k} {a} g turn h on r v ea ey ep ex eo =
       surveyed = v;
       turn = turn;
       late = omega (arith, end-le-start (sheetIn w) (scheduleIn w) t k);
-      early = finish-early (sheetIn w) (scheduleIn w) j (g .kept .ranged) (g .timely) t k ea ey h;
+      small = omega (arith, finish-small (g .kept .ranged) (g .timely) t k ea ey h);
+      timely = put-timely (sheetIn w) (scheduleIn w) t k a _ (placeable w own t k (choosing g turn h r v) on) (ap₂ _+_ ea ey) (g .timely);
       lasts = ap (λ (z : ℕ). a + z) (ey ∙ work-in w t h);
       placed-is = ep;
       opened-is = eo ∙ ap (λ (z : ℕ). max z (k + 1)) ex;
@@ -205,7 +210,7 @@ later-turns h g =
       sheet = g .sheet;
       kept = g .kept;
       levelled = g .levelled;
-      timely = record { early = λ u. omega (arith, g .timely .early u) };
+      timely = g .timely;
       placed = omega (arith, g .placed);
     }
 

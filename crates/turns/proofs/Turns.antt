@@ -9,7 +9,7 @@ use Rattle.folds.specs.Answers.{Answer, value, refused, andThen}
 use Rattle.sheet.specs.Sheet.{Sheet, taskCount}
 use Rattle.sheet.specs.Tables.{sheetIn}
 use Rattle.planner.specs.Schedule.{Schedule}
-use Rattle.planner.specs.Placing.{ready, ahead, firstReady, startOn, barred}
+use Rattle.planner.specs.Placing.{ready, readyPriority, aheadBy, firstReady, startOn, barred}
 use Rattle.planner.specs.Planner.{choice, placedFrom, placeOn, placeTask, turn, turns}
 use Rattle.planner.proofs.Choosing.{leading-some}
 use Rattle.schedule.specs.Layout.{scheduleIn}
@@ -25,7 +25,7 @@ module _ (s : Sheet) (σ : Schedule) where
   -- the task that is first ready is ready
   pub first-is-ready : (t : ℕ) → some t ≡ firstReady s σ → ready s σ t ≡ true
   unfolding firstReady
-  first-is-ready t e = leading-some (taskCount s) (ready s σ) (ahead s σ) t (sym e) .1
+  first-is-ready t e = leading-some (taskCount s) (ready s σ) (aheadBy s (readyPriority s σ)) t (sym e) .1
 
   pub turn-none : none ≡ firstReady s σ → value σ ≡ turn s guard true σ
   unfolding turn

@@ -1,12 +1,14 @@
 -- What a turn answers, and what holds of the area after each.
-use Prim.Native.Nat.{ℕ, _+_, _*_, _≤_, _<_}
+use Prim.Native.Nat.{ℕ, _+_, _≤_, _<_}
 use mathlib.Core.Path.{_≡_}
 use mathlib.Core.List.{List}
 use lib.ListN.{length, getD}
 use Rattle.workspace.specs.Area.{finishesAt, headsAt, placedAt, placesAt, scheduleEnd}
 use Rattle.folds.specs.Answers.{Answer, value, refused}
+use Rattle.sheet.specs.Sheet.{Sheet}
 use Rattle.sheet.specs.Tables.{sheetIn, Loaded}
-use Rattle.planner.specs.Schedule.{Schedule, empty, finishOf}
+use Rattle.planner.specs.Schedule.{Schedule, latestFinish, empty, finishOf}
+use Rattle.planner.specs.Loads.{loadOf}
 use Rattle.levelling.specs.Found.{Levelled}
 use Rattle.schedule.specs.Layout.{scheduleIn}
 use Rattle.adjacency.specs.Chains.{Chained}
@@ -21,9 +23,9 @@ abbrev pub answerOf : Planned → Schedule → Answer Schedule
 answerOf Done σ = value σ
 answerOf (Refused t) σ = refused 11 t
 
--- after j turns no finish is past 131,070 j
-pub record Timely (j : ℕ) (σ : Schedule) : Type 0 where
-  pub early : (u : ℕ) → finishOf σ u ≤ 131070 * j
+-- no finish is past the load of the tasks placed: their works, and the costs and unpacking of the links into them
+pub record Timely (s : Sheet) (σ : Schedule) : Type 0 where
+  pub early : (u : ℕ) → finishOf σ u ≤ loadOf s σ
 
 -- after j turns from the area w₀, with what is kept in own words
 pub record Going (w₀ : List ℕ) (j : ℕ) (w own : List ℕ) : Type 0 where
@@ -32,7 +34,7 @@ pub record Going (w₀ : List ℕ) (j : ℕ) (w own : List ℕ) : Type 0 where
   pub sheet : sheetIn w ≡ sheetIn w₀
   pub kept : Kept w own
   pub levelled : Levelled (sheetIn w) w
-  pub timely : Timely j (scheduleIn w)
+  pub timely : Timely (sheetIn w) (scheduleIn w)
   pub placed : getD w placedAt 0 ≤ j
 
 -- the tables of the schedule below t are those of the empty one
@@ -57,4 +59,4 @@ pub record Afterwards (w₀ w : List ℕ) : Type 0 where
   pub inward : Chained Target (sheetIn w₀) w
   pub few-opened : scheduleIn w .opened ≤ 16
   pub few-placed : length (scheduleIn w .order) ≤ 256
-  pub early : (t : ℕ) → finishOf (scheduleIn w) t ≤ 33553920
+  pub early : (t : ℕ) → finishOf (scheduleIn w) t ≤ latestFinish

@@ -6,7 +6,7 @@ use crate::refusing::{in_fault, refused};
 use crate::text::{is_text, BundleText, Claim, Names, Problem, SheetText, Text};
 use std::path::Path;
 use zeldrupa::{
-    bundle_values, About, Bundle, Command, Link, Machine, Refusal, Sheet, Task, WorkArea,
+    bundle_values, About, Board, Bundle, Command, Link, Machine, Refusal, Sheet, Task, WorkArea,
 };
 
 /// The work area, and what has been read so far.
@@ -92,13 +92,15 @@ impl Loader {
         programmes: Option<BundleText>,
     ) -> Result<SheetFile, Fault> {
         let file = files::shown(path);
-        let SheetText { processors, limit, names, tasks, links, lines } = text;
-        let sheet = self.work.write_sheet(processors, limit, &tasks, &links);
+        let SheetText { board, names, tasks, links, lines } = text;
+        let sheet = self.work.write_sheet(board, &tasks, &links);
         let sheet = sheet.map_err(|refusal| {
             // What the values would be as bytes: the refusal's place is an offset in them.
             let values = inputs::sheets::Sheet {
-                processors,
-                limit,
+                processors: board.processors,
+                limit: board.limit,
+                unpacking: board.unpacking,
+                cube: board.cube.into(),
                 tasks: tasks.iter().flat_map(|task| task.values()).collect(),
                 links: links.iter().flat_map(|link| link.values()).collect(),
             };
@@ -168,7 +170,7 @@ impl Loader {
             .take(if bare { 0 } else { 1024 })
             .map(|[source, target]| Link { source, target, cost: 0, bytes: 0 })
             .collect();
-        let sheet = self.work.write_sheet(16, u32::MAX, &tasks, &links);
+        let sheet = self.work.write_sheet(Board::new(16, u32::MAX), &tasks, &links);
         SheetFile {
             file: "no sheet".into(),
             sheet: sheet.expect("a largest sheet or a bare one"),

@@ -11,8 +11,12 @@ pub fn refused(refusal: Refusal, about: About, file: &str, lines: &[usize]) -> F
     let mut explained = refusal.explain(about);
     let line = match explained.subject {
         Subject::SheetCommand(command) | Subject::BundleCommand(command) => lines.get(command),
-        // Tasks stand behind the board; a bundle's text has no line of its own for a task.
-        Subject::Task(task) if about.bundle.is_empty() => lines.get(task + 1),
+        // Tasks stand behind the board, whose commands have one line to themselves; a bundle's text
+        // has no line of its own for a task.
+        Subject::Task(task) if about.bundle.is_empty() => {
+            let board = lines.iter().take_while(|&line| Some(line) == lines.first()).count();
+            lines.get(board + task)
+        }
         _ => None,
     };
     explained.place = match line {

@@ -17,10 +17,23 @@ pub struct Event {
 }
 
 impl Event {
+    /// When a receive has its message, waited for or not; of other commands, when they begin.
+    pub fn has_message(&self) -> u32 {
+        match (self.command, self.stamp) {
+            (Command::Receive(_), Some(stamp)) => self.start.max(stamp as u32),
+            _ => self.start,
+        }
+    }
+
     /// How long a receive waited.
     pub fn waited(&self) -> u32 {
+        self.has_message() - self.start
+    }
+
+    /// How long a receive unpacked.
+    pub fn unpacked(&self) -> u32 {
         match self.command {
-            Command::Receive(_) => self.finish - self.start,
+            Command::Receive(_) => self.finish - self.has_message(),
             _ => 0,
         }
     }
@@ -85,13 +98,14 @@ impl Trace {
     pub fn runs(&self) -> Vec<Ran> {
         let mut runs = Vec::new();
         for processor in 0..self.processors {
-            let mut waited = 0;
+            let (mut waited, mut unpacked) = (0, 0);
             for event in self.of_processor(processor) {
                 waited += event.waited();
+                unpacked += event.unpacked();
                 if let Command::Run(task) = event.command {
-                    let (start, finish) = (event.start, event.finish);
-                    runs.push(Ran { task: task.into(), processor, start, finish, waited });
-                    waited = 0;
+                    let (task, start, finish) = (task.into(), event.start, event.finish);
+                    runs.push(Ran { task, processor, start, finish, waited, unpacked });
+                    (waited, unpacked) = (0, 0);
                 }
             }
         }
@@ -100,7 +114,7 @@ impl Trace {
     }
 }
 
-/// A task that ran, and how long its processor waited for messages directly before it.
+/// A task that ran, and how long its processor waited for messages and unpacked directly before it.
 #[derive(Clone, Copy, Debug, PartialEq, Eq)]
 pub struct Ran {
     pub task: usize,
@@ -108,4 +122,5 @@ pub struct Ran {
     pub start: u32,
     pub finish: u32,
     pub waited: u32,
+    pub unpacked: u32,
 }

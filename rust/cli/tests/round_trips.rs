@@ -13,7 +13,7 @@ use zeldrupa_cli::text::{bundle_text, is_text, sheet_text, Claim, Names, Text};
 fn packed(work: &mut WorkArea, text: &str) -> (Vec<u8>, Names) {
     assert!(is_text(text.as_bytes()));
     let sheet = Text::read(text.as_bytes()).unwrap().sheet.unwrap();
-    let bytes = work.write_sheet(sheet.processors, sheet.limit, &sheet.tasks, &sheet.links);
+    let bytes = work.write_sheet(sheet.board, &sheet.tasks, &sheet.links);
     (bytes.unwrap().bytes().to_vec(), sheet.names)
 }
 
@@ -119,14 +119,18 @@ fn a_claim_of_letters_is_a_bundle() {
     assert_eq!(packed.stdout, b"Zabcd");
 }
 
-/// The example's bytes are those of its text and of its plan.
+/// The examples' bytes are those of their texts and of their plans.
 #[test]
-fn the_buoy_is_packed_and_planned() {
+fn texts_are_packed_and_planned() {
     let scratch = Scratch::new();
     for (arguments, file) in [
         (["pack", "buoy.txt"], "buoy.sheet"),
         (["pack", "buoy-formulas.txt"], "buoy.sheet"),
         (["plan", "buoy.txt"], "buoy.bundle"),
+        (["pack", "unpacking.txt"], "unpacking.sheet"),
+        (["plan", "unpacking.txt"], "unpacking.bundle"),
+        (["pack", "cube.txt"], "cube.sheet"),
+        (["plan", "cube.txt"], "cube.bundle"),
     ] {
         let output = scratch.run(&[&arguments[..], &["-o", "-"]].concat(), None);
         assert_eq!(output.stdout, fs::read(scratch.path(file)).unwrap(), "{file}");

@@ -191,6 +191,12 @@ impl Hex for u8 {
     }
 }
 
+impl Hex for u16 {
+    fn hex(&self) -> String {
+        format!("{self:04X}")
+    }
+}
+
 impl Hex for u32 {
     fn hex(&self) -> String {
         format!("{self:08X}")

@@ -9,6 +9,7 @@ impl<R: Rules> Comparison<R> {
     /// Plans a sheet, and lists its plan or its refusal.
     pub fn plan(&mut self, sheet: &[u8]) -> Outcome {
         let before = sheet.to_vec();
+        self.tally.count_sheet(sheet);
         let (bundle, lines) = R::plan(sheet, &mut self.tally);
         self.one_output(
             Function::Plan,

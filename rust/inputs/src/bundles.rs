@@ -137,11 +137,14 @@ impl<'a> Run<'a> {
                 self.hand_on(operand);
             }
             SEND => {
-                self.stamps[operand] = self.clocks[k] + u32::from(self.links[operand][2]);
+                let link = self.links[operand];
+                let hops = self.sheet.hops(k, self.place[usize::from(link[1])]);
+                self.stamps[operand] = self.clocks[k] + u32::from(link[2]) * hops;
                 self.able.push([RECEIVE, number]);
             }
             _ => {
-                self.clocks[k] = self.clocks[k].max(self.stamps[operand]);
+                let there = self.clocks[k].max(self.stamps[operand]);
+                self.clocks[k] = there + u32::from(self.sheet.unpacking);
                 self.arrive(operand);
             }
         }

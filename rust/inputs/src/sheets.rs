@@ -8,11 +8,20 @@ pub const MOST_TASKS: usize = 256;
 /// The most links of a sheet.
 pub const MOST_LINKS: usize = 1024;
 
+/// The command of a sheet that says how long a receive takes.
+pub const UNPACKING: u8 = 0x55;
+/// The command of a sheet that says that its board is a cube.
+pub const CUBE: u8 = 0x48;
+
 /// The values of a sheet: two for a task (work, store), four for a link (source, target, cost, bytes).
 #[derive(Clone, Debug, Default)]
 pub struct Sheet {
     pub processors: u8,
     pub limit: u32,
+    /// The time of each receive, 0 for a sheet that has none.
+    pub unpacking: u16,
+    /// Any number but 0 for a cube.
+    pub cube: u8,
     pub tasks: Vec<u16>,
     pub links: Vec<u16>,
 }
@@ -33,10 +42,25 @@ impl Sheet {
         self.links.len() / 4
     }
 
+    /// How often a message's cost counts between two processors that differ.
+    pub fn hops(&self, from: usize, to: usize) -> u32 {
+        match self.cube {
+            0 => 1,
+            _ => (from ^ to).count_ones(),
+        }
+    }
+
     /// The values as bytes, right or not; of source and target only the low byte.
     pub fn encode(&self) -> Vec<u8> {
         let mut bytes = vec![0x4D, self.processors];
         bytes.extend(self.limit.to_le_bytes());
+        if self.unpacking > 0 {
+            bytes.push(UNPACKING);
+            bytes.extend(self.unpacking.to_le_bytes());
+        }
+        if self.cube > 0 {
+            bytes.push(CUBE);
+        }
         for task in self.tasks.chunks_exact(2) {
             bytes.push(0x54);
             bytes.extend(task.iter().flat_map(|value| value.to_le_bytes()));
@@ -178,6 +202,47 @@ pub fn sharing(random: &mut Random, most: usize) -> Sheet {
     sheet
 }
 
+/// A valid sheet of at most this many tasks on a cube: with ties, under the guard, with free messages, with
+/// store enough or hardly enough, with and without a time for receives.
+pub fn cube(random: &mut Random, most: usize) -> Sheet {
+    let mut sheet = match random.below(6) {
+        0 => telling(random, most),
+        1 => sharing(random, most),
+        2 => {
+            let tasks = random.within(2..=most);
+            guarded_of(random, tasks)
+        }
+        _ => far(random, most),
+    };
+    wire(random, &mut sheet);
+    if random.once_in(4) {
+        tighten(random, &mut sheet);
+    }
+    sheet.unpacking = 0;
+    if random.once_in(2) {
+        unpack(random, &mut sheet);
+    }
+    sheet
+}
+
+/// A valid sheet whose tasks take long beside its messages, so that many processors are opened, on a cube
+/// the near ones first.
+fn far(random: &mut Random, most: usize) -> Sheet {
+    let tasks = random.within(most.div_ceil(2)..=most);
+    let shape = random.pick(&[Shape::Sparse, Shape::Layers, Shape::FanOut]);
+    let mut sheet = with_shape(random, tasks, shape);
+    let (works, costs) = random.pick(&[(4, 3), (9, 4), (20, 9), (90, 30)]);
+    weigh(random, &mut sheet, works, costs);
+    sheet.limit = u32::MAX;
+    sheet
+}
+
+/// Makes the board a cube, whole or not, of so many processors that numbers can be skipped.
+pub fn wire(random: &mut Random, sheet: &mut Sheet) {
+    sheet.processors = random.pick(&[3, 5, 8, 13, 16]);
+    sheet.cube = random.pick(&[1, 1, 2, 255]);
+}
+
 /// Makes all links free, or all but about one in two, four or eight.
 pub fn free_links(random: &mut Random, sheet: &mut Sheet) {
     let paid = random.pick(&[0, 2, 4, 8]);
@@ -211,6 +276,7 @@ pub fn even(random: &mut Random) -> Sheet {
     let shape = random.pick(&SHAPES);
     let mut sheet = with_shape(random, tasks, shape);
     weigh(random, &mut sheet, 1, 1);
+    sheet.unpacking = 0;
     sheet.processors = random.within(1..=4) as u8;
     sheet.limit = u32::MAX;
     sheet
@@ -223,12 +289,28 @@ pub fn tighten(random: &mut Random, sheet: &mut Sheet) {
     sheet.limit = random.within(greatest..=all) as u32;
 }
 
-/// Gives all works up to `works`, and all costs below `costs`.
+/// Gives a time for each receive: as one unit, as a work or a cost of the sheet, or any up to the greatest.
+pub fn unpack(random: &mut Random, sheet: &mut Sheet) {
+    let works = sheet.tasks.iter().step_by(2);
+    let costs = sheet.links.iter().skip(2).step_by(4);
+    let times: Vec<u16> = works.chain(costs).copied().filter(|&time| time > 0).collect();
+    sheet.unpacking = match random.below(8) {
+        0..=1 => 1,
+        2..=5 if !times.is_empty() => random.pick(&times),
+        6 => random.pick(&[255, 256, 65_534, 65_535]),
+        _ => random.within(1..=9) as u16,
+    };
+}
+
+/// Gives all works up to `works`, all costs below `costs`, and where receives take time another for it.
 pub fn weigh(random: &mut Random, sheet: &mut Sheet, works: usize, costs: usize) {
     let all_works = sheet.tasks.iter_mut().step_by(2);
     all_works.for_each(|work| *work = random.within(1..=works) as u16);
     let all_costs = sheet.links.iter_mut().skip(2).step_by(4);
     all_costs.for_each(|cost| *cost = random.below(costs) as u16);
+    if sheet.unpacking > 0 {
+        unpack(random, sheet);
+    }
 }
 
 /// A valid sheet of this many tasks and this shape.
@@ -349,7 +431,8 @@ impl Weights {
     }
 }
 
-/// Gives tasks and links their weights, and the board its processors and limit.
+/// Gives tasks and links their weights, and the board its processors, its limit, once in four a time for
+/// each receive, and once in four the wires of a cube.
 fn dress(random: &mut Random, tasks: usize, pairs: &[[u16; 2]]) -> Sheet {
     let kinds = [
         Weights::Equal,
@@ -385,5 +468,10 @@ fn dress(random: &mut Random, tasks: usize, pairs: &[[u16; 2]]) -> Sheet {
         5 => share.saturating_mul(2),
         _ => share.saturating_mul(8).saturating_add(1000),
     };
-    Sheet { processors, limit, tasks, links }
+    let cube = if random.once_in(4) { random.pick(&[1, 1, 2, 255]) } else { 0 };
+    let mut sheet = Sheet { processors, limit, unpacking: 0, cube, tasks, links };
+    if random.once_in(4) {
+        unpack(random, &mut sheet);
+    }
+    sheet
 }

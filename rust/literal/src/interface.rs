@@ -21,8 +21,9 @@ pub struct Tables {
     pub tasks: Vec<u16>,
     /// "four a link (source, target, cost, bytes)".
     pub links: Vec<u16>,
-    /// "the processors, the store limit, the number of tasks and the number of links".
-    pub board: [u32; 4],
+    /// "the processors, the store limit, the number of tasks, the number of links, the unpacking time"
+    /// and "1 for a cube".
+    pub board: [u32; 6],
 }
 
 impl Tables {
@@ -46,6 +47,8 @@ pub fn read_sheet(sheet: &[u8]) -> Result<Tables, Refusal> {
             sheet.limit as u32,
             sheet.tasks.len() as u32,
             sheet.links.len() as u32,
+            sheet.unpacking as u32,
+            sheet.cube.into(),
         ],
     })
 }
@@ -62,10 +65,12 @@ fn values(tasks: &[Task], links: &[Link]) -> (Vec<u16>, Vec<u16>) {
 pub fn write_sheet(
     processors: u8,
     limit: u32,
+    unpacking: u16,
+    cube: u8,
     tasks: &[u16],
     links: &[u16],
 ) -> Result<Vec<u8>, Refusal> {
-    Sheet::write(processors, limit, tasks, links)
+    Sheet::write(processors, limit, unpacking, cube, tasks, links)
 }
 
 /// The bytes of the sheet that a seed gives, which no rule of the reader refuses.
@@ -78,7 +83,7 @@ pub fn generate(
 ) -> Result<Vec<u8>, Refusal> {
     let (tasks, links) = load::made(seed, tasks, tries, processors)?;
     let (tasks, links) = values(&tasks, &links);
-    Ok(Sheet::write(processors as u8, limit, &tasks, &links).expect("read without refusal"))
+    Ok(Sheet::write(processors as u8, limit, 0, 0, &tasks, &links).expect("read without refusal"))
 }
 
 /// The b-level of each task.

@@ -3,7 +3,7 @@
 use crate::bundle::{Action, Bundle};
 use crate::checker::startable;
 use crate::refusal::Refusal;
-use crate::sheet::Sheet;
+use crate::sheet::{Link, Sheet};
 
 /// A processor that has a programme.
 #[derive(Clone, Copy, Debug, Default, PartialEq, Eq)]
@@ -50,7 +50,7 @@ impl<'a> Machine<'a> {
 
     /// "A processor can step if its programme has a command left and, where the next one is a
     /// receive, its message has been sent."
-    fn can_step(&self, k: usize) -> bool {
+    pub fn can_step(&self, k: usize) -> bool {
         match self.next(k) {
             Some(Action::Receive(link)) => self.stamps[link].is_some(),
             next => next.is_some(),
@@ -60,33 +60,43 @@ impl<'a> Machine<'a> {
     /// "the machine is advanced by one command of one chosen processor. A choice that cannot step,
     /// or names no programme, changes nothing and says so."
     pub fn step(&mut self, choice: u64) -> bool {
+        self.step_early(choice, 0)
+    }
+
+    /// The same, but what the command does ends so much earlier than stated, or at once.
+    pub fn step_early(&mut self, choice: u64, early: u64) -> bool {
         let Ok(k) = usize::try_from(choice) else { return false };
         if !self.can_step(k) {
             return false;
         }
         if let Some(action) = self.next(k) {
-            self.advance(k, action);
+            self.advance(k, action, early);
         }
         true
     }
 
-    fn advance(&mut self, k: usize, action: Action) {
+    fn advance(&mut self, k: usize, action: Action, early: u64) {
         let processor = &mut self.processors[k];
+        let taken = |stated: u64| stated.saturating_sub(early);
         processor.position += 1;
         match action {
             // "Run adds the work to the clock and the task's store to the store in use."
             Action::Run(task) => {
-                processor.clock += self.sheet.tasks[task].work;
+                processor.clock += taken(self.sheet.tasks[task].work);
                 processor.store += self.sheet.tasks[task].store;
             }
-            // "Send stamps the message with clock + cost."
+            // "Send stamps the message with clock + cost", which on a cube counts "times the count of
+            // bits in which the two processor numbers differ".
             Action::Send(link) => {
-                self.stamps[link] = Some(processor.clock + self.sheet.links[link].cost);
+                let Link { to, cost, .. } = self.sheet.links[link];
+                let hops = self.sheet.hops(k, self.bundle.processor_of(to));
+                self.stamps[link] = Some(processor.clock + taken(cost * hops));
             }
-            // "Receive [..] sets the clock to the later of clock and stamp, and adds the link's
-            // bytes to the store in use."
+            // "Receive now sets the clock to the later of clock and stamp, plus this time", "and adds
+            // the link's bytes to the store in use."
             Action::Receive(link) => {
-                processor.clock = processor.clock.max(self.stamps[link].unwrap_or(0));
+                let stamp = self.stamps[link].expect("can_step asks for it");
+                processor.clock = processor.clock.max(stamp) + taken(self.sheet.unpacking);
                 processor.store += self.sheet.links[link].bytes;
             }
         }

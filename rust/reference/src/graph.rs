@@ -2,12 +2,15 @@
 
 use crate::refusal::{Refusal, LOOP};
 use crate::sheet::{Link, Sheet, MOST_TASKS};
+use std::cell::OnceCell;
 use std::mem;
 
-/// The links out of each task, and the tasks in an order that follows the links.
+/// The links out of each task, those into each, and the tasks in an order that follows the links.
 #[derive(Clone, Debug)]
 pub struct Graph {
     outgoing: Lists,
+    /// Found when they are first asked for.
+    incoming: OnceCell<Lists>,
     order: Vec<u8>,
 }
 
@@ -37,13 +40,19 @@ impl Graph {
                 .expect("a task that was never taken has an untaken predecessor");
             return Err(Refusal::new(LOOP, lowest));
         }
-        Ok(Graph { outgoing, order })
+        Ok(Graph { outgoing, incoming: OnceCell::new(), order })
     }
 
     /// The links out of a task, in rising number.
     pub fn outgoing(&self, task: usize) -> &[u16] {
         self.outgoing.at(task)
     }
+}
+
+/// The links into each task of a sheet, in rising number.
+pub fn incoming(sheet: &Sheet) -> &Lists {
+    let lists = || Lists::new(sheet.tasks.len(), &sheet.links, |link| link.target);
+    sheet.graph.incoming.get_or_init(lists)
 }
 
 /// The b-level of each task: the greatest sum of work and costs from it to a task without successors.

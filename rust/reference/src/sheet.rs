@@ -35,6 +35,10 @@ pub struct Sheet {
     pub processors: u8,
     /// The store limit M of each processor.
     pub limit: u32,
+    /// How long each receive takes its receiver.
+    pub unpacking: u16,
+    /// Whether a message makes a hop for each bit in which two processor numbers differ.
+    pub cube: bool,
     pub tasks: Vec<Task>,
     pub links: Vec<Link>,
     /// The tasks to which each task has a link.
@@ -46,6 +50,13 @@ impl Sheet {
     /// Whether the board is bare: no task, and so no link.
     pub fn is_bare(&self) -> bool {
         self.tasks.is_empty()
+    }
+
+    /// Processors, limit, task count, link count, unpacking time, and 1 for a cube.
+    pub fn board(&self) -> [u32; 6] {
+        let [tasks, links] = [self.tasks.len(), self.links.len()].map(|count| count as u32);
+        let (processors, unpacking) = (self.processors.into(), self.unpacking.into());
+        [processors, self.limit, tasks, links, unpacking, self.cube.into()]
     }
 
     /// Reads a sheet from its bytes (1 to 8, 10).
@@ -62,15 +73,17 @@ impl Sheet {
 
     /// Makes a sheet of values: two for a task (work, store), four for a link (source, target,
     /// cost, bytes). It refuses as [`Sheet::read`] refuses their bytes; a list that stops inside a
-    /// record is a cut command.
+    /// record is a cut command, and an unpacking time of 0 is none.
     pub fn from_values(
         processors: u8,
         limit: u32,
+        unpacking: u16,
+        cube: bool,
         tasks: &[u16],
         links: &[u16],
     ) -> Result<Sheet, Refusal> {
         let mut at = 0;
-        let draft = Draft::take(processors, limit, tasks, links, &mut at);
+        let draft = Draft::take(processors, limit, unpacking, cube, tasks, links, &mut at);
         draft.map_err(|number| Refusal::new(number, at))?.finish()
     }
 
@@ -78,12 +91,21 @@ impl Sheet {
     pub fn to_bytes(&self) -> Vec<u8> {
         let mut bytes = Vec::with_capacity(
             BOARD_LENGTH
+                + UNPACKING_LENGTH
+                + CUBE_LENGTH
                 + TASK_LENGTH * self.tasks.len()
                 + LINK_LENGTH * self.links.len()
                 + END_LENGTH,
         );
         bytes.extend([BOARD, self.processors]);
         bytes.extend(self.limit.to_le_bytes());
+        if self.unpacking > 0 {
+            let [low, high] = self.unpacking.to_le_bytes();
+            bytes.extend([UNPACKING, low, high]);
+        }
+        if self.cube {
+            bytes.push(CUBE);
+        }
         for task in &self.tasks {
             let ([w0, w1], [s0, s1]) = (task.work.to_le_bytes(), task.store.to_le_bytes());
             bytes.extend([TASK, w0, w1, s0, s1]);
@@ -115,6 +137,8 @@ impl Sheet {
 struct Draft {
     processors: u8,
     limit: u32,
+    unpacking: u16,
+    cube: bool,
     tasks: Vec<Task>,
     links: Vec<Link>,
     successors: Vec<TaskSet>,
@@ -129,6 +153,18 @@ impl Draft {
         let most = (rest.len() / TASK_LENGTH, rest.len() / LINK_LENGTH);
         let mut draft = Draft::new(processors, u32::from_le_bytes([l0, l1, l2, l3]), most)?;
         *rest = behind;
+        if rest.first() == Some(&UNPACKING) {
+            let [_, low, high, ref behind @ ..] = **rest else { return Err(CUT_SHEET) };
+            draft.unpacking = u16::from_le_bytes([low, high]);
+            if draft.unpacking == 0 {
+                return Err(RANGE);
+            }
+            *rest = behind;
+        }
+        if let [CUBE, ref behind @ ..] = **rest {
+            draft.cube = true;
+            *rest = behind;
+        }
         while let [TASK, w0, w1, s0, s1, ref behind @ ..] = **rest {
             draft.task(u16::from_le_bytes([w0, w1]), u16::from_le_bytes([s0, s1]))?;
             *rest = behind;
@@ -149,12 +185,22 @@ impl Draft {
     fn take(
         processors: u8,
         limit: u32,
+        unpacking: u16,
+        cube: bool,
         tasks: &[u16],
         links: &[u16],
         at: &mut usize,
     ) -> Result<Draft, u8> {
         let mut draft = Draft::new(processors, limit, (tasks.len() / 2, links.len() / 4))?;
         *at += BOARD_LENGTH;
+        if unpacking > 0 {
+            draft.unpacking = unpacking;
+            *at += UNPACKING_LENGTH;
+        }
+        if cube {
+            draft.cube = true;
+            *at += CUBE_LENGTH;
+        }
         let (records, cut) = tasks.as_chunks();
         for &[work, store] in records {
             draft.task(work, store)?;
@@ -182,6 +228,8 @@ impl Draft {
         Ok(Draft {
             processors,
             limit,
+            unpacking: 0,
+            cube: false,
             tasks: Vec::with_capacity(most.0.min(MOST_TASKS)),
             links: Vec::with_capacity(most.1.min(MOST_LINKS)),
             successors: Vec::with_capacity(most.0.min(MOST_TASKS)),
@@ -227,6 +275,8 @@ impl Draft {
         Ok(Sheet {
             processors: self.processors,
             limit: self.limit,
+            unpacking: self.unpacking,
+            cube: self.cube,
             tasks: self.tasks,
             links: self.links,
             successors: self.successors,
@@ -240,7 +290,7 @@ fn fault(rest: &[u8], allowed: &[u8]) -> u8 {
     match rest.first() {
         None => CUT_SHEET,
         Some(byte) if allowed.contains(byte) => CUT_SHEET,
-        Some(&(BOARD | TASK | LINK | END)) => SHEET_OUT_OF_TURN,
+        Some(&(BOARD | UNPACKING | CUBE | TASK | LINK | END)) => SHEET_OUT_OF_TURN,
         Some(_) => STRANGE_IN_SHEET,
     }
 }

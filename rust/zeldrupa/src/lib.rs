@@ -7,13 +7,13 @@
 //! [`Refusal::explain`] tells it in the user's terms.
 //!
 //! ```
-//! use zeldrupa::{Link, Refusal, Task, WorkArea};
+//! use zeldrupa::{Board, Link, Refusal, Task, WorkArea};
 //!
 //! # fn main() -> Result<(), Refusal> {
 //! let mut work = WorkArea::new();
 //! let tasks = [Task { work: 2, store: 10 }, Task { work: 3, store: 10 }];
 //! let links = [Link { source: 0, target: 1, cost: 1, bytes: 4 }];
-//! let sheet = work.write_sheet(3, 100, &tasks, &links)?;
+//! let sheet = work.write_sheet(Board::new(3, 100), &tasks, &links)?;
 //! assert_eq!(work.levels(&sheet)?, [6, 3]);
 //!
 //! let bundle = work.plan(&sheet)?;
@@ -53,5 +53,5 @@ pub use formula::{letter_values, weight};
 pub use load::Load;
 pub use machine::{Machine, Processor, Wait};
 pub use refusal::{About, Explanation, Refusal, Subject};
-pub use sheet::{Link, Sheet, Task};
+pub use sheet::{Board, Link, Sheet, Task};
 pub use work_area::WorkArea;

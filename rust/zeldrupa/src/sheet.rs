@@ -1,5 +1,40 @@
 //! A task sheet: the board, its tasks and its links.
 
+/// A board: what a sheet says beside its tasks and links.
+///
+/// ```
+/// # use zeldrupa::Board;
+/// let board = Board { unpacking: 12, ..Board::new(4, 4096) };
+/// assert_eq!((board.processors, board.limit), (4, 4096));
+/// ```
+#[derive(Clone, Copy, Debug, PartialEq, Eq, Hash)]
+pub struct Board {
+    /// Its processors, 1 to 16.
+    pub processors: u8,
+    /// The store limit M of each processor.
+    pub limit: u32,
+    /// How long each receive takes its receiver, 0 for no time.
+    pub unpacking: u16,
+    /// Whether it is wired as a cube, so that a message takes its cost for each bit in which two processor
+    /// numbers differ.
+    pub cube: bool,
+}
+
+impl Board {
+    /// A board on which a receive takes no time, and which is no cube.
+    pub fn new(processors: u8, limit: u32) -> Self {
+        Board { processors, limit, unpacking: 0, cube: false }
+    }
+
+    /// How many hops a message makes from one processor to another.
+    pub fn hops(self, from: usize, to: usize) -> u32 {
+        match self.cube {
+            true => (from ^ to).count_ones(),
+            false => u32::from(from != to),
+        }
+    }
+}
+
 /// A task.
 #[derive(Clone, Copy, Debug, PartialEq, Eq, Hash)]
 pub struct Task {
@@ -43,8 +78,7 @@ impl Link {
 #[derive(Clone, Debug, PartialEq, Eq, Hash)]
 pub struct Sheet {
     pub(crate) bytes: Vec<u8>,
-    pub(crate) processors: u8,
-    pub(crate) limit: u32,
+    pub(crate) board: Board,
     pub(crate) tasks: Vec<Task>,
     pub(crate) links: Vec<Link>,
 }
@@ -55,14 +89,9 @@ impl Sheet {
         &self.bytes
     }
 
-    /// The processors of the board, 1 to 16.
-    pub fn processors(&self) -> u8 {
-        self.processors
-    }
-
-    /// The store limit M of each processor.
-    pub fn limit(&self) -> u32 {
-        self.limit
+    /// Its board.
+    pub fn board(&self) -> Board {
+        self.board
     }
 
     /// Its tasks, in number order; none on a bare board.

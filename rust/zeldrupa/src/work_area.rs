@@ -2,7 +2,9 @@
 //! listing.
 
 use crate::bundle::from_values;
-use crate::{bundle_values, raw, Bundle, Command, Link, Load, Machine, Refusal, Sheet, Task};
+use crate::{
+    bundle_values, raw, Board, Bundle, Command, Link, Load, Machine, Refusal, Sheet, Task,
+};
 
 /// The most tasks and links of a sheet.
 const MOST_TASKS: usize = 256;
@@ -38,15 +40,19 @@ impl WorkArea {
 
     /// Reads a task sheet (1 to 8, 10).
     pub fn read_sheet(&mut self, bytes: &[u8]) -> Result<Sheet, Refusal> {
-        let (tasks, links, mut board) = (&mut self.tasks, &mut self.links, [0; 4]);
+        let (tasks, links, mut board) = (&mut self.tasks, &mut self.links, [0; 6]);
         Refusal::of(raw::read_sheet(bytes, &mut self.words, tasks, links, &mut board))?;
-        let [processors, limit, task_count, link_count] = board;
+        let [processors, limit, task_count, link_count, unpacking, cube] = board;
         let tasks = self.tasks.chunks_exact(2).take(task_count as usize);
         let links = self.links.chunks_exact(4).take(link_count as usize);
         Ok(Sheet {
             bytes: bytes.to_vec(),
-            processors: processors as u8,
-            limit,
+            board: Board {
+                processors: processors as u8,
+                limit,
+                unpacking: unpacking as u16,
+                cube: cube == 1,
+            },
             tasks: tasks.map(|task| Task { work: task[0], store: task[1] }).collect(),
             links: links
                 .map(|link| Link {
@@ -60,10 +66,25 @@ impl WorkArea {
     }
 
     /// Writes the sheet of these values, refused as its bytes would be (1, 5 to 8, 10).
+    ///
+    /// ```
+    /// # use zeldrupa::{Board, Link, Task, WorkArea};
+    /// # fn main() -> Result<(), zeldrupa::Refusal> {
+    /// let mut work = WorkArea::new();
+    /// let tasks = [Task { work: 9, store: 0 }; 3];
+    /// let links = [0, 1].map(|source| Link { source, target: 2, cost: 1, bytes: 0 });
+    /// let at_once = work.write_sheet(Board::new(2, 0), &tasks, &links)?;
+    /// assert_eq!(work.plan(&at_once)?.claim(), 19);
+    /// // The one message that is received is unpacked before the third task runs.
+    /// let board = Board { unpacking: 4, ..at_once.board() };
+    /// let unpacked = work.write_sheet(board, &tasks, &links)?;
+    /// assert_eq!(work.plan(&unpacked)?.claim(), 23);
+    /// # Ok(())
+    /// # }
+    /// ```
     pub fn write_sheet(
         &mut self,
-        processors: u8,
-        limit: u32,
+        board: Board,
         tasks: &[Task],
         links: &[Link],
     ) -> Result<Sheet, Refusal> {
@@ -71,10 +92,12 @@ impl WorkArea {
         let link_values: Vec<u16> = links.iter().flat_map(|link| link.values()).collect();
         let words = &mut self.words;
         let bytes = filled(&mut self.bytes, |out| {
-            raw::write_sheet(processors, limit, &task_values, &link_values, words, out)
+            let Board { processors, limit, unpacking, cube } = board;
+            let (tasks, links) = (&task_values, &link_values);
+            raw::write_sheet(processors, limit, unpacking, cube.into(), tasks, links, words, out)
         })?;
         let (tasks, links) = (tasks.to_vec(), links.to_vec());
-        Ok(Sheet { bytes: bytes.to_vec(), processors, limit, tasks, links })
+        Ok(Sheet { bytes: bytes.to_vec(), board, tasks, links })
     }
 
     /// Makes the sheet of a test load (6). The same load gives the same bytes.
@@ -111,17 +134,21 @@ impl WorkArea {
     /// Plans a sheet (11). What it gives, [`WorkArea::check`] accepts.
     ///
     /// ```
-    /// # use zeldrupa::WorkArea;
+    /// # use zeldrupa::{Board, WorkArea};
     /// let mut work = WorkArea::new();
     /// let sheet = work.read_sheet(include_bytes!("../../../examples/k5.sheet")).unwrap();
     /// let refusal = work.plan(&sheet).unwrap_err();
     /// assert_eq!((refusal.number(), refusal.place(), refusal.word()), (11, 4, "no store"));
     ///
     /// // A bare board has a plan without programmes.
-    /// let bare = work.write_sheet(3, 100, &[], &[]).unwrap();
+    /// let bare = work.write_sheet(Board::new(3, 100), &[], &[]).unwrap();
     /// let bundle = work.plan(&bare).unwrap();
     /// assert_eq!(bundle.bytes(), [0x5A, 0, 0, 0, 0]);
     /// assert_eq!((bundle.programmes().len(), bundle.claim()), (0, 0));
+    ///
+    /// // On a cube near processors are opened first: a number that is skipped has an empty programme.
+    /// let cube = work.read_sheet(include_bytes!("../../../examples/cube.sheet")).unwrap();
+    /// assert!(cube.board().cube && work.plan(&cube).unwrap().programmes()[2].is_empty());
     /// ```
     pub fn plan(&mut self, sheet: &Sheet) -> Result<Bundle, Refusal> {
         let words = &mut self.words;

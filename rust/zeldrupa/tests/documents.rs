@@ -1,7 +1,7 @@
 //! What docs/FORMAT.md and the header say of the formats is what the library reads and writes.
 
 use std::fs;
-use zeldrupa::{Command, Link, Task, WorkArea};
+use zeldrupa::{Board, Command, Link, Task, WorkArea};
 
 /// A file of the repository.
 fn file(name: &str) -> String {
@@ -34,11 +34,12 @@ fn the_annotated_bytes_are_k1() {
     assert_eq!(annotated(&page, "bundle"), bytes("examples/k1.bundle"));
 }
 
-/// The most tasks, links and programmes with every link between two processors: the longest sheet,
-/// and the longest bundle that is accepted.
+/// The most tasks, links and programmes with unpacking on a cube, and every link between two processors:
+/// the longest sheet, and the longest bundle that is accepted.
 #[test]
 fn the_longest_files_are_as_long_as_is_said() {
     let mut work = WorkArea::new();
+    let board = Board { unpacking: 65_535, cube: true, ..Board::new(16, u32::MAX) };
     let tasks = [Task { work: 65_535, store: 0 }; 256];
     let links: Vec<Link> = (0..1024)
         .map(|number| {
@@ -46,7 +47,7 @@ fn the_longest_files_are_as_long_as_is_said() {
             Link { source, target, cost: 65_535, bytes: 0 }
         })
         .collect();
-    let sheet = work.write_sheet(16, u32::MAX, &tasks, &links).unwrap();
+    let sheet = work.write_sheet(board, &tasks, &links).unwrap();
     let mut programmes = vec![Vec::new(); 16];
     for task in 0..=255u8 {
         let programme = &mut programmes[usize::from(task / 16)];

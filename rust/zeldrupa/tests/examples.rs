@@ -2,7 +2,7 @@
 
 use std::collections::BTreeMap;
 use std::fs;
-use zeldrupa::{raw, About, Load, Refusal, Sheet, Subject, WorkArea};
+use zeldrupa::{raw, About, Board, Load, Refusal, Sheet, Subject, WorkArea};
 
 /// The example files by name, the figures among them.
 fn files() -> BTreeMap<String, Vec<u8>> {
@@ -31,8 +31,7 @@ fn what_is_written_is_what_was_read() {
     let sheets = valid_sheets(&mut work);
     assert!(sheets.len() >= 20);
     for (name, sheet) in sheets {
-        let again =
-            work.write_sheet(sheet.processors(), sheet.limit(), sheet.tasks(), sheet.links());
+        let again = work.write_sheet(sheet.board(), sheet.tasks(), sheet.links());
         assert_eq!(again.as_ref(), Ok(&sheet), "{name}");
         let Ok(bundle) = work.plan(&sheet) else { continue };
         let again = work.write_bundle(&sheet, bundle.programmes(), bundle.claim());
@@ -49,8 +48,8 @@ fn plans_are_accepted_and_run_to_their_claims() {
             continue;
         };
         // The bundles of K5, K6 and the figure are by hand.
-        if ["k1", "k2", "k3", "k4", "bare", "free-link"].iter().any(|trial| name.starts_with(trial))
-        {
+        let planned = ["k1", "k2", "k3", "k4", "bare", "free-link", "unpacking", "cube"];
+        if planned.iter().any(|trial| name.starts_with(trial)) {
             assert_eq!(bundle.bytes(), files[&name.replace(".sheet", ".bundle")], "{name}");
         }
         assert_eq!(work.check(&sheet, &bundle), Ok(()), "{name}");
@@ -81,9 +80,9 @@ fn refusals_have_number_place_and_word() {
 fn a_bare_board_is_whole() {
     let (mut work, files) = (WorkArea::new(), files());
     let sheet = work.read_sheet(&files["bare.sheet"]).unwrap();
-    assert_eq!((sheet.processors(), sheet.limit()), (3, 100));
+    assert_eq!(sheet.board(), Board::new(3, 100));
     assert!(sheet.tasks().is_empty() && sheet.links().is_empty());
-    assert_eq!(work.write_sheet(3, 100, &[], &[]).as_ref(), Ok(&sheet));
+    assert_eq!(work.write_sheet(Board::new(3, 100), &[], &[]).as_ref(), Ok(&sheet));
     assert_eq!(work.levels(&sheet), Ok(Vec::new()));
     assert_eq!(work.listing(&sheet), "PLAN 0 0\n");
     for programmes in 0..=3 {
@@ -207,6 +206,25 @@ fn refusals_are_explained() {
     let explained = work.check(sheet, bundle).unwrap_err().explain(about);
     assert!(explained.place.starts_with("processor 0 waits at command 0 for link 1, pong -> out"));
     assert_eq!(explained.commands, [[0, 0], [1, 3], [1, 0], [0, 3]]);
+
+    // Unpacking in a wrong place, twice, of 0, and cut; a cube in a wrong place and twice.
+    let board = [0x4D, 1, 0, 0, 0, 0];
+    for (rest, place) in [
+        (&[0x54, 1, 0, 0, 0, 0x55][..], "byte 11: unpacking: not directly behind the board"),
+        (&[0x55, 1, 0, 0x55, 1, 0], "byte 9: unpacking: a second one"),
+        (&[0x55, 0, 0], "byte 6: unpacking: time 0"),
+        (&[0x55, 7], "byte 6: unpacking: 1 of its 2 operand bytes"),
+        (&[0x48, 0x55, 1, 0], "byte 7: unpacking: not directly behind the board"),
+        (
+            &[0x54, 1, 0, 0, 0, 0x48],
+            "byte 11: cube: not directly behind the board or its unpacking",
+        ),
+        (&[0x48, 0x48], "byte 7: cube: a second one"),
+    ] {
+        let sheet = &[&board, rest].concat();
+        let refusal = work.read_sheet(sheet).unwrap_err();
+        assert!(refusal.explain(About { sheet, ..About::default() }).place.starts_with(place));
+    }
 
     // Also where the caller lends something else than what was refused, there are words.
     for bundle in [&[][..], &[0x50][..], b"?"] {

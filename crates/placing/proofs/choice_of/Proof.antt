@@ -8,13 +8,13 @@ use borrow.Author.Needs.{needs}
 use Rattle.placing.proofs.choice_of.Statement.{statement}
 use Rattle.placing.proofs.choice_of.Tie as tie
 
-arrival-of-requires : tie.Need-arrival-of-requires
-arrival-of-requires c κs = let a = c .before .before .before in kept-arrived (a .pre .0 .0 .kept) (a .args .t) (a .pre .0 .0 .task)
+ready-arrival-requires : tie.Need-ready-arrival-requires
+ready-arrival-requires c κs = let a = c .before .before .before in (kept-arrived (a .pre .0 .0 .kept) (a .args .t) (a .pre .0 .0 .task), (a .pre .0 .0 .kept .caches .inward, a .pre .0 .0 .early))
 
 without-join-requires : tie.Need-without-join-requires
 without-join-requires c κs =
     let a = c .before .before .before .before .before .before .before .before .before in
-    (a .pre .0, (c .before .before .before .before .before .arrival-of .ensures .0, (c .before .before .before .before .rival-of .ensures, sym (ap foundOf (c .enum-told .given .1)) ∙ c .before .before .join-on .ensures .0)))
+    (a .pre .0, (c .before .before .before .before .before .ready-arrival .ensures .0, (c .before .before .before .before .rival-of .ensures, sym (ap foundOf (c .enum-told .given .1)) ∙ c .before .before .join-on .ensures .0)))
 
 returns : tie.Need-returns
 returns c =
@@ -26,7 +26,7 @@ pub choice-of-spec : {M : Type 1} → statement M
 choice-of-spec =
     tie.close
     (tie.spec
-    arrival-of-requires
+    ready-arrival-requires
     (λ c κs. search needs)
     (λ c κs. search needs)
     (λ c κs. search needs)

@@ -20,7 +20,7 @@ loop-holds : tie.Need-loop-holds Inv-loop μ-loop
 loop-holds c = (omega arith, keyed-none (c .before .before .before .before .pre .1 .1 .1))
 
 renew-task-requires : tie.Need-renew-task-requires Inv-loop μ-loop
-renew-task-requires c κs = let a = c .before .before .before .before .before .before .before in (kept-arrived (a .pre .0) (c .before .before .loop .t) (omega (arith, c .before .loop-test .taken, c .before .before .before .tasks .ensures .0)), (a .pre .1 .0, (a .pre .1 .1 .0, c .before .before .loop .inv .1 .blocked)))
+renew-task-requires c κs = let a = c .before .before .before .before .before .before .before in (kept-arrived (a .pre .0) (c .before .before .loop .t) (omega (arith, c .before .loop-test .taken, c .before .before .before .tasks .ensures .0)), (a .pre .1 .0, ((a .pre .0 .caches .inward, a .pre .1 .1 .0), c .before .before .loop .inv .1 .blocked)))
 
 loop-again : tie.Need-loop-again Inv-loop μ-loop
 loop-again c = (omega (arith, c .before .before .before .before .loop-test .taken), keyed-more (c .before .before .renew-task .ensures) (omega (arith, c .before .before .before .before .loop-test .taken, c .before .before .before .before .before .before .tasks .ensures .1)) (c .before .before .before .before .before .loop .inv .1))

@@ -31,7 +31,7 @@ loop-holds c =
     let range = ranged (now (s .args .w)) (s .pre .0 .0) in
     let h = s .pre .1 .1 .0 .2 in
     let k = past-begins (s .args .t) range h (c .before .before .before .before .put .ensures) (s .pre .1 .1 .1 .1 .1 .1) in
-    (walk-begins (s .pre .1 .0) (s .args .t) h (c .first .ensures .0) (c .first .ensures .1) (s .pre .1 .1 .1 .1 .0 .1), past-first (s .pre .1 .0) range (s .args .t) h (c .first .ensures .0) k)
+    (walk-begins (s .pre .1 .0 .0) (s .args .t) h (c .first .ensures .0) (c .first .ensures .1) (s .pre .1 .1 .1 .1 .0 .1), past-first (s .pre .1 .0 .0) range (s .args .t) h (c .first .ensures .0) k)
 
 count-link-requires : tie.Need-count-link-requires Inv-loop μ-loop
 count-link-requires c κs =
@@ -51,10 +51,10 @@ renew-target-requires c κs =
     let e = c .target .ensures .0 in
     let h : c .before .before .before .before .before .before .before .before .loop .l < linkCount (sheetIn (now (s .args .w))) = omega (arith, c .before .before .before .before .before .before .before .loop-test .taken, c .before .before .before .before .before .before .before .before .before .before .links .ensures .0) in
     let there = target-arrived (s .pre .0 .0) (s .pre .1 .1 .1 .0 .0) h (g .own h) e (s .pre .0 .1) (s .pre .1 .1 .1 .1 .0 .0) g (c .before .before .before .before .before .count-link .ensures .0) (c .before .before .before .before .before .count-link .ensures .1) in
-    (there, (s .pre .1 .1 .1 .1 .1 .0 .0, (s .pre .1 .1 .1 .1 .1 .0 .1, (k .blocked, target-waits e h (g .own h) k))))
+    (there, (s .pre .1 .1 .1 .1 .1 .0 .0, ((s .pre .1 .0 .1, s .pre .1 .1 .1 .1 .1 .0 .1), (k .blocked, target-waits e h (g .own h) k))))
 
 next-requires : tie.Need-next-requires Inv-loop μ-loop
-next-requires c κs = (c .before .before .before .before .before .before .before .before .before .before .before .before .before .before .before .before .before .before .before .before .before .pre .0 .0, (c .before .before .before .before .before .before .before .before .before .before .before .before .before .before .before .before .before .before .before .before .before .pre .1 .0, omega (arith, c .before .before .before .before .before .before .before .before .before .before .loop-test .taken, c .before .before .before .before .before .before .before .before .before .before .before .before .before .links .ensures .0)))
+next-requires c κs = (c .before .before .before .before .before .before .before .before .before .before .before .before .before .before .before .before .before .before .before .before .before .pre .0 .0, (c .before .before .before .before .before .before .before .before .before .before .before .before .before .before .before .before .before .before .before .before .before .pre .1 .0 .0, omega (arith, c .before .before .before .before .before .before .before .before .before .before .loop-test .taken, c .before .before .before .before .before .before .before .before .before .before .before .before .before .links .ensures .0)))
 
 loop-less : tie.Need-loop-less Inv-loop μ-loop
 loop-less c = omega (arith, c .next .ensures .2, c .before .before .before .before .before .before .before .before .before .before .before .loop-test .taken)
@@ -65,8 +65,8 @@ loop-again c =
     let g = c .before .before .before .before .before .before .before .before .before .before .before .before .loop .inv .0 in
     let t-in = s .pre .1 .1 .0 .2 in
     let h : c .before .before .before .before .before .before .before .before .before .before .before .before .loop .l < linkCount (sheetIn (now (s .args .w))) = omega (arith, c .before .before .before .before .before .before .before .before .before .before .before .loop-test .taken, c .before .before .before .before .before .before .before .before .before .before .before .before .before .before .links .ensures .0) in (
-      walk-more (s .pre .1 .0) (s .args .t) t-in g (c .before .before .before .before .before .before .before .before .before .count-link .ensures .0) h (c .next .ensures .0) (c .next .ensures .1) (c .next .ensures .2) (c .before .before .before .before .before .before .before .before .before .count-link .ensures .1),
-      past-next (s .pre .1 .0) (ranged (now (s .args .w)) (s .pre .0 .0)) (s .args .t) t-in (s .pre .1 .1 .1 .0 .0) h (g .own h) (c .next .ensures .0) (c .before .before .before .before .target .ensures .0) (c .before .before .before .renew-target .ensures) (c .before .before .before .before .before .before .before .before .before .before .before .before .loop .inv .1),
+      walk-more (s .pre .1 .0 .0) (s .args .t) t-in g (c .before .before .before .before .before .before .before .before .before .count-link .ensures .0) h (c .next .ensures .0) (c .next .ensures .1) (c .next .ensures .2) (c .before .before .before .before .before .before .before .before .before .count-link .ensures .1),
+      past-next (s .pre .1 .0 .0) (ranged (now (s .args .w)) (s .pre .0 .0)) (s .args .t) t-in (s .pre .1 .1 .1 .0 .0) h (g .own h) (c .next .ensures .0) (c .before .before .before .before .target .ensures .0) (c .before .before .before .renew-target .ensures) (c .before .before .before .before .before .before .before .before .before .before .before .before .loop .inv .1),
     )
 
 same-length : tie.Need-same-length Inv-loop μ-loop

@@ -1,5 +1,4 @@
 -- `place_task` (src/lib.rt) keeps its contract.
-use native.Mathlib.Omega.{arith}
 use Rattle.turns.proofs.Bounds.{early}
 use Rattle.turns.proofs.Going.{surveyed-going}
 use borrow.Author.Needs.{needs}
@@ -10,7 +9,7 @@ survey-requires : tie.Need-survey-requires
 survey-requires c κs =
     let s = c .before .before .before .before .before in
     let p = s .pre .1 in
-    (s .pre .0 .kept, ((p .0 .1, p .1 .0), early (s .pre .0 .timely) (omega (arith, p .0 .0))))
+    (s .pre .0 .kept, ((p .0 .1, p .1 .0), early (s .pre .0 .kept .ranged) (s .pre .0 .timely)))
 
 place-surveyed-requires : tie.Need-place-surveyed-requires
 place-surveyed-requires c κs =

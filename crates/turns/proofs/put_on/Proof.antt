@@ -16,7 +16,7 @@ settle-requires c κs =
     let p = s .pre .1 in
     let work = c .before .before .before .before .before .before .before .work .ensures .0 in
     let u = putting (s .pre .0) (p .0 .0) (p .0 .1) (p .0 .2) (p .1 .0 .0) (p .1 .0 .1) (p .0 .3) work (c .before .before .placed .ensures .1) (c .before .before .before .before .before .opened .ensures .0) (c .before .before .before .before .later .ensures) in
-    (s .pre .0 .kept, ((u .can, u .surveyed), (omega (arith, u .early, u .turn), u .late)))
+    (s .pre .0 .kept, ((u .can, u .surveyed), (omega (arith, u .small), u .late)))
 
 release-requires : tie.Need-release-requires
 release-requires c κs =
@@ -38,7 +38,7 @@ put-requires c κs =
       (
         t-small u (ends .0) (ends .1),
         omega (arith, p .0 .2),
-        omega (arith, u .early, u .turn),
+        omega (arith, u .small),
         omega (arith, u .placed-is, u .going .placed, u .turn),
         omega (arith, u .opened-is, u .going .kept .few-opened, p .0 .2),
       ),

@@ -17,10 +17,11 @@ pub const COMMAND: Command = Command {
     ],
     brief: "draw a bundle, or the plan of a sheet: who does what when",
     full: "\
-Draws a row for each processor with its tasks, waits and receives, the messages as lines between the
-rows, a time axis and the claim: of the bundle, or of the sheet's plan if none is given. Of a bundle
-that gets stuck it shows how far each processor comes, and the circle of those that wait for each
-other; the refusal is told on standard error, and the exit status is 1.",
+Draws a row for each processor with its tasks, waits, receives and unpacking, the messages as lines
+between the rows, a time axis and the claim: of the bundle, or of the sheet's plan if none is given.
+In the terminal a wait is `...`, a receive `>` and unpacking `~~~`. Of a bundle that gets stuck it
+shows how far each processor comes, and the circle of those that wait for each other; the refusal is
+told on standard error, and the exit status is 1.",
     answer,
 };
 

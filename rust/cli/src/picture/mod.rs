@@ -68,15 +68,14 @@ impl Picture<'_> {
             let Command::Send(link) = event.command else { continue };
             let receive = Command::Receive(link);
             let received = self.trace.events.iter().find(|other| other.command == receive);
-            let programmes = self.bundle.bundle.programmes();
-            let to = programmes.iter().position(|programme| programme.contains(&receive));
+            let to = self.bundle.bundle.receiver(link);
             messages.push(Message {
                 link: link.into(),
                 from: event.processor,
                 sent: event.finish,
                 there: event.stamp.unwrap_or_default() as u32,
                 to: to.unwrap_or(event.processor),
-                received: received.map(|other| other.finish),
+                received: received.map(|other| other.has_message()),
             });
         }
         messages

@@ -1,6 +1,8 @@
 //! The picture as SVG.
 
 use super::{circle, ticks, Picture};
+use crate::text::hops_shown;
+use crate::trace::Event;
 use zeldrupa::Command;
 
 /// Where things stand, in pixels.
@@ -17,6 +19,8 @@ const CHARACTER: f64 = 7.2;
 const COLOURS: [&str; 8] =
     ["#a8d5ba", "#f6d186", "#b8c4e8", "#f2b5a7", "#c9e4f6", "#d9c3e3", "#e3e59a", "#cfd8d7"];
 const INK: &str = "#22303a";
+const WAIT: &str = "fill=\"url(#wait)\" stroke=\"#b5b5b5\"";
+const UNPACKING: &str = "fill=\"#dbe7f3\" stroke=\"#35618f\"";
 
 /// The whole picture.
 pub fn draw(picture: &Picture) -> String {
@@ -126,20 +130,10 @@ impl<'a> Drawing<'a> {
         let middle = y + BAR / 2.0;
         text += &line([LEFT, middle], [LEFT + self.plot, middle], "stroke=\"#eef1f3\"");
         for event in self.picture.trace.of_processor(processor) {
-            let (x, end) = (self.x(event.start), self.x(event.finish));
-            let times = format!("{} to {}", event.start, event.finish);
             match event.command {
-                Command::Run(task) => text += &self.task(task.into(), [x, y], end - x, &times),
+                Command::Run(task) => text += &self.task(event, task.into(), y),
                 Command::Receive(link) => {
-                    let link = self.picture.link(link.into());
-                    if event.waited() > 0 {
-                        let fill = "fill=\"url(#wait)\" stroke=\"#b5b5b5\"";
-                        let told = format!("waits for {link}, {times}");
-                        text += &bar([x, y + 8.0], [end - x, BAR - 16.0], fill, &told);
-                    }
-                    // Without a wait it stands at the lower edge, where it hides no name.
-                    let at = if event.waited() > 0 { middle } else { y + BAR - 7.0 };
-                    text += &receipt(end, at, &format!("receives {link} at {}", event.finish));
+                    text += &self.receive(event, &self.picture.link(link.into()), y);
                 }
                 Command::Send(_) => (),
             }
@@ -147,7 +141,29 @@ impl<'a> Drawing<'a> {
         text + &self.in_vain(processor)
     }
 
-    fn task(&self, task: usize, [x, y]: [f64; 2], width: f64, times: &str) -> String {
+    /// A receive: the wait for its message, its mark, and the unpacking.
+    fn receive(&self, event: &Event, link: &str, y: f64) -> String {
+        let Event { start, finish, .. } = *event;
+        let there = event.has_message();
+        let [from, at, end] = [start, there, finish].map(|time| self.x(time));
+        let height = BAR - 16.0;
+        let mut text = String::new();
+        if event.waited() > 0 {
+            let told = format!("waits for {link}, {start} to {there}");
+            text += &bar([from, y + 8.0], [at - from, height], WAIT, &told);
+        }
+        if event.unpacked() > 0 {
+            let told = format!("unpacks {link}, {there} to {finish}");
+            text += &bar([at, y + 8.0], [end - at, height], UNPACKING, &told);
+        }
+        // Behind a task it stands at the lower edge, where it hides no name.
+        let level = if event.waited() > 0 { BAR / 2.0 } else { BAR - 7.0 };
+        text + &receipt(at, y + level, &format!("receives {link} at {there}"))
+    }
+
+    fn task(&self, event: &Event, task: usize, y: f64) -> String {
+        let (x, end) = (self.x(event.start), self.x(event.finish));
+        let (width, times) = (end - x, format!("{} to {}", event.start, event.finish));
         let name = self.picture.task(task);
         let fill = format!("rx=\"3\" fill=\"{}\" stroke=\"{INK}\"", COLOURS[task % COLOURS.len()]);
         let mut text = bar([x, y], [width, BAR], &fill, &format!("{name}, {times}"));
@@ -202,9 +218,10 @@ impl<'a> Drawing<'a> {
             let received =
                 message.received.map_or(String::new(), |at| format!(", received at {at}"));
             let told = format!(
-                "{}: sent at {}, there at {}{received}",
+                "{}: sent at {}{}, there at {}{received}",
                 self.picture.link(message.link),
                 message.sent,
+                hops_shown(self.picture.of.sheet.board(), message.from, message.to),
                 message.there
             );
             // An arrow that would leave the picture ends at its edge.
@@ -247,14 +264,18 @@ impl<'a> Drawing<'a> {
         let task = format!("rx=\"3\" fill=\"{}\" stroke=\"{INK}\"", COLOURS[0]);
         text += &bar([LEFT, y - 11.0], [26.0, 14.0], &task, "task");
         text += &label(LEFT + 32.0, y, "start", 11, "task");
-        let wait = "fill=\"url(#wait)\" stroke=\"#b5b5b5\"";
-        text += &bar([LEFT + 90.0, y - 11.0], [26.0, 14.0], wait, "wait");
+        text += &bar([LEFT + 90.0, y - 11.0], [26.0, 14.0], WAIT, "wait");
         text += &label(LEFT + 122.0, y, "start", 11, "waits for a message");
         text += &receipt(LEFT + 258.0, y - 4.0, "receive");
         text += &label(LEFT + 266.0, y, "start", 11, "receives it");
         let arrow = "stroke=\"#35618f\" stroke-width=\"1.3\" marker-end=\"url(#tip)\"";
         text += &line([LEFT + 352.0, y - 4.0], [LEFT + 384.0, y - 4.0], arrow);
-        text + &label(LEFT + 392.0, y, "start", 11, "message, from its send until it is there")
+        text += &label(LEFT + 392.0, y, "start", 11, "message, from its send until it is there");
+        if self.picture.of.sheet.board().unpacking > 0 {
+            text += &bar([LEFT + 640.0, y - 11.0], [26.0, 14.0], UNPACKING, "unpacking");
+            text += &label(LEFT + 672.0, y, "start", 11, "unpacks it");
+        }
+        text
     }
 }
 

@@ -118,7 +118,7 @@ impl<'a> Drawing<'a> {
         gaps.iter().all(|lanes| lanes.len() <= MOST_LANES)
     }
 
-    /// Each processor's tasks and waits.
+    /// Each processor's tasks, waits and unpacking.
     fn rows(&mut self) {
         for processor in 0..self.picture.trace.processors {
             let y = self.rows[processor];
@@ -127,12 +127,7 @@ impl<'a> Drawing<'a> {
                 let (start, end) = (self.x(event.start), self.x(event.finish));
                 match event.command {
                     Command::Run(task) => self.task(y, start, end, &self.picture.task(task.into())),
-                    Command::Receive(_) => {
-                        (start..end).for_each(|x| self.canvas[y][x] = '.');
-                        if end > start {
-                            self.canvas[y][end - 1] = '>';
-                        }
-                    }
+                    Command::Receive(_) => self.receive(y, start, self.x(event.has_message()), end),
                     Command::Send(_) => (),
                 }
             }
@@ -142,6 +137,17 @@ impl<'a> Drawing<'a> {
                 let told = format!("..waits for {}..", self.picture.link(wait.link.into()));
                 self.write(y, start, &told);
             }
+        }
+    }
+
+    /// A wait, the mark of its end, and the unpacking.
+    fn receive(&mut self, y: usize, start: usize, there: usize, end: usize) {
+        self.canvas[y][start..there].fill('.');
+        self.canvas[y][there..end].fill('~');
+        if there > start {
+            self.canvas[y][there - 1] = '>';
+        } else if end > there {
+            self.canvas[y][there] = '>';
         }
     }
 

@@ -114,16 +114,31 @@ impl Line {
     pub fn named<T, const N: usize>(
         &mut self,
         names: [&str; N],
-        mut read: impl FnMut(&mut Self, &str) -> Result<T, Problem>,
+        read: impl FnMut(&mut Self, &str) -> Result<T, Problem>,
     ) -> Result<[T; N], Problem> {
+        let found = self.named_from(N, names, read)?;
+        Ok(found.map(|thing| thing.expect("each was read")))
+    }
+
+    /// Named things in any order, each at most once, of which the first so many have to be there.
+    pub fn named_from<T, const N: usize>(
+        &mut self,
+        needed: usize,
+        names: [&str; N],
+        mut read: impl FnMut(&mut Self, &str) -> Result<T, Problem>,
+    ) -> Result<[Option<T>; N], Problem> {
         let mut found = [(); N].map(|()| None);
-        for _ in 0..N {
-            let missing: Vec<usize> = (0..N).filter(|&name| found[name].is_none()).collect();
+        loop {
+            // Where the line ends only what is needed is missed.
+            let end = if self.is_empty() { needed } else { N };
+            let missing: Vec<usize> = (0..end).filter(|&name| found[name].is_none()).collect();
+            if missing.is_empty() {
+                return Ok(found);
+            }
             let words: Vec<&str> = missing.iter().map(|&name| names[name]).collect();
             let name = missing[self.one_of(&words)?.what];
             found[name] = Some(read(self, names[name])?);
         }
-        Ok(found.map(|thing| thing.expect("each was read")))
     }
 
     /// Named numbers in any order, each once, with the most that each can be.

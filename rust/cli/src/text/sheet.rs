@@ -3,7 +3,7 @@
 use super::letters::{Amount, Letters};
 use super::line::{Line, Placed, Problem, Task as TaskWord, MOST_PROBLEMS};
 use super::names::Names;
-use zeldrupa::{Link, Task};
+use zeldrupa::{Board, Link, Task};
 
 const U8: u32 = u8::MAX as u32;
 const U16: u32 = u16::MAX as u32;
@@ -11,19 +11,19 @@ const U16: u32 = u16::MAX as u32;
 /// A sheet as a text has it.
 #[derive(Debug)]
 pub struct SheetText {
-    pub processors: u8,
-    pub limit: u32,
+    pub board: Board,
     pub names: Names,
     pub tasks: Vec<Task>,
     pub links: Vec<Link>,
-    /// The line of each command: the board, the tasks, the links.
+    /// The line of each command: the board, its unpacking and its cube if it has them, the tasks, the
+    /// links.
     pub lines: Vec<usize>,
 }
 
 /// The lines of a sheet, until all names are known.
 #[derive(Debug, Default)]
 pub struct SheetLines {
-    board: Option<(usize, u8, u32)>,
+    board: Option<(usize, Board)>,
     letters: Letters,
     names: Names,
     tasks: Vec<TaskLine>,
@@ -50,13 +50,22 @@ impl SheetLines {
         self.board.is_none() && self.tasks.is_empty() && self.links.is_empty()
     }
 
-    /// `board processors 4 store 4096`
+    /// `board processors 4 store 4096 unpacking 12 cube`
     pub fn board(&mut self, word: Placed<usize>, line: &mut Line) -> Result<(), Problem> {
         if let Some((first, ..)) = self.board {
             return Err(word.problem(format!("a second board; the first is in line {first}")));
         }
-        let [processors, limit] = line.numbers([("processors", U8), ("store", u32::MAX)])?;
-        self.board = Some((word.line, processors as u8, limit));
+        let fields = ["processors", "store", "unpacking", "cube"];
+        let numbers = line.named_from(2, fields, |line, name| match name {
+            "processors" => line.number(name, U8),
+            "store" => line.number(name, u32::MAX),
+            "unpacking" => line.number(name, U16),
+            // The word alone says it.
+            _ => Ok(1),
+        })?;
+        let [processors, limit, unpacking, cube] = numbers.map(|number| number.unwrap_or(0));
+        let (processors, unpacking) = (processors as u8, unpacking as u16);
+        self.board = Some((word.line, Board { processors, limit, unpacking, cube: cube == 1 }));
         Ok(())
     }
 
@@ -123,7 +132,7 @@ impl SheetLines {
                 [Err(problem), _] | [_, Err(problem)] => problems.push(problem),
             }
         }
-        let Some((board, processors, limit)) = self.board else {
+        let Some((line, board)) = self.board else {
             // A board that is in fault was told already.
             if problems.is_empty() {
                 let told = "expected \"board processors .. store ..\" in this text";
@@ -131,10 +140,10 @@ impl SheetLines {
             }
             return None;
         };
-        let lines = [board].into_iter().chain(self.tasks.iter().map(|task| task.line));
+        let first = vec![line; 1 + usize::from(board.unpacking > 0) + usize::from(board.cube)];
+        let lines = first.into_iter().chain(self.tasks.iter().map(|task| task.line));
         Some(SheetText {
-            processors,
-            limit,
+            board,
             lines: lines.chain(self.links.iter().map(|link| link.line)).collect(),
             tasks,
             links,

@@ -1,39 +1,17 @@
 //! The families of bare boards: sheets without tasks, with every function.
 
+use super::small::{bundle_functions, sheet_functions};
 use crate::comparison::{Comparison, Outcome};
 use crate::rules::Rules;
 use inputs::{bundles, damage, sheets};
 use reference::trials;
-
-/// Every function of a sheet, with a bare board's bytes and values.
-fn sheet_functions<R: Rules>(c: &mut Comparison<R>, values: &sheets::Sheet) -> Outcome {
-    let sheet = values.encode();
-    c.read_sheet(&sheet)?;
-    c.levels(&sheet)?;
-    c.plan(&sheet)?;
-    c.write_sheet(values)
-}
-
-/// Every function of a bundle, with its bytes and with values.
-fn bundle_functions<R: Rules>(
-    c: &mut Comparison<R>,
-    sheet: &[u8],
-    bundle: &[u8],
-    values: &bundles::Bundle,
-) -> Outcome {
-    c.read_bundle(sheet, bundle)?;
-    c.write_bundle(sheet, values)?;
-    c.check(sheet, bundle)?;
-    c.better(sheet, bundle, &values.encode())?;
-    c.machine(sheet, bundle)
-}
 
 /// Bare boards with their bundles, right, with another claim, cut, with a tail, or with commands where
 /// none may stand; and the same bundles for a sheet that has tasks.
 pub fn boards<R: Rules>(c: &mut Comparison<R>) -> Outcome {
     for _ in 0..3000 {
         let values = sheets::bare(&mut c.random);
-        sheet_functions(c, &values)?;
+        sheet_functions(c, &values.encode(), &values)?;
         let made = bundles::bare(&mut c.random, &values);
         let bytes = bundles::frayed(&mut c.random, &made);
         bundle_functions(c, &values.encode(), &bytes, &made)?;
@@ -53,7 +31,7 @@ pub fn byte_by_byte<R: Rules>(c: &mut Comparison<R>) -> Outcome {
     for processors in 0..=17 {
         let mut values = sheets::bare(&mut c.random);
         values.processors = processors;
-        sheet_functions(c, &values)?;
+        sheet_functions(c, &values.encode(), &values)?;
         let sheet = values.encode();
         for length in 0..sheet.len() {
             c.read_sheet(&sheet[..length])?;

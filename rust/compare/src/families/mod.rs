@@ -3,12 +3,16 @@
 
 mod bare;
 mod choices;
+mod cubes;
+mod dressed;
+mod early;
 mod formats;
 mod formulas;
 mod loads;
 mod machine;
 mod plans;
 mod small;
+mod unpacking;
 
 use crate::comparison::{Comparison, Outcome};
 use crate::rules::{Fast, Literal, Rules};
@@ -50,6 +54,17 @@ pub const FAST: &[Family<Fast>] = &[
     ("shared processors", plans::shared_processors),
     ("plans of greatest values", plans::greatest_values),
     ("plans of faulty sheets", plans::faulty_sheets),
+    ("plans with unpacking", unpacking::plans),
+    ("largest with unpacking", unpacking::largest),
+    ("bundles with unpacking", unpacking::small_bundles),
+    ("damaged unpacking", unpacking::damaged),
+    ("unpacking everywhere", unpacking::every_offset),
+    ("plans on cubes", cubes::plans),
+    ("cubes with skipped numbers", cubes::far),
+    ("largest on cubes", cubes::largest),
+    ("bundles on cubes", cubes::small_bundles),
+    ("damaged cubes", cubes::damaged),
+    ("cubes everywhere", cubes::every_offset),
     ("trial pairs", machine::trial_pairs),
     ("right pairs", machine::right),
     ("wrong claims", machine::wrong_claims),
@@ -92,6 +107,14 @@ pub const LITERAL: &[Family<Literal>] = &[
     ("bare boards byte by byte", bare::byte_by_byte),
     ("small boards", small::boards),
     ("small shared processors", small::shared_processors),
+    ("small with unpacking", unpacking::small_boards),
+    ("bundles with unpacking", unpacking::small_bundles),
+    ("damaged unpacking", unpacking::damaged),
+    ("unpacking everywhere", unpacking::every_offset),
+    ("small cubes", cubes::small_boards),
+    ("bundles on cubes", cubes::small_bundles),
+    ("damaged cubes", cubes::damaged),
+    ("cubes everywhere", cubes::every_offset),
     ("damaged small sheets", small::damaged_sheets),
     ("over-full sheets", small::over_full_sheets),
     ("small circles", small::circles),
@@ -99,6 +122,7 @@ pub const LITERAL: &[Family<Literal>] = &[
     ("arranged small bundles", small::arranged_bundles),
     ("damaged small bundles", small::damaged_bundles),
     ("small sheets in fault", small::sheets_in_fault),
+    ("early ends", early::ends),
     ("even rivals", choices::even),
     ("bare rivals", choices::bare),
     ("every short text", formulas::every_short),
@@ -182,10 +206,12 @@ fn over_full(random: &mut Random, full: &sheets::Sheet) -> [sheets::Sheet; 2] {
 /// Damages the values of a sheet one to three times.
 fn damage_sheet(random: &mut Random, values: &mut sheets::Sheet) {
     for _ in 0..random.within(1..=3) {
-        match random.below(8) {
+        match random.below(9) {
             0 => values.processors = random.bits() as u8,
             1 => values.limit = random.bits() as u32,
-            2..=3 => damage::values(random, &mut values.tasks, 2),
+            2 => values.unpacking = random.pick(&[0, 1, 65_535]),
+            3 => values.cube = random.pick(&[0, 1, 255]),
+            4..=5 => damage::values(random, &mut values.tasks, 2),
             _ => damage::values(random, &mut values.links, 4),
         }
     }

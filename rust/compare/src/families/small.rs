@@ -5,14 +5,18 @@ use super::{
     right_bundle,
 };
 use crate::comparison::{Comparison, Outcome};
-use crate::rules::Literal;
+use crate::rules::{Literal, Rules};
 use inputs::{bundles, damage, sheets, Random};
 
 /// A comparison with the literal rules.
 type Small = Comparison<Literal>;
 
 /// Every function of a sheet: with its bytes, and with values, which need not be the same sheet's.
-fn sheet_functions(c: &mut Small, sheet: &[u8], values: &sheets::Sheet) -> Outcome {
+pub fn sheet_functions<R: Rules>(
+    c: &mut Comparison<R>,
+    sheet: &[u8],
+    values: &sheets::Sheet,
+) -> Outcome {
     c.read_sheet(sheet)?;
     c.levels(sheet)?;
     c.plan(sheet)?;
@@ -20,8 +24,8 @@ fn sheet_functions(c: &mut Small, sheet: &[u8], values: &sheets::Sheet) -> Outco
 }
 
 /// Every function of a bundle for a sheet: with its bytes, and with values.
-fn bundle_functions(
-    c: &mut Small,
+pub fn bundle_functions<R: Rules>(
+    c: &mut Comparison<R>,
     sheet: &[u8],
     bundle: &[u8],
     values: &bundles::Bundle,

@@ -49,7 +49,8 @@ pub(crate) static KINDS: [Kind; 27] = [
         number: 3,
         word: "out of turn",
         counts: Counts::SheetBytes,
-        cause: "The board comes first and only once, then all tasks, then all links, then the end.",
+        cause: "The board comes first and only once, then the unpacking and the cube if there are such, \
+                then all tasks, then all links, then the end.",
         remedy: "Move the command to its place in this order.",
     },
     Kind {
@@ -70,8 +71,10 @@ pub(crate) static KINDS: [Kind; 27] = [
         number: 6,
         word: "range",
         counts: Counts::SheetBytes,
-        cause: "A board has 1 to 16 processors, and the work of a task is 1 to 65,535.",
-        remedy: "Correct the number; count work in a coarser unit if it is too large.",
+        cause: "A board has 1 to 16 processors; the time of its unpacking, if there is one, and the work \
+                of a task are 1 to 65,535.",
+        remedy: "Correct the number, or leave out an unpacking of 0; count time in a coarser unit if it \
+                 is too large.",
     },
     Kind {
         number: 7,

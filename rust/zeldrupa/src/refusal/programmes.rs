@@ -51,7 +51,7 @@ fn store_of_task(read: &Read, task: usize) -> String {
     let links = read.sheet.links().iter().filter(|link| usize::from(link.target) == task);
     let bytes: u64 = links.map(|link| u64::from(link.bytes)).sum();
     let store = read.sheet.tasks()[task].store;
-    let limit = read.sheet.limit();
+    let limit = read.sheet.board().limit;
     let name = read.about.task(task);
     format!("task {name}: store {store}, its messages up to {bytes}; a processor has {limit}")
 }
@@ -146,7 +146,7 @@ fn store(read: &Read, bundle: &Bundle, processor: usize) -> String {
             Command::Send(_) => (),
         }
     }
-    let (all, limit) = (tasks + messages, read.sheet.limit());
+    let (all, limit) = (tasks + messages, read.sheet.board().limit);
     format!(
         "processor {processor}: needs {all} (tasks {tasks}, received messages {messages}); \
          the limit is {limit}"

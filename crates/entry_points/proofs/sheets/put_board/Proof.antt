@@ -5,27 +5,17 @@ use denote.Ref.{now}
 use Rattle.entry_points.proofs.sheets.put_board.Statement.{statement}
 use Rattle.entry_points.proofs.sheets.put_board.Tie as tie
 
-shared-slice-read-t4 : tie.Need-shared-slice-read-t4
-shared-slice-read-t4 c = search needs
-
-shared-slice-read-t6 : tie.Need-shared-slice-read-t6
-shared-slice-read-t6 c = search needs
-
-shared-slice-read-t8 : tie.Need-shared-slice-read-t8
-shared-slice-read-t8 c = search needs
-
-shared-slice-read-t10 : tie.Need-shared-slice-read-t10
-shared-slice-read-t10 c = search needs
-
 returns : tie.Need-returns
-returns c = board-is (now (c .before .before .before .before .before .args .w))
+returns c = let k = c .before in board-is (now (k .before .before .before .before .before .before .before .args .w)) _ (k .cube-word .ensures)
 
 pub put-board-spec : {M : Type 1} → statement M
 put-board-spec =
     tie.close
     (tie.spec
-    shared-slice-read-t4
-    shared-slice-read-t6
-    shared-slice-read-t8
-    shared-slice-read-t10
+    (λ c. search needs)
+    (λ c. search needs)
+    (λ c. search needs)
+    (λ c. search needs)
+    (λ c. search needs)
+    (λ c κs. search needs)
     returns)

@@ -3,6 +3,7 @@ use Prim.Native.Nat.{_+_, _-_, _*_}
 use Rattle.sheet_reader.proofs.Scans.{link-added, link-comes, link-few, links-end, walk-room, walk-single}
 use Rattle.sheet_reader.specs.Scanning.{Linking}
 use Rattle.sheet.specs.Format.{link, readForm}
+use Rattle.sheet.specs.Sizes.{linkSize}
 use lib.ListN.{length}
 use mathlib.Core.Path.{_≡_, _∙_, sym}
 use native.Mathlib.Omega.{arith}
@@ -10,7 +11,7 @@ use Rattle.sheet_reader.proofs.bytes.add_links.Statement.{statement}
 use Rattle.sheet_reader.proofs.bytes.add_links.Tie as tie
 
 abbrev Inv-loop : tie.InvT-loop
-Inv-loop bytes start w₀ tasks at₀ links₀ w at links = Linking (readForm bytes) bytes w₀ w tasks links at × (at ≡ start + 7 * links)
+Inv-loop bytes start w₀ tasks at₀ links₀ w at links = Linking (readForm bytes) bytes w₀ w tasks links at × (at ≡ start + linkSize * links)
 
 abbrev μ-loop : tie.MeasureT-loop
 μ-loop bytes start w₀ tasks at₀ links₀ w at links = length bytes - at
@@ -31,17 +32,17 @@ add-link-requires c κs =
     ((walk-room (s .walking) link j, s .filling .loaded .long, link-few (s .walking .scanning) j), walk-single s j)
 
 add-links : tie.Need-add-links Inv-loop μ-loop
-add-links c = omega (arith, link-few (c .before .before .before .before .before .before .before .loop .inv .0 .walking .scanning) (link-comes _ (sym (c .before .before .before .before .before .is-link .ensures) ∙ c .before .before .before .before .if1 .taken)))
+add-links c = let k = c .before .before .before .before .before in omega (arith, link-few (k .before .before .loop .inv .0 .walking .scanning) (link-comes _ (sym (k .is-link .ensures) ∙ c .before .before .before .before .if1 .taken)))
 
 add-at : tie.Need-add-at Inv-loop μ-loop
-add-at c = omega (arith, walk-room (c .before .before .before .before .before .before .before .loop .inv .0 .walking) link (link-comes _ (sym (c .before .before .before .before .before .is-link .ensures) ∙ c .before .before .before .before .if1 .taken)))
+add-at c = let k = c .before .before .before .before .before in omega (arith, walk-room (k .before .before .loop .inv .0 .walking) link (link-comes _ (sym (k .is-link .ensures) ∙ c .before .before .before .before .if1 .taken)))
 
 loop-less : tie.Need-loop-less Inv-loop μ-loop
-loop-less c = omega (arith, walk-room (c .before .before .before .before .before .before .before .loop .inv .0 .walking) link (link-comes _ (sym (c .before .before .before .before .before .is-link .ensures) ∙ c .before .before .before .before .if1 .taken)))
+loop-less c = let k = c .before .before .before .before .before in omega (arith, walk-room (k .before .before .loop .inv .0 .walking) link (link-comes _ (sym (k .is-link .ensures) ∙ c .before .before .before .before .if1 .taken)))
 
 loop-again : tie.Need-loop-again Inv-loop μ-loop
-loop-again c = (
-  link-added (c .before .before .before .before .before .before .before .loop .inv .0) _ (link-comes _ (sym (c .before .before .before .before .before .is-link .ensures) ∙ c .before .before .before .before .if1 .taken)) (λ k. omega (arith, c .before .before .before .before .before .before .before .before .before .shared-slice-known .given k)) (c .before .before .add-link .ensures),
+loop-again c = let k = c .before .before .before .before .before in (
+  link-added (k .before .before .loop .inv .0) _ (link-comes _ (sym (k .is-link .ensures) ∙ c .before .before .before .before .if1 .taken)) (λ i. omega (arith, k .before .before .before .before .shared-slice-known .given i)) (c .before .before .add-link .ensures),
   omega arith,
 )
 

@@ -13,7 +13,7 @@ returns : tie.Need-returns
 returns c = let s = c .before .before .before in sym (ap (verdict sheetFormat task) (task-turn (now (s .args .w)) _ _ (s .pre .1 .1) (c .if1 .taken)))
 
 returns-2 : tie.Need-returns-2
-returns-2 c = let s = c .before .before .before .before in sym (ap (verdict sheetFormat task) (task-cut (now (s .args .w)) (now (s .args .bytes)) _ (s .args .at) (s .pre .1 .1) (c .before .if1 .left) (c .if2 .taken)))
+returns-2 c = let s = c .before .before .before .before in sym (ap (verdict sheetFormat task) (task-cut (now (s .args .w)) (now (s .args .bytes)) _ (s .args .at) (s .pre .1 .1) (c .before .if1 .left) (s .pre .1 .2) (c .if2 .taken)))
 
 returns-3 : tie.Need-returns-3
 returns-3 c = let s = c .before .before .before .before .before .before .before in sym (ap (verdict sheetFormat task) (task-numbers (now (s .args .w)) (now (s .args .bytes)) _ _ (s .args .at) _ (s .pre .1 .0) (s .pre .1 .1) (c .before .before .before .before .if1 .left) (c .before .before .before .if2 .left) (c .before .before .get16 .ensures) ∙ numbered-some _ _ (c .before .task-fault .ensures) (c .if3 .taken)))
@@ -26,7 +26,6 @@ task-at-spec =
     tie.close
     (tie.spec
     returns
-    (λ c. search needs)
     (λ c. search needs)
     returns-2
     (λ c. search needs)

@@ -14,4 +14,4 @@ unfolding valuesClosed
 returns-2 c = simp (eq-eqb _ _ (c .if1 .left))
 
 pub closing-spec : {M : Type 1} → statement M
-closing-spec = tie.close (tie.spec (λ c. search needs) (λ c. search needs) (λ c. search needs) (λ c. search needs) returns returns-2)
+closing-spec = tie.close (tie.spec (λ c. search needs) (λ c. search needs) returns returns-2)
