@@ -59,7 +59,7 @@ fn keep_link(sheet: &[u8], w: &mut [u32], v: View, l: usize)
 }
 
 // The last use of every result and message, by its note.
-fn keep_lasts(sheet: &[u8], w: &mut [u32], v: View)
+pub fn keep_lasts(sheet: &[u8], w: &mut [u32], v: View)
     requires { ⌜ Bounded v × (slotsEnd ≤ length (now w)) ⌝ }
     ensures { λ _. ⌜ LastsIs (now (sheet .entry)) (now (w .entry)) (now (w .exit)) v ⌝ }
 {
