@@ -2,7 +2,7 @@
 use Prim.Native.Nat.{ℕ, zero, suc, _+_, _*_, _/_, _≤_, _<_}
 use native.Mathlib.Omega.{arith}
 use native.Mathlib.Decide.{ℕ-discrete, decLt}
-use mathlib.Core.Bool.{Bool, true, false, false≢true, true≢false}
+use mathlib.Core.Bool.{true, false, true≢false}
 use mathlib.Core.Option.{Option, none, some}
 use mathlib.Core.Path.{_≡_, refl, sym, ap, _∙_, subst}
 use mathlib.Core.Logic.{_≢_, _⊎_, inl, inr, ⊎-elim}
@@ -12,6 +12,7 @@ use lib.Dec.{eqb, ltb}
 use borrow.Author.Tests.{eqb-true, eq-eqb, ne-eqb, lt-ltb, ltb-true}
 use Rattle.folds.specs.Folds.{first}
 use Rattle.folds.specs.Answers.{value}
+use Rattle.folds.proofs.Tests.{not-some}
 use Rattle.folds.proofs.Laws.{none-first, term-le-sum}
 use Rattle.sheet.specs.Sheet.{Sheet, taskCount, linkCount}
 use Rattle.bundle.specs.Bundle.{Command, run, send, receive, release, discard, Bundle, programmeCount, programmeOf}
@@ -42,6 +43,11 @@ elem-at : (p : List Command) (i : ℕ) → i < length p → (c : Command) × (ge
 elem-at [] i l = absurd (omega arith)
 elem-at (c ∷ p) zero l = (c, refl)
 elem-at (c ∷ p) (suc i) l = elem-at p i (omega arith)
+
+pub elem-below : (p : List Command) (m : ℕ) (c : Command) → getElem? p m ≡ some c → m < length p
+elem-below [] m c e = not-some e
+elem-below (d ∷ p) zero c e = omega arith
+elem-below (d ∷ p) (suc m) c e = omega (arith, elem-below p m c e)
 
 weigh-two : (f g : Command → ℕ) (q : List Command) → weigh (λ c. f c + g c) q ≡ weigh f q + weigh g q
 unfolding weigh
@@ -112,14 +118,6 @@ module _ {s : Sheet} {b : Bundle} {bundle : List ℕ} (h : Bare s b bundle) wher
     touched : 0 < touches s (programmeOf b (g .programme)) x (g .command)
     touched = ⊎-elim (λ (e : g .command ≡ gets x). omega (arith, is-refl (gets x), ap (is (gets x)) e)) (λ y. omega (arith, y)) (g .needed)
 
-    below : (p : List Command) (m : ℕ) (c : Command) → getElem? p m ≡ some c → m < length p
-    below [] m c e = absurd (none-some e)
-      where
-        none-some : _≡_ {A = Option Command} none (some c) → ⊥
-        none-some e = false≢true (ap (λ (o : Option Command). elim o [ none ↦ false | some y ↦ true ]) e)
-    below (d ∷ p) zero c e = omega arith
-    below (d ∷ p) (suc m) c e = omega (arith, below p m c e)
-
     stands : earliest s (programmeOf b (g .programme)) x ≡ some (suc (g .place))
     stands =
         let p = programmeOf b (g .programme) in
@@ -134,7 +132,7 @@ module _ {s : Sheet} {b : Bundle} {bundle : List ℕ} (h : Bare s b bundle) wher
         by (yes e) =
             subst (λ (j : ℕ). i < length (programmeOf b j) → eqb u (4096 * suc j + rank b j i) ≡ isAt (earliest s (programmeOf b j) x) (suc i)) (sym e)
             (λ y. ap (λ (v : ℕ). eqb v (4096 * suc (g .programme) + rank b (g .programme) i)) (g .last .note)
-            ∙ same-note (g .programme) (g .place) i (below (programmeOf b (g .programme)) (g .place) (g .command) (g .last .here)) y
+            ∙ same-note (g .programme) (g .place) i (elem-below (programmeOf b (g .programme)) (g .place) (g .command) (g .last .here)) y
             ∙ sym (ap (λ (o : Option ℕ). isAt o (suc i)) stands)) l
         by (no d) =
             ne-eqb u (4096 * suc k + rank b k i) (λ q. d (omega (arith, rank-small b k i, placed-programme (g .last))))

@@ -1,112 +1,121 @@
+-- `insert` (src/inserting.rt) keeps its contract. `g` is the loop, `z` the size of the command that was read.
+use Prim.Native.Nat.{_-_}
+use mathlib.Core.Path.{_∙_, ap, refl, sym}
+use native.Mathlib.Omega.{arith}
 use borrow.Author.Needs.{needs}
+use Rattle.bundle.specs.Kinds.{sizeBy}
+use Rattle.admission.proofs.Passes.{size-between}
+use Rattle.releasing.proofs.Insertions.{Inserted, insert-starts, first-small, insert-open, insert-command, insert-ends, near, size-of-command}
+use Rattle.releasing.proofs.Lays.{lay-long}
 use Rattle.releasing.proofs.inserting.insert.Statement.{statement}
 use Rattle.releasing.proofs.inserting.insert.Tie as tie
-use Rattle.releasing.proofs.inserting.insert.Reads as reads
-use Rattle.releasing.proofs.inserting.insert.Lts as lts
-use Rattle.bundle.proofs.kinds.size_of.Reads as size-of-reads
-use Rattle.numbers.proofs.get8.Reads as get8-reads
-use Rattle.numbers.proofs.minus.Reads as minus-reads
-use Rattle.numbers.proofs.smaller.Reads as smaller-reads
-use Rattle.releasing.proofs.inserting.put_behind.Reads as put-behind-reads
-use Rattle.releasing.proofs.laying.copy.Reads as copy-reads
 
 abbrev Inv-loop : tie.InvT-loop
-Inv-loop bundle w out₀ n m end to₀ at₀ k₀ r₀ out to at k r = ?
+Inv-loop bundle w out₀ n m end to₀ at₀ k₀ r₀ out to at k r = Inserted bundle w out₀ to₀ out n m at k r to
 
 abbrev μ-loop : tie.MeasureT-loop
-μ-loop bundle w out₀ n m end to₀ at₀ k₀ r₀ out to at k r = ?
+μ-loop bundle w out₀ n m end to₀ at₀ k₀ r₀ out to at k r = end - at
 
--- src/inserting.rt:52:9
-minus-requires : tie.Need-minus-requires Inv-loop μ-loop
-minus-requires c κs = search needs
-
--- src/inserting.rt:53:34
-smaller-requires : tie.Need-smaller-requires Inv-loop μ-loop
-smaller-requires c κs = search needs
-
--- src/inserting.rt:53:9
 copy-requires : tie.Need-copy-requires Inv-loop μ-loop
-copy-requires c κs = search needs
+copy-requires c κs = (omega arith, omega (arith, c .before .smaller .ensures, c .before .before .minus .ensures), omega arith)
 
--- src/inserting.rt:57:5
 loop-holds : tie.Need-loop-holds Inv-loop μ-loop
-loop-holds c = search needs
+loop-holds c = insert-starts _ _ _ _ _ _ (first-small _ _ _ (c .before .before .before .before .smaller .ensures) (c .before .before .copy .ensures))
 
--- src/inserting.rt:58:13
 get8-requires : tie.Need-get8-requires Inv-loop μ-loop
-get8-requires c κs = search needs
+get8-requires c κs = omega (arith, c .before .before .before .before .before .before .before .minus .ensures)
 
--- src/inserting.rt:59:28
 cast-size-of : tie.Need-cast-size-of Inv-loop μ-loop
-cast-size-of c = search needs
+cast-size-of c = omega (arith, c .get8 .ensures .1)
 
--- src/inserting.rt:59:13
-size-of-requires : tie.Need-size-of-requires Inv-loop μ-loop
-size-of-requires c κs = search needs
-
--- src/inserting.rt:60:31
 add-copy : tie.Need-add-copy Inv-loop μ-loop
-add-copy c = search needs
+add-copy c =
+    let g = c .before .before .before in
+    omega (arith, c .size-of .ensures, size-between (c .before .get8 .result), g .before .before .before .before .before .before .minus .ensures, c .before .before .loop-test .taken)
 
--- src/inserting.rt:60:9
 copy-requires-2 : tie.Need-copy-requires-2 Inv-loop μ-loop
-copy-requires-2 c κs = search needs
+copy-requires-2 c κs =
+    let z = c .before in
+    let g = z .before .before .before in
+    let far = g .before .before .before .before .before .before .minus .ensures in
+    let pre = g .before .before .before .before .before .before .before .before .before .before .pre in
+    (omega arith, omega (arith, z .size-of .ensures, size-between (z .before .get8 .result), far, z .before .before .loop-test .taken), omega (arith, g .loop .inv .room, far, z .before .before .loop-test .taken, pre .2))
 
--- src/inserting.rt:61:9
 add-at : tie.Need-add-at Inv-loop μ-loop
-add-at c = search needs
+add-at c =
+    let z = c .before .before .before .before in
+    let g = z .before .before .before in
+    let pre = g .before .before .before .before .before .before .before .before .before .before .pre in
+    omega (arith, z .size-of .ensures, size-between (z .before .get8 .result), g .before .before .before .before .before .before .minus .ensures, z .before .before .loop-test .taken, pre .2)
 
--- src/inserting.rt:63:13
 add-k : tie.Need-add-k Inv-loop μ-loop
-add-k c = search needs
+add-k c =
+    let g = c .before .before .before .before .before .before .before .before in
+    omega (arith, g .loop .inv .few, g .before .before .before .before .before .before .minus .ensures, c .before .before .before .before .before .before .before .loop-test .taken)
 
--- src/inserting.rt:57:5
 loop-less : tie.Need-loop-less Inv-loop μ-loop
-loop-less c = search needs
+loop-less c =
+    let z = c .before .before .before .before .before in
+    omega (arith, z .size-of .ensures, size-between (z .before .get8 .result), z .before .before .loop-test .taken)
 
--- src/inserting.rt:57:5
 loop-again : tie.Need-loop-again Inv-loop μ-loop
-loop-again c = search needs
+loop-again c =
+    let z = c .before .before .before .before .before in
+    let g = z .before .before .before in
+    let b = z .before .get8 .ensures .0 in
+    insert-open _ (g .before .before .before .before .before .before .minus .ensures) (g .loop .inv) (z .before .before .loop-test .taken) _ (z .size-of .ensures ∙ ap sizeBy b)
+    (size-of-command _ _ (z .size-of .ensures)) _ _ (sym b ∙ c .if1 .taken) (c .before .before .before .copy2 .ensures)
 
--- src/inserting.rt:65:49
-add-put-behind : tie.Need-add-put-behind Inv-loop μ-loop
-add-put-behind c = search needs
-
--- src/inserting.rt:65:41
-mul-put-behind : tie.Need-mul-put-behind Inv-loop μ-loop
-mul-put-behind c = search needs
-
--- src/inserting.rt:65:41
 add-put-behind-2 : tie.Need-add-put-behind-2 Inv-loop μ-loop
-add-put-behind-2 c = search needs
+add-put-behind-2 c =
+    let g = c .before .before .before .before .before .before .before .before .before in
+    omega (arith, g .loop .inv .less, g .before .before .before .before .before .before .minus .ensures, c .before .before .before .before .before .before .before .before .loop-test .taken)
 
--- src/inserting.rt:65:13
 put-behind-requires : tie.Need-put-behind-requires Inv-loop μ-loop
-put-behind-requires c κs = search needs
+put-behind-requires c κs =
+    let z = c .before .before .before .before .before .before in
+    let g = z .before .before .before in
+    let pre = g .before .before .before .before .before .before .before .before .before .before .pre in
+    let far = g .before .before .before .before .before .before .minus .ensures in
+    let b = z .before .get8 .ensures .0 in
+    let to = near _ far (g .loop .inv) (z .before .before .loop-test .taken) _ (z .size-of .ensures ∙ ap sizeBy b) (size-of-command _ _ (z .size-of .ensures)) (c .before .before .before .before .copy2 .ensures) in
+    (pre .0, pre .1, omega (arith, to, g .loop .inv .room, far, z .before .before .loop-test .taken, pre .2))
 
--- src/inserting.rt:66:13
 add-r : tie.Need-add-r Inv-loop μ-loop
-add-r c = search needs
+add-r c =
+    let g = c .before .before .before .before .before .before .before .before .before .before .before .before in
+    omega (arith, g .loop .inv .less, g .before .before .before .before .before .before .minus .ensures, c .before .before .before .before .before .before .before .before .before .before .before .loop-test .taken)
 
--- src/inserting.rt:57:5
 loop-less-2 : tie.Need-loop-less-2 Inv-loop μ-loop
-loop-less-2 c = search needs
+loop-less-2 c =
+    let z = c .before .before .before .before .before .before .before .before .before in
+    omega (arith, z .size-of .ensures, size-between (z .before .get8 .result), z .before .before .loop-test .taken)
 
--- src/inserting.rt:57:5
 loop-again-2 : tie.Need-loop-again-2 Inv-loop μ-loop
-loop-again-2 c = search needs
+loop-again-2 c =
+    let z = c .before .before .before .before .before .before .before .before .before in
+    let g = z .before .before .before in
+    let b = z .before .get8 .ensures .0 in
+    let p = c .before .before .put-behind .ensures in
+    insert-command _ (g .before .before .before .before .before .before .minus .ensures) (g .loop .inv) (z .before .before .loop-test .taken) _ (z .size-of .ensures ∙ ap sizeBy b)
+    (size-of-command _ _ (z .size-of .ensures)) _ _ _ _ _ (λ q. c .before .before .before .before .if1 .left (b ∙ q)) (c .before .before .before .before .before .before .before .copy2 .ensures) refl (p .0) (p .1)
 
--- src/inserting.rt:69:5
 copy-requires-3 : tie.Need-copy-requires-3 Inv-loop μ-loop
-copy-requires-3 c κs = search needs
+copy-requires-3 c κs =
+    let g = c .before .before in
+    let far = g .before .before .before .before .before .before .minus .ensures in
+    let pre = g .before .before .before .before .before .before .before .before .before .before .pre in
+    (omega (arith, far), omega arith, omega (arith, g .loop .inv .room, g .loop .inv .reach, pre .2))
 
--- src/inserting.rt:48:1
 same-length : tie.Need-same-length Inv-loop μ-loop
-same-length c = search needs
+same-length c = lay-long (c .before .before .copy3 .ensures) ∙ c .before .before .before .before .before .loop .inv .long ∙ lay-long (c .before .before .before .before .before .before .before .before .copy .ensures)
 
--- src/inserting.rt:48:1
 returns : tie.Need-returns Inv-loop μ-loop
-returns c = search needs
+returns c =
+    let g = c .before .before .before .before .before in
+    let far = g .before .before .before .before .before .before in
+    insert-ends _ _ (far .minus .ensures) (g .before .before .before .before .before .smaller .ensures) (g .before .before .before .copy .ensures) (g .loop .inv) (c .before .before .before .before .loop-test .left) _ _
+    (c .before .before .copy3 .ensures)
 
 pub insert-spec : {M : Type 1} → statement M
 insert-spec =
@@ -114,21 +123,21 @@ insert-spec =
     (tie.spec
     Inv-loop
     μ-loop
-    minus-requires
-    smaller-requires
+    (λ c κs. search needs)
+    (λ c κs. search needs)
     copy-requires
     loop-holds
     get8-requires
     cast-size-of
-    size-of-requires
+    (λ c κs. search needs)
     add-copy
     copy-requires-2
     add-at
     add-k
     loop-less
     loop-again
-    add-put-behind
-    mul-put-behind
+    (λ c. search needs)
+    (λ c. search needs)
     add-put-behind-2
     put-behind-requires
     add-r
