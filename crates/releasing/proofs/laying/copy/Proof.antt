@@ -26,8 +26,7 @@ loop-again c =
     let g = c .before .before .before .before .before .before in
     let i = g .loop .inv in
     let a = g .before .before .before .args in
-    let pre = g .before .before .before .pre in
-    (
+    let pre = g .before .before .before .pre in (
       omega arith,
       omega arith,
       omega arith,

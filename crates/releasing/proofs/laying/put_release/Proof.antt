@@ -10,9 +10,11 @@ returns : tie.Need-returns
 returns c = (result-laid _ (c .before .before .before .before .before .before .before .before .if1 .taken) (c .before .before .before .before .before .before .put .ensures) (c .before .before .put2 .ensures), omega arith)
 
 returns-2 : tie.Need-returns-2
-returns-2 c =
-    (message-laid _ (c .before .before .before .before .before .before .before .before .before .before .before .before .if1 .left) (c .before .before .before .before .before .before .before .before .before .before .put3 .ensures) (c .before .before .before .before .before .before .put4 .ensures)
-    (c .before .before .put5 .ensures), omega arith)
+returns-2 c = (
+  message-laid _ (c .before .before .before .before .before .before .before .before .before .before .before .before .if1 .left) (c .before .before .before .before .before .before .before .before .before .before .put3 .ensures) (c .before .before .before .before .before .before .put4 .ensures)
+      (c .before .before .put5 .ensures),
+  omega arith,
+)
 
 pub put-release-spec : {M : Type 1} → statement M
 put-release-spec =
