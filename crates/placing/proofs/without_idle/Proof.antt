@@ -1,48 +1,39 @@
+-- `without_idle` (src/lib.rt) keeps its contract.
+use mathlib.Core.Path.{_∙_, ap, sym}
+use Rattle.workspace.proofs.Searches.{below-at}
+use Rattle.workspace.specs.Found.{foundOf}
+use Rattle.placing.proofs.Steps.{before-last, last-left}
 use borrow.Author.Needs.{needs}
 use Rattle.placing.proofs.without_idle.Statement.{statement}
 use Rattle.placing.proofs.without_idle.Tie as tie
-use Rattle.placing.proofs.without_idle.Reads as reads
-use Rattle.placing.proofs.without_idle.Lts as lts
-use Rattle.placing.proofs.last_on.Reads as last-on-reads
-use Rattle.placing.proofs.open_on.Reads as open-on-reads
-use Rattle.placing.proofs.share_or_open.Reads as share-or-open-reads
 
--- src/lib.rt:601:11
-open-on-requires : tie.Need-open-on-requires
-open-on-requires c κs = search needs
-
--- src/lib.rt:602:19
-enum-known-next : tie.Need-enum-known-next
-enum-known-next c = search needs
-
--- src/lib.rt:602:28
 share-or-open-requires : tie.Need-share-or-open-requires
-share-or-open-requires c κs = ?
+share-or-open-requires c κs =
+    let a = c .before .before .before .before .before .before in
+    let here = c .before .next .given .1 in
+    let found = c .before .before .before .open-on .ensures in
+    (a .pre .0, (a .pre .1 .0, (a .pre .1 .1, (sym (ap foundOf here) ∙ found .0, below-at 16 here (found .1)))))
 
--- src/lib.rt:603:27
-enum-told : tie.Need-enum-told
-enum-told c = search needs
-
--- src/lib.rt:603:27
-last-on-requires : tie.Need-last-on-requires
-last-on-requires c κs = search needs
-
--- src/lib.rt:595:1
 returns : tie.Need-returns
-returns c = ?
+returns c =
+    let a = c .before .before .before .before .before .before .before in
+    let found = c .share-or-open .ensures in
+    (before-last _ _ (a .args .t) (sym (ap foundOf (c .before .before .next .given .1)) ∙ c .before .before .before .before .open-on .ensures .0) (found .0), found .1)
 
--- src/lib.rt:595:1
 returns-2 : tie.Need-returns-2
-returns-2 c = ?
+returns-2 c =
+    let a = c .before .before .before .before .before .before in
+    let found = c .last-on .ensures in
+    (last-left _ _ (a .args .t) (sym (ap foundOf (c .before .enum-told .given .1)) ∙ c .before .before .before .open-on .ensures .0) (found .0), found .1)
 
 pub without-idle-spec : {M : Type 1} → statement M
 without-idle-spec =
     tie.close
     (tie.spec
-    open-on-requires
-    enum-known-next
+    (λ c κs. search needs)
+    (λ c. search needs)
     share-or-open-requires
-    enum-told
-    last-on-requires
+    (λ c. search needs)
+    (λ c κs. search needs)
     returns
     returns-2)
