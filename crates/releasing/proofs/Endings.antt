@@ -1,5 +1,5 @@
 -- The ways in which the pass ends: the bundle as it is, with its releases, the checker's refusal, or 12.
-use Prim.Native.Nat.{ℕ, _+_, _-_, _≤_, _<_}
+use Prim.Native.Nat.{ℕ, suc, _+_, _*_, _-_, _≤_, _<_}
 use native.Mathlib.Omega.{arith}
 use native.Mathlib.Decide.{decLt}
 use mathlib.Core.Bool.{Bool, true, false, not, false≢true, true≢false}
@@ -29,7 +29,7 @@ use Rattle.admission.specs.Releases.{frees}
 use Rattle.admission.specs.Messages.{Published}
 use Rattle.admission.specs.Fields.{Known, Seen}
 use Rattle.admission.specs.Views.{ViewIs, Shown}
-use Rattle.admission.specs.Notes.{slotsEnd, NotesIs}
+use Rattle.admission.specs.Notes.{releasesAt, discardsAt, slotsEnd, rank, NotesIs}
 use Rattle.admission.specs.Lasts.{LastsIs}
 use Rattle.admission.specs.Rules.{Given}
 use Rattle.admission.specs.declared.view.View.{View}
@@ -43,7 +43,8 @@ use Rattle.checker.specs.declared.Verdict.{Verdict}
 use Rattle.checker.specs.declared.Verdict.the-variants as verdicts
 use Rattle.checker.proofs.Accepted.{passes}
 use Rattle.releasing.specs.Releasing.{releasing, passed}
-use Rattle.releasing.specs.Inserting.{Lay, part, withReleases, Bare, Marked, InsertIs, FreesIs}
+use Rattle.releasing.specs.Inserting.{Lay, part, withReleases, Bare, Marked, FreesIs}
+use Rattle.releasing.specs.Queues.{Queued, Above, AllIs, InsertIs}
 use Rattle.releasing.specs.Passing.{passedBytes, pass, writtenOf, WriteIs, ReleasedIs, AcceptedIs, PassIs, ReleaseIs}
 use Rattle.releasing.specs.declared.Written.{Written}
 use Rattle.releasing.specs.declared.Written.the-variants.{Long, Refused}
@@ -80,16 +81,16 @@ same-fits bundle r l g =
     write-fits bundle r (omega (arith, h .next)) (omega (arith, h .next)) h
 
 -- with its releases, which were measured
-module _ {bundle w own own′ old : List ℕ} {n m need : ℕ} (g : InsertIs bundle w own own′ n m need) where
-  pub released-short : length old < need → ReleasedIs bundle w n m old old (Refused 12 need)
+module _ {bundle w own own′ old : List ℕ} {need : ℕ} (g : InsertIs bundle w own own′ need) where
+  pub released-short : length old < need → ReleasedIs bundle w old old (Refused 12 need)
   released-short l =
-      record { long = refl; is = λ s b en em h k. let x = g .is s b en em h k .next in write-short old (bundleBytes (withReleases s b)) need (omega arith) l }
+      record { long = refl; is = λ s b h k q. let x = g .is s b h k q .next in write-short old (bundleBytes (withReleases s b)) need (omega arith) l }
 
-  pub released-fits : {last : List ℕ} {r : ℕ} → InsertIs bundle w old last n m r → need ≤ length old → ReleasedIs bundle w n m old last (Long need)
+  pub released-fits : {last : List ℕ} {r : ℕ} → InsertIs bundle w old last r → need ≤ length old → ReleasedIs bundle w old last (Long need)
   released-fits f l =
       record {
         long = f .long;
-        is = λ s b en em h k. let x = g .is s b en em h k .next in write-fits (bundleBytes (withReleases s b)) need (omega arith) l (f .is s b en em h k);
+        is = λ s b h k q. let x = g .is s b h k q .next in write-fits (bundleBytes (withReleases s b)) need (omega arith) l (f .is s b h k q);
       }
 
 -- a bundle that the checker accepts
@@ -135,12 +136,20 @@ accepted-same {sheet} {bundle} {w} {old} {last} {v} {r} f bytes g =
           rw (some-release b (f .is s b (k .ranged .few-links) bytes (a .0)), bytes-again s bundle b bytes (a .0)) g;
     }
 
-pub accepted-released : {sheet bundle w u x old last : List ℕ} {v : View} {r : Written} {met : ℕ} → FreesIs bundle false → Bytes bundle → slotsEnd ≤ length w → NotesIs bundle w u (v .tasks) (v .links) met
-    → LastsIs sheet u x v → ReleasedIs bundle x (v .tasks) (v .links) old last r → AcceptedIs sheet bundle w x v old last r
-unfolding releasing
-accepted-released {sheet} {bundle} {w} {u} {x} {old} {last} {v} {r} {met} f bytes long notes lasts g =
+-- the marks stand where no queue does
+marked-above : {s : Sheet} {b : Bundle} {w last : List ℕ} → Above w last → Marked s b w → Marked s b last
+marked-above {s} {b} g h =
     record {
-      area = lasts .apart .long ∙ notes .kept .long;
+      results = λ t l k i y. ap (λ (u : ℕ). eqb u (4096 * suc k + rank b k i)) (g .high (releasesAt + t) (omega arith)) ∙ h .results t l k i y;
+      messages = λ l m k i y. ap (λ (u : ℕ). eqb u (4096 * suc k + rank b k i)) (g .high (discardsAt + l) (omega arith)) ∙ h .messages l m k i y;
+    }
+
+pub accepted-released : {sheet bundle w u x y old last : List ℕ} {v : View} {r : Written} {met : ℕ} → FreesIs bundle false → Bytes bundle → slotsEnd ≤ length w → NotesIs bundle w u (v .tasks) (v .links) met
+    → LastsIs sheet u x v → AllIs x y (v .tasks) (v .links) → ReleasedIs bundle y old last r → AcceptedIs sheet bundle w y v old last r
+unfolding releasing
+accepted-released {sheet} {bundle} {w} {u} {x} {y} {old} {last} {v} {r} {met} f bytes long notes lasts all g =
+    record {
+      area = all .above .long ∙ lasts .apart .long ∙ notes .kept .long;
       long = g .long;
       is =
           λ s k b e.
@@ -162,7 +171,10 @@ accepted-released {sheet} {bundle} {w} {u} {x} {old} {last} {v} {r} {met} f byte
           let given : Given s b sheet u v =
           record { known = k; count = met; notes = notes .notes s b (k .tasks) (k .links) (k .ranged .few-tasks) (k .ranged .few-links) few long bytes (a .0) }
           in
-          rw none-there (g .is s b (k .tasks) (k .links) bare (marked bare (given-apart (lasts .apart) given) (lasts-self lasts .is s k)));
+          let queued : Queued (taskCount s) (linkCount s) y 0 =
+          subst (λ (n : ℕ). Queued n (linkCount s) y 0) (sym (k .tasks)) (subst (λ (m : ℕ). Queued (v .tasks) m y 0) (sym (k .links)) (all .queued))
+          in
+          rw none-there (g .is s b bare (marked-above (all .above) (marked bare (given-apart (lasts .apart) given) (lasts-self lasts .is s k))) queued);
     }
 
 -- the pass by the checker's answer

@@ -26,7 +26,8 @@ use Rattle.admission.proofs.Ranks.{sofar-less, rank-none, rank-next, rank-more}
 use Rattle.admission.proofs.Passes.{size-between, Pass, pass-first, pass-open, pass-here, pass-on, pass-ends}
 use Rattle.releasing.specs.Releasing.{earliest, isAt, dueAt, restWith, released}
 use Rattle.releasing.specs.Releasing as passing
-use Rattle.releasing.specs.Inserting.{Lay, part, thing, dueBytes, dueFrom, behindBytes, Marked, Bare, withReleases, InsertIs}
+use Rattle.releasing.specs.Inserting.{Lay, part, thing, dueBytes, dueFrom, behindBytes, Marked, Bare, withReleases}
+use Rattle.releasing.specs.Queues.{Queued, BehindIs, InsertIs}
 use Rattle.releasing.proofs.Running.{released-rest}
 use Rattle.releasing.proofs.Lays.{lay-none, lay-as, lay-then, lay-long, part-none, part-rest}
 use Rattle.releasing.proofs.Rests.{programme-append, programme-gather, size-length, restOf, rest-command, rest-block, rest-open, rest-end, rest-first, rest-none, same, bytes-same, part-front}
@@ -78,13 +79,13 @@ pub record Writing (s : Sheet) (b : Bundle) (bundle old : List ℕ) (start : ℕ
   pub some-left : 0 < programmeCount b → Written s b bundle old start out to r k i at
   pub none-left : programmeCount b ≡ 0 → Lay old start [] out to
 
-pub record Inserted (bundle w old : List ℕ) (start : ℕ) (out : List ℕ) (n m at k r to : ℕ) : Type 0 where
+pub record Inserted (bundle w old : List ℕ) (start : ℕ) (out : List ℕ) (at k r to : ℕ) : Type 0 where
   pub long : length out ≡ length old
   pub few : 2 * k ≤ at
   pub less : 2 * r ≤ at
   pub room : to ≤ 4096 * at
   pub reach : at ≤ length bundle + 3
-  pub each : (s : Sheet) (b : Bundle) → taskCount s ≡ n → linkCount s ≡ m → Bare s b bundle → Marked s b w
+  pub each : (s : Sheet) (b : Bundle) → Bare s b bundle → Marked s b w → Queued (taskCount s) (linkCount s) w 0
       → Pass s b bundle (λ k i at. Writing s b bundle old start out to r k i at) at k
 
 -- the size of a command
@@ -118,28 +119,28 @@ writing-starts {s} {b} {bundle} old start h =
       none-left = λ n. lay-none old start;
     }
 
-pub insert-starts : (bundle w old : List ℕ) (n m start : ℕ) → start ≤ 2 → Inserted bundle w old start old n m shortSize 0 0 start
-insert-starts bundle w old n m start small =
+pub insert-starts : (bundle w old : List ℕ) (start : ℕ) → start ≤ 2 → Inserted bundle w old start old shortSize 0 0 start
+insert-starts bundle w old start small =
     record {
       long = refl;
       few = omega arith;
       less = omega arith;
       room = omega arith;
       reach = omega arith;
-      each = λ s b en em h mk. pass-first s b bundle (rows s (omega (arith, h .few-links)) bundle b (h .bytes) (h .read)) (writing-starts old start h);
+      each = λ s b h mk qs. pass-first s b bundle (rows s (omega (arith, h .few-links)) bundle b (h .bytes) (h .read)) (writing-starts old start h);
     }
 
 -- the first 50 was written before
 pub first-small : {old last : List ℕ} {r : ℕ} (bundle : List ℕ) (end begin : ℕ) → begin ≡ min end shortSize → Lay old 0 (part bundle 0 begin) last r → r ≤ 2
 first-small bundle end begin e g = omega (arith, g .next, length-take (begin - 0) (drop 0 bundle))
 
-module _ {bundle w old out : List ℕ} {start n m at k r to : ℕ} (end : ℕ) (far : end ≡ length bundle - claimSize) (g : Inserted bundle w old start out n m at k r to) (less : at < end) (z : ℕ)
+module _ {bundle w old out : List ℕ} {start at k r to : ℕ} (end : ℕ) (far : end ≡ length bundle - claimSize) (g : Inserted bundle w old start out at k r to) (less : at < end) (z : ℕ)
     (ez : z ≡ sizeBy (getD bundle at 0)) (between : (2 ≤ z) × (z ≤ 3)) where
   pub near : {last : List ℕ} {a : ℕ} → Lay out to (part bundle at (at + z)) last a → a ≤ to + 3
   near y = omega (arith, y .next, between .1, length-take ((at + z) - at) (drop at bundle))
 
   -- a programme opens
-  pub insert-open : (last : List ℕ) (a : ℕ) → getD bundle at 0 ≡ 0x50 → Lay out to (part bundle at (at + z)) last a → Inserted bundle w old start last n m (at + z) (k + 1) r a
+  pub insert-open : (last : List ℕ) (a : ℕ) → getD bundle at 0 ≡ 0x50 → Lay out to (part bundle at (at + z)) last a → Inserted bundle w old start last (at + z) (k + 1) r a
   unfolding sizeBy isMessage
   insert-open last a q y =
       let size : z ≡ shortSize = rw q at ez in
@@ -150,9 +151,9 @@ module _ {bundle w old out : List ℕ} {start n m at k r to : ℕ} (end : ℕ) (
         room = omega (arith, g .room, between .0, near y);
         reach = omega (arith, far, between .1);
         each =
-            λ s b en em h mk.
+            λ s b h mk qs.
             rw (add-one, size)
-            (pass-open s b bundle end far less q (g .each s b en em h mk)
+            (pass-open s b bundle end far less q (g .each s b h mk qs)
             (λ i l u x.
             let nz : 0 < programmeCount b = omega arith in
             record { some-left = λ _. opened s b i l u (x .some-left nz) size; none-left = λ v. absurd (omega arith) }));
@@ -182,29 +183,29 @@ module _ {bundle w old out : List ℕ} {start n m at k r to : ℕ} (end : ℕ) (
 
   -- a command, and the releases behind it
   pub insert-command : (mid last : List ℕ) (a c note : ℕ) → (getD bundle at 0 ≡ 0x50 → ⊥) → Lay out to (part bundle at (at + z)) mid a → note ≡ 4096 * (k % 16 + 1) + r
-      → Lay mid a (behindBytes w note n m) last c → c ≤ a + 7680 → Inserted bundle w old start last n m (at + z) k (r + 1) c
-  insert-command mid last a c note q y en u little =
+      → BehindIs w note mid a last c → Inserted bundle w old start last (at + z) k (r + 1) c
+  insert-command mid last a c note q y en u =
       record {
-        long = lay-long u ∙ lay-long y ∙ g .long;
+        long = u .long ∙ lay-long y ∙ g .long;
         few = omega (arith, g .few, between .0);
         less = omega (arith, g .less, between .0);
-        room = omega (arith, g .room, between .0, near y);
+        room = omega (arith, g .room, between .0, near y, u .near);
         reach = omega (arith, far, between .1);
         each =
-            λ s b et el h mk.
-            let x = pass-here s b bundle end far less q (g .each s b et el h mk) in
+            λ s b h mk qs.
+            let x = pass-here s b bundle end far less q (g .each s b h mk qs) in
             let size : z ≡ sizeOf (x .command) = ez ∙ stands-sized (taskCount s) (linkCount s) bundle at (x .command) (x .stands) in
             let below = command-below b k (x .place) (x .command) (x .here) in
             pass-on s b bundle x z size
             (record {
-              some-left = λ _. ran s b et el h mk (x .place) (x .command) (x .here) size (x .kept .some-left (omega arith));
+              some-left = λ _. ran s b h mk qs (x .place) (x .command) (x .here) size (x .kept .some-left (omega arith));
               none-left = λ v. absurd (omega arith);
             });
       }
     where
-      ran : (s : Sheet) (b : Bundle) → taskCount s ≡ n → linkCount s ≡ m → Bare s b bundle → Marked s b w → (i : ℕ) (d : Command) → getElem? (programmeOf b k) i ≡ some d → z ≡ sizeOf d
+      ran : (s : Sheet) (b : Bundle) → Bare s b bundle → Marked s b w → Queued (taskCount s) (linkCount s) w 0 → (i : ℕ) (d : Command) → getElem? (programmeOf b k) i ≡ some d → z ≡ sizeOf d
           → Written s b bundle old start out to r k i at → Written s b bundle old start last c (r + 1) k (suc i) (at + z)
-      ran s b et el h mk i d e size x =
+      ran s b h mk qs i d e size x =
           let p = programmeOf b k in
           let f = passing.releasesAt s p in
           let q = restWith f (suc i) (drop (suc i) p) in
@@ -227,19 +228,19 @@ module _ {bundle w old out : List ℕ} {start n m at k r to : ℕ} (end : ℕ) (
                 ∙ x .whole;
             lay =
                 lay-then (lay-then (x .lay) (lay-as (v .0) y))
-                (lay-as (ap₂ (behindBytes w note) (sym et) (sym el) ∙ behind-is h mk k i note (elem-below p i d e) note-is) u);
+                (lay-as (behind-is h mk k i note (elem-below p i d e) note-is) (u .is (taskCount s) (linkCount s) qs));
             count = ap (λ (j : ℕ). j + 1) (x .count) ∙ sym (rank-more s (h .few-tasks) (h .few-links) b k i d (notable-at h k i d e) e ∙ rw (eq-eqb (sofar b k i d) 0 new));
           }
 
 -- nothing but the claim is left
-pub insert-ends : {bundle w entry old out : List ℕ} {start n m at k r to : ℕ} (end begin : ℕ) → end ≡ length bundle - claimSize → begin ≡ min end shortSize → Lay entry 0 (part bundle 0 begin) old start
-    → Inserted bundle w old start out n m at k r to → end ≤ at → (last : List ℕ) (a : ℕ) → Lay out to (part bundle end (length bundle)) last a → InsertIs bundle w entry last n m a
-insert-ends {bundle} {w} {entry} {old} {out} {start} {n} {m} {at} {k} {r} {to} end begin far short first g over last a y =
+pub insert-ends : {bundle w entry old out : List ℕ} {start at k r to : ℕ} (end begin : ℕ) → end ≡ length bundle - claimSize → begin ≡ min end shortSize → Lay entry 0 (part bundle 0 begin) old start
+    → Inserted bundle w old start out at k r to → end ≤ at → (last : List ℕ) (a : ℕ) → Lay out to (part bundle end (length bundle)) last a → InsertIs bundle w entry last a
+insert-ends {bundle} {w} {entry} {old} {out} {start} {at} {k} {r} {to} end begin far short first g over last a y =
     record {
       long = lay-long y ∙ g .long ∙ lay-long first;
       is =
-          λ s b et el h mk.
-          pass-ends s b bundle end far over (g .each s b et el h mk) (λ z x. bare s b h z (x .none-left z))
+          λ s b h mk qs.
+          pass-ends s b bundle end far over (g .each s b h mk qs) (λ z x. bare s b h z (x .none-left z))
           (λ i l u x. let nz : 0 < programmeCount b = omega arith in closed s b h nz i l u (x .some-left nz));
     }
   where

@@ -13,7 +13,7 @@ use Rattle.numbers.specs.Number.{Bytes}
 use Rattle.sheet.specs.Sheet.{Sheet, taskCount, linkCount}
 use Rattle.bundle.specs.Bundle.{Command, release, discard, Bundle, programmeCount, programmeOf}
 use Rattle.bundle.specs.Format.{readBundle}
-use Rattle.bundle.specs.Writing.{commandBytes, bundleBytes}
+use Rattle.bundle.specs.Writing.{commandBytes}
 use Rattle.admission.specs.Counting.{whole}
 use Rattle.admission.specs.Releases.{frees}
 use Rattle.admission.specs.Messages.{at26, atMessage}
@@ -65,11 +65,6 @@ pub record Bare (s : Sheet) (b : Bundle) (bundle : List ℕ) : Type 0 where
 -- .. with its releases
 abbrev pub withReleases : Sheet → Bundle → Bundle
 withReleases s b = record { programmes = map (released s) (b .programmes); claim = b .claim }
-
--- the whole bundle, for a sheet of n tasks and m links
-pub record InsertIs (bundle w old last : List ℕ) (n m r : ℕ) : Type 0 where
-  pub long : length last ≡ length old
-  pub is : (s : Sheet) (b : Bundle) → taskCount s ≡ n → linkCount s ≡ m → Bare s b bundle → Marked s b w → Lay old 0 (bundleBytes (withReleases s b)) last r
 
 -- whether a bundle has a release
 pub record FreesIs (bundle : List ℕ) (r : Bool) : Type 0 where

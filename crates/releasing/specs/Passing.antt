@@ -14,6 +14,7 @@ use Rattle.admission.specs.declared.view.View.{View}
 use Rattle.checker.specs.Verdicts.{checkedBytes}
 use Rattle.releasing.specs.Releasing.{releasing, passed}
 use Rattle.releasing.specs.Inserting.{withReleases, Bare, Marked}
+use Rattle.releasing.specs.Queues.{Queued}
 use Rattle.releasing.specs.declared.Written.{Written}
 use Rattle.releasing.specs.declared.Written.the-variants.{Long, Refused}
 
@@ -33,11 +34,10 @@ pub record WriteIs (a : Answer (List ℕ)) (old last : List ℕ) (r : Written) :
   pub answer : r ≡ writtenOf a
   pub left : last ≡ written old a
 
--- a bundle without releases, whose things are marked in the words w, for a sheet of n tasks and m links
-pub record ReleasedIs (bundle w : List ℕ) (n m : ℕ) (old last : List ℕ) (r : Written) : Type 0 where
+-- a bundle without releases, whose things are marked and queued in the words w
+pub record ReleasedIs (bundle w old last : List ℕ) (r : Written) : Type 0 where
   pub long : length last ≡ length old
-  pub is : (s : Sheet) (b : Bundle) → taskCount s ≡ n → linkCount s ≡ m → Bare s b bundle → Marked s b w
-      → WriteIs (fitting (length old) (bundleBytes (withReleases s b))) old last r
+  pub is : (s : Sheet) (b : Bundle) → Bare s b bundle → Marked s b w → Queued (taskCount s) (linkCount s) w 0 → WriteIs (fitting (length old) (bundleBytes (withReleases s b))) old last r
 
 -- an accepted bundle, for a sheet seen by v
 pub record AcceptedIs (sheet bundle w w′ : List ℕ) (v : View) (old last : List ℕ) (r : Written) : Type 0 where

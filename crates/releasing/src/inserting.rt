@@ -1,10 +1,13 @@
 // A bundle's commands, each copied, and behind it the releases that are due there.
-ghost use mathlib.Core.Path.{_≡_};
-ghost use Prim.Native.Nat.{_+_, _-_, _≤_, _<_};
+ghost use Prim.Native.Nat.{_+_, _≤_, _<_};
 ghost use lib.ListN.{length};
-ghost use Rattle.releasing.specs.Inserting.{Lay, dueBytes, dueFrom, behindBytes, InsertIs, FreesIs};
+ghost use Rattle.releasing.specs.Inserting.{Lay, dueBytes, FreesIs};
+ghost use Rattle.releasing.specs.Queues.{Queues, BehindIs, InsertIs};
 use crate::laying::copy;
 use crate::laying::put_release;
+use crate::queueing::QUEUES;
+use crate::queueing::THINGS;
+use admission::notes::NOTES;
 use admission::notes::RELEASES;
 use bundle::CLAIM_SIZE;
 use bundle::SHORT_SIZE;
@@ -21,33 +24,25 @@ fn put_if_due(w: &[u32], out: &mut [u8], at: usize, note: usize, x: usize) -> us
     at
 }
 
-// Of the things from a up to e, in rising number.
-fn put_due(w: &[u32], out: &mut [u8], start: usize, note: usize, a: usize, e: usize) -> usize
-    requires { ⌜ (a ≤ e) × (e ≤ 1280) × (start < 576460752303423488) ⌝ }
-    ensures { λ r. ⌜ Lay (now (out .entry)) start (dueFrom (now (w .entry)) note a (e - a)) (now (out .exit)) r × (r ≤ start + 3840) ⌝ }
+// Behind the command with this note, by its queue.
+fn put_behind(w: &[u32], out: &mut [u8], start: usize, note: usize) -> usize
+    requires { ⌜ Queues (now w) × (start < 288230376151711744) ⌝ }
+    ensures { λ r. ⌜ BehindIs (now (w .entry)) note (now (out .entry)) start (now (out .exit)) r ⌝ }
 {
     let mut at = start;
-    let mut x = a;
-    while x < e {
+    let mut left = workspace::total::word(w, NOTES + note % QUEUES);
+    while 0 < left {
+        let x = THINGS - left;
         at = put_if_due(w, out, at, note, x);
-        x += 1;
+        left = workspace::total::word(w, x);
     }
     at
 }
 
-// Behind the command with this note: the results of n tasks, then the messages of m links.
-fn put_behind(w: &[u32], out: &mut [u8], at: usize, note: usize, n: usize, m: usize) -> usize
-    requires { ⌜ (n ≤ 256) × (m ≤ 1024) × (at < 288230376151711744) ⌝ }
-    ensures { λ r. ⌜ Lay (now (out .entry)) at (behindBytes (now (w .entry)) note n m) (now (out .exit)) r × (r ≤ at + 7680) ⌝ }
-{
-    let results = put_due(w, out, at, note, 0, n);
-    put_due(w, out, results, note, 256, 256 + m)
-}
-
 // The whole bundle with its releases, laid over `out`; its length.
-pub fn insert(bundle: &[u8], w: &[u32], out: &mut [u8], n: usize, m: usize) -> usize
-    requires { ⌜ (n ≤ 256) × (m ≤ 1024) × (length (now bundle) < 4294967296) ⌝ }
-    ensures { λ r. ⌜ InsertIs (now (bundle .entry)) (now (w .entry)) (now (out .entry)) (now (out .exit)) n m r ⌝ }
+pub fn insert(bundle: &[u8], w: &[u32], out: &mut [u8]) -> usize
+    requires { ⌜ Queues (now w) × (length (now bundle) < 4294967296) ⌝ }
+    ensures { λ r. ⌜ InsertIs (now (bundle .entry)) (now (w .entry)) (now (out .entry)) (now (out .exit)) r ⌝ }
 {
     let end = numbers::minus(bundle.len(), CLAIM_SIZE);
     let mut to = copy(bundle, 0, numbers::smaller(end, SHORT_SIZE), out, 0);
@@ -62,7 +57,7 @@ pub fn insert(bundle: &[u8], w: &[u32], out: &mut [u8], n: usize, m: usize) -> u
         if c == 0x50 {
             k += 1;
         } else {
-            to = put_behind(w, out, to, 4096 * (k % 16 + 1) + r, n, m);
+            to = put_behind(w, out, to, 4096 * (k % 16 + 1) + r);
             r += 1;
         }
     }

@@ -6,11 +6,13 @@ ghost use Rattle.workspace.specs.Area.{fixed};
 ghost use Rattle.admission.specs.Fields.{Bounded, Seen};
 ghost use Rattle.admission.specs.Notes.{slotsEnd};
 ghost use Rattle.stepping_machine.specs.Layout.{extent};
+ghost use Rattle.releasing.specs.Queues.{Queues};
 ghost use Rattle.releasing.specs.Passing.{WriteIs, ReleasedIs, AcceptedIs, PassIs, ReleaseIs};
 use crate::Written;
 use crate::inserting::has_release;
 use crate::inserting::insert;
 use crate::laying::copy;
+use crate::queueing::queue_all;
 use admission::notes::note_all;
 use admission::releases::keep_lasts;
 use admission::view::View;
@@ -32,16 +34,16 @@ fn put_same(bundle: &[u8], out: &mut [u8]) -> Written
 }
 
 // A bundle without releases, with them. It is measured first, by laying it over a byte of our own.
-fn put_released(bundle: &[u8], w: &[u32], out: &mut [u8], n: usize, m: usize) -> Written
-    requires { ⌜ (n ≤ 256) × (m ≤ 1024) × (length (now bundle) < 4294967296) ⌝ }
-    ensures { λ r. ⌜ ReleasedIs (now (bundle .entry)) (now (w .entry)) n m (now (out .entry)) (now (out .exit)) r ⌝ }
+fn put_released(bundle: &[u8], w: &[u32], out: &mut [u8]) -> Written
+    requires { ⌜ Queues (now w) × (length (now bundle) < 4294967296) ⌝ }
+    ensures { λ r. ⌜ ReleasedIs (now (bundle .entry)) (now (w .entry)) (now (out .entry)) (now (out .exit)) r ⌝ }
 {
     let mut own: [u8; 1] = [0; 1];
-    let need = insert(bundle, w, &mut own, n, m);
+    let need = insert(bundle, w, &mut own);
     if out.len() < need {
         return Written::Refused(12, need);
     }
-    insert(bundle, w, out, n, m);
+    insert(bundle, w, out);
     Written::Long(need)
 }
 
@@ -55,7 +57,8 @@ fn pass_accepted(sheet: &[u8], bundle: &[u8], w: &mut [u32], v: View, out: &mut 
     }
     note_all(bundle, w, v.tasks, v.links);
     keep_lasts(sheet, w, v);
-    put_released(bundle, w, out, v.tasks, v.links)
+    queue_all(w, v.tasks, v.links);
+    put_released(bundle, w, out)
 }
 
 // Any bytes, for a sheet seen by v.

@@ -11,16 +11,16 @@ use Rattle.releasing.proofs.inserting.insert.Statement.{statement}
 use Rattle.releasing.proofs.inserting.insert.Tie as tie
 
 abbrev Inv-loop : tie.InvT-loop
-Inv-loop bundle w out₀ n m end to₀ at₀ k₀ r₀ out to at k r = Inserted bundle w out₀ to₀ out n m at k r to
+Inv-loop bundle w out₀ end to₀ at₀ k₀ r₀ out to at k r = Inserted bundle w out₀ to₀ out at k r to
 
 abbrev μ-loop : tie.MeasureT-loop
-μ-loop bundle w out₀ n m end to₀ at₀ k₀ r₀ out to at k r = end - at
+μ-loop bundle w out₀ end to₀ at₀ k₀ r₀ out to at k r = end - at
 
 copy-requires : tie.Need-copy-requires Inv-loop μ-loop
 copy-requires c κs = (omega arith, omega (arith, c .before .smaller .ensures, c .before .before .minus .ensures), omega arith)
 
 loop-holds : tie.Need-loop-holds Inv-loop μ-loop
-loop-holds c = insert-starts _ _ _ _ _ _ (first-small _ _ _ (c .before .before .before .before .smaller .ensures) (c .before .before .copy .ensures))
+loop-holds c = insert-starts _ _ _ _ (first-small _ _ _ (c .before .before .before .before .smaller .ensures) (c .before .before .copy .ensures))
 
 get8-requires : tie.Need-get8-requires Inv-loop μ-loop
 get8-requires c κs = omega (arith, c .before .before .before .before .before .before .before .minus .ensures)
@@ -39,14 +39,14 @@ copy-requires-2 c κs =
     let g = z .before .before .before in
     let far = g .before .before .before .before .before .before .minus .ensures in
     let pre = g .before .before .before .before .before .before .before .before .before .before .pre in
-    (omega arith, omega (arith, z .size-of .ensures, size-between (z .before .get8 .result), far, z .before .before .loop-test .taken), omega (arith, g .loop .inv .room, far, z .before .before .loop-test .taken, pre .2))
+    (omega arith, omega (arith, z .size-of .ensures, size-between (z .before .get8 .result), far, z .before .before .loop-test .taken), omega (arith, g .loop .inv .room, far, z .before .before .loop-test .taken, pre .1))
 
 add-at : tie.Need-add-at Inv-loop μ-loop
 add-at c =
     let z = c .before .before .before .before in
     let g = z .before .before .before in
     let pre = g .before .before .before .before .before .before .before .before .before .before .pre in
-    omega (arith, z .size-of .ensures, size-between (z .before .get8 .result), g .before .before .before .before .before .before .minus .ensures, z .before .before .loop-test .taken, pre .2)
+    omega (arith, z .size-of .ensures, size-between (z .before .get8 .result), g .before .before .before .before .before .before .minus .ensures, z .before .before .loop-test .taken, pre .1)
 
 add-k : tie.Need-add-k Inv-loop μ-loop
 add-k c =
@@ -79,7 +79,7 @@ put-behind-requires c κs =
     let far = g .before .before .before .before .before .before .minus .ensures in
     let b = z .before .get8 .ensures .0 in
     let to = near _ far (g .loop .inv) (z .before .before .loop-test .taken) _ (z .size-of .ensures ∙ ap sizeBy b) (size-of-command _ _ (z .size-of .ensures)) (c .before .before .before .before .copy2 .ensures) in
-    (pre .0, pre .1, omega (arith, to, g .loop .inv .room, far, z .before .before .loop-test .taken, pre .2))
+    (pre .0, omega (arith, to, g .loop .inv .room, far, z .before .before .loop-test .taken, pre .1))
 
 add-r : tie.Need-add-r Inv-loop μ-loop
 add-r c =
@@ -96,16 +96,15 @@ loop-again-2 c =
     let z = c .before .before .before .before .before .before .before .before .before in
     let g = z .before .before .before in
     let b = z .before .get8 .ensures .0 in
-    let p = c .before .before .put-behind .ensures in
     insert-command _ (g .before .before .before .before .before .before .minus .ensures) (g .loop .inv) (z .before .before .loop-test .taken) _ (z .size-of .ensures ∙ ap sizeBy b)
-    (size-of-command _ _ (z .size-of .ensures)) _ _ _ _ _ (λ q. c .before .before .before .before .if1 .left (b ∙ q)) (c .before .before .before .before .before .before .before .copy2 .ensures) refl (p .0) (p .1)
+    (size-of-command _ _ (z .size-of .ensures)) _ _ _ _ _ (λ q. c .before .before .before .before .if1 .left (b ∙ q)) (c .before .before .before .before .before .before .before .copy2 .ensures) refl (c .before .before .put-behind .ensures)
 
 copy-requires-3 : tie.Need-copy-requires-3 Inv-loop μ-loop
 copy-requires-3 c κs =
     let g = c .before .before in
     let far = g .before .before .before .before .before .before .minus .ensures in
     let pre = g .before .before .before .before .before .before .before .before .before .before .pre in
-    (omega (arith, far), omega arith, omega (arith, g .loop .inv .room, g .loop .inv .reach, pre .2))
+    (omega (arith, far), omega arith, omega (arith, g .loop .inv .room, g .loop .inv .reach, pre .1))
 
 same-length : tie.Need-same-length Inv-loop μ-loop
 same-length c = lay-long (c .before .before .copy3 .ensures) ∙ c .before .before .before .before .before .loop .inv .long ∙ lay-long (c .before .before .before .before .before .before .before .before .copy .ensures)

@@ -1,5 +1,4 @@
--- `pass_accepted` (src/passes.rt) keeps its contract.
-use mathlib.Core.Path.{_∙_, sym}
+-- `pass_accepted` (src/passes.rt) keeps its contract. `t` is the test for a release.
 use native.Mathlib.Omega.{arith}
 use borrow.Author.Needs.{needs}
 use Rattle.releasing.proofs.Endings.{accepted-same, accepted-released, frees-told}
@@ -11,11 +10,20 @@ returns c =
     let t = c .before .before .before .before in
     accepted-same (frees-told (t .before .has-release .ensures) (t .if1 .taken)) (λ k. omega (arith, t .before .before .before .before .shared-slice-known2 .given k)) (c .before .before .put-same .ensures)
 
+put-released-requires : tie.Need-put-released-requires
+put-released-requires c κs =
+    let q = c .before .before .before .before in
+    let p = q .before .before .before .before .before .before .before .before .before .before .before .before .before .before .before .before .pre in
+    (record { tasks = _; links = _; queued = q .queue-all .ensures .queued }, p .2)
+
 returns-2 : tie.Need-returns-2
 returns-2 c =
-    let t = c .before .before .before .before .before .before .before .before .before .before .before .before .before in
-    accepted-released (frees-told (t .before .has-release .ensures) (t .if1 .left)) (λ k. omega (arith, t .before .before .before .before .shared-slice-known2 .given k)) (t .before .before .before .before .before .before .pre .1) (c .before .before .before .before .before .before .before .before .before .before .before .note-all .ensures)
-    (c .before .before .before .before .before .before .before .keep-lasts .ensures) (c .before .before .put-released .ensures)
+    let q = c .before .before .before .before .before .before .before in
+    let l = q .before .before .before .before in
+    let n = l .before .before .before .before in
+    let t = n .before .before in
+    accepted-released (frees-told (t .before .has-release .ensures) (t .if1 .left)) (λ k. omega (arith, t .before .before .before .before .shared-slice-known2 .given k)) (t .before .before .before .before .before .before .pre .1)
+    (n .note-all .ensures) (l .keep-lasts .ensures) (q .queue-all .ensures) (c .before .before .put-released .ensures)
 
 pub pass-accepted-spec : {M : Type 1} → statement M
 pass-accepted-spec =
@@ -28,6 +36,7 @@ pass-accepted-spec =
     (λ c κs. search needs)
     (λ c κs. search needs)
     (λ c κs. search needs)
+    put-released-requires
     (λ c. search needs)
     (λ c. search needs)
     returns-2)
