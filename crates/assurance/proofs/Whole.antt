@@ -121,7 +121,8 @@ start-read sheet bundle s b e =
     let r = andThen-value (readBundle (p .0) bundle) (admitted (p .0)) (q .0) (q .1) in
     let u = unless-value 26 (at26 (p .0) (r .0)) _ (q .0) (r .2) in
     let v = unlessAt-value (atMessage (p .0) (r .0)) _ (q .0) (u .1) in
-    let w = unless-value 28 (at28 (p .0) (r .0)) _ (q .0) (v .1) in
+    let f = unless-value 37 (at37 (p .0) (r .0)) _ (q .0) (v .1) in
+    let w = unless-value 28 (at28 (p .0) (r .0)) _ (q .0) (f .1) in
     let pair : _≡_ {A = Sheet × Bundle} (p .0, q .0) (s, b) = value-same (q .2) in
     let es : p .0 ≡ s = ap (λ (z : Sheet × Bundle). z .0) pair in
     let eb : r .0 ≡ b = value-same (w .1) ∙ ap (λ (z : Sheet × Bundle). z .1) pair in

@@ -39,7 +39,8 @@ pub fn queue_all(w: &mut [u32], n: usize, m: usize)
     requires { ⌜ (n ≤ 256) × (m ≤ 1024) × (slotsEnd ≤ length (now w)) ⌝ }
     ensures { λ _. ⌜ AllIs (now (w .entry)) (now (w .exit)) n m ⌝ }
 {
+    let end = 256 + m;
     workspace::clear_words(w, NOTES, NOTES + QUEUES);
-    queue_things(w, 256, 256 + m);
+    queue_things(w, 256, end);
     queue_things(w, 0, n);
 }
