@@ -11,9 +11,10 @@ use Rattle.workspace.specs.Area.{fixed}
 use Rattle.sheet.specs.Sheet.{Sheet, linkCount}
 use Rattle.graph.specs.Graph.{readSheet}
 use Rattle.graph.proofs.Proper.{proper}
-use Rattle.bundle.specs.Bundle.{Bundle}
+use Rattle.bundle.specs.Bundle.{Bundle, programmeCount}
 use Rattle.bundle.specs.Format.{readBundle}
 use Rattle.bundle.specs.Writing.{bundleBytes}
+use Rattle.bundle.specs.Fits.{Fits}
 use Rattle.bundle.proofs.Backs.{read-back}
 use Rattle.bundle.proofs.Rounds.{bytes-again, read-fits}
 use Rattle.checker.specs.Checker.{checked, check}
@@ -22,6 +23,7 @@ use Rattle.releasing.specs.Releasing.{releasing, passed}
 use Rattle.releasing.specs.Passing.{passedBytes, pass}
 use Rattle.releasing.proofs.Passed.{accepted-again, comes-out, passing-twice}
 use Rattle.releasing.proofs.Fitting.{fits-passed}
+use Rattle.releasing.proofs.Longest.{published-long}
 use Rattle.releasing.proofs.Sentences.{passed-all, passed-earliest, passed-less}
 use Rattle.zeldrupa.specs.Promises.{checkAnswer, GivesCheck, releaseAnswer, GivesRelease}
 use Rattle.zeldrupa.proofs.Gives.{enough}
@@ -122,9 +124,19 @@ module _ {sheet bundle : List ℕ} (x : Read sheet bundle) (bytes : Bytes bundle
   few-links : linkCount (x .s) ≤ 65536
   few-links = omega (arith, proper sheet (x .s) (x .sheet-is) .form .links)
 
-  -- the passed bundle is read from its bytes
+  fits : Fits (x .s) (releasing (x .s) (x .b))
+  fits = fits-passed (x .s) (x .b) (read-fits (x .s) bundle (x .b) bytes (x .bundle-is))
+
+  -- the passed bundle is short, and is read from its bytes
+  short-passed : checked (x .s) (releasing (x .s) (x .b)) ≡ value (releasing (x .s) (x .b)) → length (bundleBytes (releasing (x .s) (x .b))) ≤ 10277
+  unfolding programmeCount
+  short-passed e =
+      let f = proper sheet (x .s) (x .sheet-is) .form in
+      published-long (x .s) (releasing (x .s) (x .b)) (passes (x .s) (releasing (x .s) (x .b)) (releasing (x .s) (x .b)) e .0 .published) (fits .formed .known) (f .tasks) (f .links)
+      (omega (arith, fits .formed .few, f .board-few))
+
   read-passed : readBundle (x .s) (bundleBytes (releasing (x .s) (x .b))) ≡ value (releasing (x .s) (x .b))
-  read-passed = read-back (x .s) (releasing (x .s) (x .b)) few-links (fits-passed (x .s) (x .b) (read-fits (x .s) bundle (x .b) bytes (x .bundle-is)))
+  read-passed = read-back (x .s) (releasing (x .s) (x .b)) few-links fits
 
   passed-is : (v : List ℕ) → pass sheet bundle ≡ value v → Passed x v
   unfolding check
@@ -141,6 +153,7 @@ module _ {sheet bundle : List ℕ} (x : Read sheet bundle) (bytes : Bytes bundle
         read = read;
         accepted = λ area area′ q r l g. check-returns sheet v area area′ q r (releasing s b) l g (rw (x .sheet-is, read) (again .0));
         claim = again .1;
+        short = omega (arith, short-passed (again .0), ap length (a .1));
         never-more = λ cs k. passed-less s b b (a .0) cs k;
         inserted = λ z. record { all = passed-all s b z; earliest = λ k j m c h f l. passed-earliest s b z k j m c h f l };
         same = λ l. a .1 ∙ ap bundleBytes (comes-out s b l) ∙ bytes-again s bundle b bytes (x .bundle-is);

@@ -43,6 +43,8 @@ pub record Passed {sheet bundle : List ℕ} (x : Read sheet bundle) (bytes : Lis
   -- "the passed bundle is accepted with the same claim"
   pub accepted : (area area′ : List ℕ) (q r : ℕ) → fixed ≤ length area → GivesCheck sheet bytes area area′ q r → r ≡ 0
   pub claim : b′ .claim ≡ x .b .claim
+  -- the greatest length of a bundle with all its releases
+  pub short : length bytes ≤ 10277
   -- "and never needs more store": after any choices with any times, no more is in use than in the bundle behind as many runs, sends and receives of that programme
   pub never-more : (cs : List Choice) (k : ℕ) → let p = processorOf (earlyOf (x .s) b′ cs .state) k in
       (i : ℕ) × ((ownBefore (programmeOf b′ k) (p .position) ≡ ownBefore (programmeOf (x .b) k) i) × (p .store ≤ inUse (x .s) (programmeOf (x .b) k) i))
