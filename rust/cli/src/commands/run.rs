@@ -6,7 +6,7 @@ use crate::answer::{Answer, Fault};
 use crate::arguments::Arguments;
 use crate::loader::{Loader, SheetFile};
 use crate::table::aligned;
-use crate::text::link_shown;
+use crate::text::{command_shown, link_shown};
 use crate::trace::{step, Event};
 use inputs::Random;
 use zeldrupa::{Command as Step, Machine};
@@ -142,6 +142,13 @@ impl Log<'_> {
                 };
                 format!("{received}{unpacked}, store {store}")
             }
+            Step::Release(task) => {
+                let name = self.of.names.told(task.into());
+                format!("releases {name} at {start}, store {store}")
+            }
+            Step::Discard(number) => {
+                format!("discards {} at {start}, store {store}", link(number))
+            }
         }
     }
 
@@ -164,17 +171,13 @@ fn state(machine: &Machine, of: &SheetFile) -> String {
     let mut rows = vec![["processor", "clock", "store", "next"].map(str::to_string).into()];
     for (k, processor) in machine.processors().enumerate() {
         let link = |link: u16| link_shown(&of.sheet, &of.names, link.into());
-        let next = match machine.next(k) {
-            None => "done".into(),
-            Some(Step::Run(task)) => format!("run {}", of.names.told(task.into())),
-            Some(Step::Send(number)) => format!("send {}", link(number)),
-            Some(Step::Receive(number)) => format!("receive {}", link(number)),
-        };
+        let task = |task: u8| of.names.told(task.into());
+        let next = machine.next(k).map(|command| command_shown(command, task, link));
         rows.push(vec![
             k.to_string(),
             processor.clock.to_string(),
             processor.store.to_string(),
-            next,
+            next.unwrap_or_else(|| "done".into()),
         ]);
     }
     let left = machine.left();

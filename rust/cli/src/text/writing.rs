@@ -36,6 +36,21 @@ pub fn link_shown(sheet: &Sheet, names: &Names, link: usize) -> String {
     format!("{} -> {}", names.shown(ends.source.into()), names.shown(ends.target.into()))
 }
 
+/// A command, with these ways to show a task and a link.
+pub fn command_shown(
+    command: Command,
+    task: impl Fn(u8) -> String,
+    link: impl Fn(u16) -> String,
+) -> String {
+    match command {
+        Command::Run(number) => format!("run {}", task(number)),
+        Command::Send(number) => format!("send {}", link(number)),
+        Command::Receive(number) => format!("receive {}", link(number)),
+        Command::Release(number) => format!("release {}", task(number)),
+        Command::Discard(number) => format!("discard {}", link(number)),
+    }
+}
+
 /// The text of a bundle; without its sheet links go by their numbers.
 pub fn bundle_text(bundle: &Bundle, sheet: Option<(&Sheet, &Names)>) -> String {
     let task = |task: u8| match sheet {
@@ -50,11 +65,7 @@ pub fn bundle_text(bundle: &Bundle, sheet: Option<(&Sheet, &Names)>) -> String {
     for (number, programme) in bundle.programmes().iter().enumerate() {
         text += &format!("processor {number}\n");
         for &command in programme {
-            text += &match command {
-                Command::Run(number) => format!("  run {}\n", task(number)),
-                Command::Send(number) => format!("  send {}\n", link(number)),
-                Command::Receive(number) => format!("  receive {}\n", link(number)),
-            };
+            text += &format!("  {}\n", command_shown(command, task, link));
         }
     }
     text + &format!("claim {}\n", bundle.claim())
