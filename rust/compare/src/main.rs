@@ -10,6 +10,7 @@ mod lent;
 mod loads;
 mod machine;
 mod planner;
+mod releases;
 mod rules;
 mod tally;
 mod weights;
@@ -37,6 +38,8 @@ const FEWEST_LOADS: usize = 50_000;
 /// The fewest sheets with unpacking that are planned, against the fast rewrite and against the literal
 /// rules.
 const FEWEST_UNPACKING: [usize; 2] = [50_000, 1_000_000];
+/// The fewest bundles with releases that are checked, against either.
+const FEWEST_RELEASES: usize = 1_000_000;
 /// The fewest calls of each function that are held against the literal rules.
 const FEWEST_OF_EACH: usize = 1_000_000;
 /// How often each family of small inputs is run, so that they share the threads evenly.
@@ -113,6 +116,7 @@ fn fast_shortfalls(tally: &Tally) -> Vec<String> {
         ("formulas", tally.calls_of(Function::Weight), FEWEST_FORMULAS),
         ("test loads", tally.calls_of(Function::Generate), FEWEST_LOADS),
         ("sheets with unpacking", tally.with_unpacking(), FEWEST_UNPACKING[0]),
+        ("bundles with releases", tally.with_releases(), FEWEST_RELEASES),
     ];
     counts.into_iter().filter_map(shortfall).collect()
 }
@@ -120,8 +124,11 @@ fn fast_shortfalls(tally: &Tally) -> Vec<String> {
 /// What was held against the literal rules too seldom.
 fn literal_shortfalls(tally: &Tally) -> Vec<String> {
     let calls = FUNCTIONS.map(|f| (f.name(), tally.calls_of(f), FEWEST_OF_EACH));
-    let unpacking = ("sheets with unpacking", tally.with_unpacking(), FEWEST_UNPACKING[1]);
-    calls.into_iter().chain([unpacking]).filter_map(shortfall).collect()
+    let inputs = [
+        ("sheets with unpacking", tally.with_unpacking(), FEWEST_UNPACKING[1]),
+        ("bundles with releases", tally.with_releases(), FEWEST_RELEASES),
+    ];
+    calls.into_iter().chain(inputs).filter_map(shortfall).collect()
 }
 
 /// Something that came less often than it has to.

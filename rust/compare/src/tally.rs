@@ -1,6 +1,8 @@
 //! How often each function gave each answer and each rule of placing decided, and which of them have to
 //! at least once.
 
+use reference::bundle::{commands, Command};
+
 /// A function of the interface.
 #[derive(Clone, Copy, Debug, PartialEq, Eq)]
 pub enum Function {
@@ -13,6 +15,7 @@ pub enum Function {
     ReadBundle,
     WriteBundle,
     Check,
+    Release,
     Better,
     Start,
     Run,
@@ -24,7 +27,7 @@ pub enum Function {
 }
 
 /// Every function that is compared.
-pub const FUNCTIONS: [Function; 17] = [
+pub const FUNCTIONS: [Function; 18] = [
     Function::ReadSheet,
     Function::WriteSheet,
     Function::Generate,
@@ -34,6 +37,7 @@ pub const FUNCTIONS: [Function; 17] = [
     Function::ReadBundle,
     Function::WriteBundle,
     Function::Check,
+    Function::Release,
     Function::Better,
     Function::Start,
     Function::Run,
@@ -60,6 +64,7 @@ impl Function {
             Function::ReadBundle => "read_bundle",
             Function::WriteBundle => "write_bundle",
             Function::Check => "check",
+            Function::Release => "release",
             Function::Better => "better",
             Function::Start => "start",
             Function::Run => "run",
@@ -83,9 +88,12 @@ impl Function {
             Function::ReadBundle | Function::WriteBundle => {
                 sheet || number == 12 || matches!(number, 21..=25)
             }
-            Function::Check => sheet || matches!(number, 21..=26 | 28..=33),
+            Function::Check => sheet || matches!(number, 21..=26 | 28..=33 | 37),
+            Function::Release => sheet || matches!(number, 12 | 21..=26 | 28..=33 | 37),
             Function::Better => sheet || number == 34,
-            Function::Start | Function::Run => sheet || matches!(number, 21..=26 | 28 | 31..=33),
+            Function::Start | Function::Run => {
+                sheet || matches!(number, 21..=26 | 28 | 31..=33 | 37)
+            }
             Function::Step | Function::Left | Function::Processor | Function::Stamp => {
                 matches!(number, 0 | 13)
             }
@@ -95,7 +103,7 @@ impl Function {
 }
 
 /// The greatest number of a refusal, and every number that an answer can have.
-const GREATEST: u8 = 36;
+const GREATEST: u8 = 37;
 const NUMBERS: std::ops::RangeInclusive<u8> = 0..=GREATEST;
 
 /// The rules that give a task its processor: the steps, and the guard where it bars the processor that
@@ -117,6 +125,8 @@ pub struct Tally {
     reasons: [usize; REASONS.len()],
     /// How many sheets that were planned have a `55` directly behind the board, wrong ones among them.
     unpacking: usize,
+    /// How many bundles that were checked have a release, wrong ones among them.
+    releases: usize,
 }
 
 impl Default for Tally {
@@ -126,6 +136,7 @@ impl Default for Tally {
             rules: [0; RULES.len()],
             reasons: [0; REASONS.len()],
             unpacking: 0,
+            releases: 0,
         }
     }
 }
@@ -144,6 +155,17 @@ impl Tally {
     /// The sheets that say how long receives take.
     pub fn with_unpacking(&self) -> usize {
         self.unpacking
+    }
+
+    /// Counts a bundle that is checked, if it has a release.
+    pub fn count_bundle(&mut self, bundle: &[u8]) {
+        let is_release = |command| matches!(command, Command::Release(_) | Command::Discard(_));
+        self.releases += usize::from(commands(bundle).any(is_release));
+    }
+
+    /// The bundles that have a release.
+    pub fn with_releases(&self) -> usize {
+        self.releases
     }
 
     /// Counts a turn of the planner by the step that decided, from 0, and whether the guard did at join
@@ -166,6 +188,7 @@ impl Tally {
         let more = other.counts.as_flattened().iter().chain(&other.rules).chain(&other.reasons);
         counts.zip(more).for_each(|(count, more)| *count += more);
         self.unpacking += other.unpacking;
+        self.releases += other.releases;
     }
 
     /// All answers.
@@ -192,6 +215,7 @@ impl Tally {
             println!("{what} decided by {}", named.collect::<Vec<_>>().join(", "));
         }
         println!("sheets with unpacking {}", self.unpacking);
+        println!("bundles with releases {}", self.releases);
         for functions in FUNCTIONS.chunks(COLUMNS) {
             let row = |name: &str, cell: &dyn Fn(Function) -> String| {
                 let cells: String = functions.iter().map(|&f| format!("{:>14}", cell(f))).collect();

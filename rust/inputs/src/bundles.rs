@@ -303,32 +303,43 @@ pub fn unsettle(random: &mut Random, sheet: &Sheet, bundle: &mut Bundle) {
     let mut commands = bundle.commands.as_chunks().0.to_vec();
     let is_release = |command: Pair| matches!(command[0], RELEASE | DISCARD);
     let places: Vec<usize> = (0..commands.len()).filter(|&at| is_release(commands[at])).collect();
-    let anywhere = random.below(commands.len() + 1);
+    // Seldom before the first programme.
+    let first = usize::from(!random.once_in(16));
+    let anywhere = random.within(first.min(commands.len())..=commands.len());
+    let other = any_release(random, sheet);
     if places.is_empty() || random.once_in(8) {
-        let tasks = random.once_in(2);
-        let count = if tasks { sheet.task_count() } else { sheet.link_count() };
-        let number = random.below(count + 1) as u16;
-        commands.insert(anywhere, [if tasks { RELEASE } else { DISCARD }, number]);
+        commands.insert(anywhere, other);
     } else {
         let at = random.pick(&places);
-        let [byte, number] = commands[at];
-        let near = (at + random.within(0..=8)).saturating_sub(4).min(commands.len() - 1);
+        let release = commands[at];
+        let near = (at + random.below(9)).saturating_sub(4).max(first).min(commands.len() - 1);
         match random.below(8) {
             0 => drop(commands.remove(at)),
-            1 => commands.insert(anywhere, [byte, number]),
-            2 => commands.insert(near, [byte, number]),
-            3 => commands[at] = [byte, number ^ 1 << random.below(3)],
-            4 => commands[at] = [byte ^ RELEASE ^ DISCARD, number],
+            1 => commands.insert(anywhere, release),
+            2 => commands.insert(near, release),
+            3 => commands[at] = other,
+            4 => commands[at] = [release[0] ^ RELEASE ^ DISCARD, release[1]],
+            5 => {
+                commands.remove(at);
+                commands.insert(anywhere.min(commands.len()), release);
+            }
             _ => {
-                let moved = commands.remove(at);
-                commands.insert(
-                    if random.once_in(4) { anywhere.min(commands.len()) } else { near },
-                    moved,
-                );
+                commands.remove(at);
+                commands.insert(near, release);
             }
         }
     }
     bundle.commands = commands.into_flattened();
+}
+
+/// A release of a result or a message of the sheet, seldom one with a number that it does not have.
+fn any_release(random: &mut Random, sheet: &Sheet) -> Pair {
+    let (byte, count) = match random.once_in(2) {
+        true => (RELEASE, sheet.task_count()),
+        false => (DISCARD, sheet.link_count()),
+    };
+    let beyond = usize::from(count == 0 || random.once_in(16));
+    [byte, random.below(count + beyond) as u16]
 }
 
 /// The bytes of a bundle to compare with this one: the same, with other empty programmes, with another

@@ -34,6 +34,24 @@ impl Command {
             Command::Discard(link) => [DISCARD, link],
         }
     }
+
+    /// The command in the words of the text form, with these ways to show a task and a link.
+    ///
+    /// ```
+    /// use zeldrupa::Command;
+    ///
+    /// let told = |command: Command| command.told(|task| format!("#{task}"), |link| link.to_string());
+    /// assert_eq!([Command::Run(3), Command::Discard(7)].map(told), ["run #3", "discard 7"]);
+    /// ```
+    pub fn told(self, task: impl FnOnce(u8) -> String, link: impl FnOnce(u16) -> String) -> String {
+        match self {
+            Command::Run(number) => format!("run {}", task(number)),
+            Command::Send(number) => format!("send {}", link(number)),
+            Command::Receive(number) => format!("receive {}", link(number)),
+            Command::Release(number) => format!("release {}", task(number)),
+            Command::Discard(number) => format!("discard {}", link(number)),
+        }
+    }
 }
 
 /// A bundle of the published form for a sheet, to which none of the refusals 21 to 25 applies, made

@@ -6,7 +6,7 @@ use crate::answer::{Answer, Fault};
 use crate::arguments::Arguments;
 use crate::loader::{Loader, SheetFile};
 use crate::table::aligned;
-use crate::text::{command_shown, link_shown};
+use crate::text::link_shown;
 use crate::trace::{step, Event};
 use inputs::Random;
 use zeldrupa::{Command as Step, Machine};
@@ -172,7 +172,7 @@ fn state(machine: &Machine, of: &SheetFile) -> String {
     for (k, processor) in machine.processors().enumerate() {
         let link = |link: u16| link_shown(&of.sheet, &of.names, link.into());
         let task = |task: u8| of.names.told(task.into());
-        let next = machine.next(k).map(|command| command_shown(command, task, link));
+        let next = machine.next(k).map(|command| command.told(task, link));
         rows.push(vec![
             k.to_string(),
             processor.clock.to_string(),

@@ -2,7 +2,7 @@
 
 use super::names::Names;
 use crate::table::aligned;
-use zeldrupa::{Board, Bundle, Command, Sheet};
+use zeldrupa::{Board, Bundle, Sheet};
 
 /// The text of a sheet.
 pub fn sheet_text(sheet: &Sheet, names: &Names) -> String {
@@ -36,21 +36,6 @@ pub fn link_shown(sheet: &Sheet, names: &Names, link: usize) -> String {
     format!("{} -> {}", names.shown(ends.source.into()), names.shown(ends.target.into()))
 }
 
-/// A command, with these ways to show a task and a link.
-pub fn command_shown(
-    command: Command,
-    task: impl Fn(u8) -> String,
-    link: impl Fn(u16) -> String,
-) -> String {
-    match command {
-        Command::Run(number) => format!("run {}", task(number)),
-        Command::Send(number) => format!("send {}", link(number)),
-        Command::Receive(number) => format!("receive {}", link(number)),
-        Command::Release(number) => format!("release {}", task(number)),
-        Command::Discard(number) => format!("discard {}", link(number)),
-    }
-}
-
 /// The text of a bundle; without its sheet links go by their numbers.
 pub fn bundle_text(bundle: &Bundle, sheet: Option<(&Sheet, &Names)>) -> String {
     let task = |task: u8| match sheet {
@@ -65,7 +50,7 @@ pub fn bundle_text(bundle: &Bundle, sheet: Option<(&Sheet, &Names)>) -> String {
     for (number, programme) in bundle.programmes().iter().enumerate() {
         text += &format!("processor {number}\n");
         for &command in programme {
-            text += &format!("  {}\n", command_shown(command, task, link));
+            text += &format!("  {}\n", command.told(task, link));
         }
     }
     text + &format!("claim {}\n", bundle.claim())

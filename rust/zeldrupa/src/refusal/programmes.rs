@@ -155,15 +155,7 @@ fn command_at(read: &Read, offset: usize) -> Option<(usize, Stand)> {
 
 /// A command with the names of what it is about.
 fn shown(read: &Read, command: Command) -> String {
-    let task = |task: u8| read.about.task(task.into());
-    let link = |link: u16| read.link(link.into());
-    match command {
-        Command::Run(number) => format!("run {}", task(number)),
-        Command::Send(number) => format!("send {}", link(number)),
-        Command::Receive(number) => format!("receive {}", link(number)),
-        Command::Release(number) => format!("release {}", task(number)),
-        Command::Discard(number) => format!("discard {}", link(number)),
-    }
+    command.told(|task| read.about.task(task.into()), |link| read.link(link.into()))
 }
 
 /// The command that gets what is released, and those that need it, wherever they stand.
