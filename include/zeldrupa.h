@@ -24,7 +24,7 @@ extern "C" {
 
 /* The greatest lengths in bytes: of a sheet that is read, of a bundle that is accepted, and of a listing.
  * A longer input may be lent: it is refused. */
-#define ZELDRUPA_LONGEST_SHEET 8458
+#define ZELDRUPA_LONGEST_SHEET 8459
 #define ZELDRUPA_LONGEST_BUNDLE 6693
 #define ZELDRUPA_LONGEST_LISTING 7453
 
@@ -66,15 +66,17 @@ struct zeldrupa_bytes {
 };
 
 /* Reads a sheet: two values a task (work, store), four a link (source, target, cost, bytes), and the board
- * (processors, store limit, number of tasks, number of links, unpacking time). *place is 0. */
+ * (processors, store limit, number of tasks, number of links, unpacking time, 1 for a cube). *place is 0. */
 uint8_t zeldrupa_read_sheet(const uint8_t *sheet, size_t sheet_length, uint32_t *work, size_t work_length,
                             uint16_t *tasks, size_t tasks_length, uint16_t *links, size_t links_length,
-                            uint32_t board[5], uint64_t *place);
+                            uint32_t board[6], uint64_t *place);
 
-/* Writes the sheet of such values; an unpacking time of 0 is none. *place is the number of bytes. */
-uint8_t zeldrupa_write_sheet(uint8_t processors, uint32_t limit, uint16_t unpacking, const uint16_t *tasks,
-                             size_t tasks_length, const uint16_t *links, size_t links_length, uint32_t *work,
-                             size_t work_length, uint8_t *out, size_t out_length, uint64_t *place);
+/* Writes the sheet of such values; an unpacking time of 0 is none, a cube of 0 is none and any other is one.
+ * *place is the number of bytes. */
+uint8_t zeldrupa_write_sheet(uint8_t processors, uint32_t limit, uint16_t unpacking, uint8_t cube,
+                             const uint16_t *tasks, size_t tasks_length, const uint16_t *links,
+                             size_t links_length, uint32_t *work, size_t work_length, uint8_t *out,
+                             size_t out_length, uint64_t *place);
 
 /* Writes the sheet that a seed gives, with so many tasks and tries for links: the same numbers give the same
  * bytes. ZELDRUPA_RANGE, with place 0, for seed 0, tasks outside 1 to 256, tries above 1,024 or processors

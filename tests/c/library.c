@@ -1,5 +1,5 @@
 /* The library from C: each of its functions on the trial sheet K1 and on a bare board, the plan of a free link, a board
- * with unpacking, formulas, test loads, and refusals with number and place. */
+ * with unpacking, a cube, formulas, test loads, and refusals with number and place. */
 
 #include <stdio.h>
 #include <string.h>
@@ -41,6 +41,9 @@ static void expect(int holds, const char *what)
         }                                                                                           \
     } while (0)
 
+/* The board that was read: processors, limit, tasks, links, unpacking, cube. */
+#define BOARD(...) EXPECT(memcmp(board, (const uint32_t[6]){__VA_ARGS__}, sizeof board) == 0)
+
 static size_t read_file(const char *folder, const char *name, uint8_t *bytes, size_t most)
 {
     char path[1024];
@@ -59,12 +62,12 @@ static size_t read_file(const char *folder, const char *name, uint8_t *bytes, si
 static void formats(void)
 {
     static uint16_t tasks[512], links[4096], commands[4096];
-    uint32_t board[5], levels[256], claim;
+    uint32_t board[6], levels[256], claim;
     uint8_t out[8512];
     ANSWERS(zeldrupa_read_sheet(SHEET, WORK, LENT(tasks), LENT(links), board, &place), 0, 0);
-    EXPECT(board[0] == 3 && board[1] == 100 && board[2] == 4 && board[3] == 3 && board[4] == 0);
+    BOARD(3, 100, 4, 3, 0, 0);
     EXPECT(tasks[2] == 3 && tasks[3] == 10 && links[4] == 3 && links[5] == 1 && links[6] == 2 && links[7] == 4);
-    ANSWERS(zeldrupa_write_sheet(3, 100, 0, tasks, 8, links, 12, WORK, LENT(out), &place), 0, 48);
+    ANSWERS(zeldrupa_write_sheet(3, 100, 0, 0, tasks, 8, links, 12, WORK, LENT(out), &place), 0, 48);
     EXPECT(memcmp(out, sheet, 48) == 0);
     ANSWERS(zeldrupa_levels(SHEET, WORK, LENT(levels), &place), 0, 4);
     EXPECT(levels[0] == 5 && levels[1] == 3 && levels[2] == 2 && levels[3] == 7);
@@ -178,11 +181,11 @@ static void bare_board(void)
     static const uint8_t empty[] = {0x50, 0, 0x50, 1, 0x5A, 0, 0, 0, 0}, claim_1[] = {0x5A, 1, 0, 0, 0};
     static const char lines[] = "PLAN 0 0\n";
     uint16_t tasks[2], links[4], commands[4];
-    uint32_t board[5], levels[1], claim, processor[3];
+    uint32_t board[6], levels[1], claim, processor[3];
     uint8_t out[16];
     ANSWERS(zeldrupa_read_sheet(LENT(bare), WORK, tasks, 0, links, 0, board, &place), 0, 0);
-    EXPECT(board[0] == 3 && board[1] == 100 && board[2] == 0 && board[3] == 0 && board[4] == 0);
-    ANSWERS(zeldrupa_write_sheet(3, 100, 0, tasks, 0, links, 0, WORK, LENT(out), &place), 0, sizeof bare);
+    BOARD(3, 100, 0, 0, 0, 0);
+    ANSWERS(zeldrupa_write_sheet(3, 100, 0, 0, tasks, 0, links, 0, WORK, LENT(out), &place), 0, sizeof bare);
     EXPECT(memcmp(out, bare, sizeof bare) == 0);
     ANSWERS(zeldrupa_levels(LENT(bare), WORK, levels, 0, &place), 0, 0);
     ANSWERS(zeldrupa_plan(LENT(bare), WORK, LENT(out), &place), 0, sizeof claim_0);
@@ -228,14 +231,15 @@ static void unpacking(const char *folder)
     static const uint8_t wrong[] = {0x4D, 3, 100, 0, 0, 0, 0x55, 1, 0, 0x55, 0, 0};
     uint8_t stored[64], apart[64], out[64];
     uint16_t tasks[8], links[12];
-    uint32_t board[5], processor[3];
+    uint32_t board[6], processor[3];
     size_t length = read_file(folder, "unpacking.sheet", stored, sizeof stored);
     size_t planned = read_file(folder, "unpacking.bundle", apart, sizeof apart);
     ANSWERS(zeldrupa_read_sheet(stored, length, WORK, LENT(tasks), LENT(links), board, &place), 0, 0);
-    EXPECT(board[0] == 3 && board[1] == 100 && board[2] == 4 && board[3] == 3 && board[4] == 1);
-    ANSWERS(zeldrupa_write_sheet(3, 100, 1, LENT(tasks), LENT(links), WORK, LENT(out), &place), 0, 51);
+    BOARD(3, 100, 4, 3, 1, 0);
+    ANSWERS(zeldrupa_write_sheet(3, 100, 1, 0, LENT(tasks), LENT(links), WORK, LENT(out), &place), 0, 51);
     EXPECT(length == 51 && memcmp(out, stored, 51) == 0);
-    ANSWERS(zeldrupa_write_sheet(3, 100, 1, LENT(tasks), LENT(links), WORK, out, 50, &place), ZELDRUPA_SHORT_OUTPUT, 51);
+    ANSWERS(zeldrupa_write_sheet(3, 100, 1, 0, LENT(tasks), LENT(links), WORK, out, 50, &place),
+            ZELDRUPA_SHORT_OUTPUT, 51);
     ANSWERS(zeldrupa_plan(stored, length, WORK, LENT(out), &place), 0, planned);
     EXPECT(planned == 31 && memcmp(out, apart, planned) == 0);
     ANSWERS(zeldrupa_listing(stored, length, WORK, LENT(out), &place), 0, sizeof lines - 1);
@@ -249,6 +253,37 @@ static void unpacking(const char *folder)
     ANSWERS(zeldrupa_plan(wrong, 8, WORK, LENT(out), &place), ZELDRUPA_CUT_SHEET, 6);
     stored[7] = 0;
     ANSWERS(zeldrupa_plan(stored, length, WORK, LENT(out), &place), ZELDRUPA_RANGE, 6);
+}
+
+/* Five tasks on a cube of four processors, of which number 2 is skipped: read, written, planned, listed by the
+ * processors that run a task, run with two hops from processor 0 to 3, and refused where the command is wrong. */
+static void cube(const char *folder)
+{
+    static const char lines[] = "PLAN 3 5\n0 0 0 2\n1 1 0 1\n2 0 2 4\n3 1 1 4\n4 3 4 5\n";
+    static const uint8_t wrong[] = {0x4D, 3, 100, 0, 0, 0, 0x48, 0x55, 1, 0};
+    uint8_t stored[64], apart[64], out[64];
+    uint16_t tasks[10], links[16];
+    uint32_t board[6], processor[3];
+    size_t length = read_file(folder, "cube.sheet", stored, sizeof stored);
+    size_t planned = read_file(folder, "cube.bundle", apart, sizeof apart);
+    ANSWERS(zeldrupa_read_sheet(stored, length, WORK, LENT(tasks), LENT(links), board, &place), 0, 0);
+    BOARD(4, 100, 5, 4, 0, 1);
+    for (int any = 1; any < 256; any += 127) {
+        ANSWERS(zeldrupa_write_sheet(4, 100, 0, any, LENT(tasks), LENT(links), WORK, LENT(out), &place), 0, 61);
+        EXPECT(length == 61 && memcmp(out, stored, 61) == 0);
+    }
+    ANSWERS(zeldrupa_write_sheet(4, 100, 0, 0, LENT(tasks), LENT(links), WORK, LENT(out), &place), 0, 60);
+    ANSWERS(zeldrupa_plan(stored, length, WORK, LENT(out), &place), 0, planned);
+    EXPECT(planned == 35 && memcmp(out, apart, planned) == 0);
+    ANSWERS(zeldrupa_listing(stored, length, WORK, LENT(out), &place), 0, sizeof lines - 1);
+    EXPECT(memcmp(out, lines, sizeof lines - 1) == 0);
+    ANSWERS(zeldrupa_check(stored, length, apart, planned, WORK, &place), 0, 0);
+    ANSWERS(zeldrupa_run(stored, length, apart, planned, (const uint8_t[]){0, 0, 2, 3}, 4, WORK, STATE, &place), 0, 3);
+    ANSWERS(zeldrupa_stamp(STATE, 2, &place), 0, 5);
+    ANSWERS(zeldrupa_processor(apart, planned, STATE, 3, processor, &place), 0, 0);
+    EXPECT(processor[0] == 4 && processor[1] == 1 && processor[2] == 4);
+    ANSWERS(zeldrupa_plan(LENT(wrong), WORK, LENT(out), &place), ZELDRUPA_SHEET_OUT_OF_TURN, 7);
+    ANSWERS(zeldrupa_plan(wrong, 7, WORK, LENT(out), &place), ZELDRUPA_CUT_SHEET, 7);
 }
 
 /* Formulas: the weight is the place. */
@@ -277,7 +312,7 @@ static void loads(const char *folder)
 {
     static uint8_t stored[64], out[ZELDRUPA_LONGEST_SHEET];
     static uint16_t tasks[512], links[4096];
-    uint32_t board[5];
+    uint32_t board[6];
     size_t length = read_file(folder, "load-small.sheet", stored, sizeof stored);
     memset(out, 0xAA, sizeof out);
     ANSWERS(zeldrupa_generate(3, 3, 6, 2, 100, WORK, LENT(out), &place), 0, 36);
@@ -314,6 +349,7 @@ int main(int count, char **arguments)
         bare_board();
         free_link(folder);
         unpacking(folder);
+        cube(folder);
         weights();
         loads(folder);
     }

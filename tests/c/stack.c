@@ -1,6 +1,6 @@
-/* How deep the stack of each function is on a sheet of the largest size with unpacking, and of a formula's weight on megabytes of
- * text: it runs in a thread whose stack was filled with a pattern, and what is left of the pattern is counted. None
- * may use 16 KiB. */
+/* How deep the stack of each function is on a sheet of the largest size with unpacking on a cube, and of a formula's
+ * weight on megabytes of text: it runs in a thread whose stack was filled with a pattern, and what is left of the
+ * pattern is counted. None may use 16 KiB. */
 
 #define _GNU_SOURCE
 #include <pthread.h>
@@ -12,7 +12,7 @@
 
 enum { TASKS = 256, LINKS = 1024, TEXT = 4 << 20, STACK = 1 << 20, MOST = 16 * 1024, PATTERN = 0xA5 };
 
-static uint32_t work[ZELDRUPA_WORK_LENGTH], state[ZELDRUPA_WORK_LENGTH], board[5], levels[TASKS], claim;
+static uint32_t work[ZELDRUPA_WORK_LENGTH], state[ZELDRUPA_WORK_LENGTH], board[6], levels[TASKS], claim;
 static uint16_t tasks[2 * TASKS], links[4 * LINKS], commands[8192];
 static uint8_t sheet[8512], bundle[8192], listing[32768], choices[8192];
 static uint8_t text[TEXT], number;
@@ -41,7 +41,7 @@ static void write_sheet(void)
         links[4 * l + 2] = 3 * l % 50;
         links[4 * l + 3] = l;
     }
-    zeldrupa_write_sheet(16, UINT32_MAX, 12, LENT(tasks), LENT(links), WORK, LENT(sheet), &sheet_length);
+    zeldrupa_write_sheet(16, UINT32_MAX, 12, 1, LENT(tasks), LENT(links), WORK, LENT(sheet), &sheet_length);
 }
 
 static void generate(void) { zeldrupa_generate(1, TASKS, LINKS, 16, UINT32_MAX, WORK, LENT(listing), &place); }

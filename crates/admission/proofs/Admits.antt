@@ -1,5 +1,5 @@
 -- 21 to 26 and 31 to 33 strung together.
-use Prim.Native.Nat.{ℕ, _+_, _*_, _≤_}
+use Prim.Native.Nat.{ℕ, _+_, _*_, _≤_, _<_}
 use mathlib.Core.Path.{_≡_, refl, sym, ap, _∙_, subst}
 use mathlib.Core.Option.{Option, none, some}
 use mathlib.Core.List.{List}
@@ -9,7 +9,7 @@ use Rattle.folds.specs.Answers.{Answer, value, refused, unless, unlessAt, andTh
 use Rattle.folds.proofs.Tests.{unless-value, unlessAt-value, andThen-value, not-value}
 use Rattle.numbers.specs.Number.{Bytes}
 use Rattle.sheet.specs.Sheet.{Sheet, taskCount, linkCount}
-use Rattle.bundle.specs.Bundle.{Bundle, programmeCount}
+use Rattle.bundle.specs.Bundle.{run, Bundle, programmeCount}
 use Rattle.bundle.specs.Format.{readBundle}
 use Rattle.bundle.specs.Counts.{Sized}
 use Rattle.bundle.specs.Lies.{Laid}
@@ -19,8 +19,8 @@ use Rattle.bundle_reader.specs.declared.bytes.Reading.{Reading}
 use Rattle.bundle_reader.specs.declared.bytes.Reading.the-variants.{Read, Refused as Unread}
 use Rattle.bundle.proofs.Rounds.{read-formed}
 use Rattle.bundle.proofs.Faults.{sheetBy, sized-by}
-use Rattle.admission.specs.Messages.{at26, atMessage, at28, Published}
-use Rattle.admission.specs.Notes.{slotsEnd, NotesIs}
+use Rattle.admission.specs.Messages.{home, at26, atMessage, at28, Published}
+use Rattle.admission.specs.Notes.{homeIn, slotsEnd, NotesIs}
 use Rattle.workspace.specs.Found.{foundOf}
 use Rattle.admission.specs.Rules.{Given, OnceIs, faultOf, MessageIs}
 use Rattle.admission.specs.Fields.{Known, Bounded}
@@ -32,6 +32,9 @@ use Rattle.admission.specs.declared.rules.Fault.{Fault}
 use Rattle.admission.specs.declared.rules.Fault.the-variants as fault
 use Rattle.admission.specs.declared.Judged.{Judged}
 use Rattle.admission.specs.declared.Judged.the-variants.{Fit, Refused}
+use Rattle.admission.proofs.Messages.{run-once}
+use Rattle.admission.proofs.Places.{placed-programme, placed-home}
+use Rattle.admission.proofs.Ruled.{placed}
 use Rattle.admission.proofs.Walking.{laid-by}
 use Rattle.admission.proofs.Few.{short-of-read}
 
@@ -91,9 +94,16 @@ module _ (sheet bundle w : List ℕ) (v : View) (m c claim : ℕ) where
     once-is : (s : Sheet) (b : Bundle) → Told s b sheet bundle w v m c claim → foundOf f ≡ at26 s b
     once-is s b t = let g = given s b t in h .is-26 s b (g .count) (t .known .tasks) (g .notes)
 
+    -- by their notes, where each task runs
+    homes-by : (s : Sheet) (b : Bundle) → Told s b sheet bundle w v m c claim → at26 s b ≡ none → (t : ℕ) → t < taskCount s → homeIn u t ≡ home b (run t)
+    homes-by s b x once t l =
+        let g = given s b x in
+        let p = placed s b u (g .count) (g .notes) (run t) l (run-once s b once t l) in
+        omega (arith, placed-programme (p .2), placed-home (p .2))
+
     pub rule-once : (t : ℕ) → f ≡ At t → RulesIs sheet bundle w v m c claim (Refused 26 t) u
     unfolding published
-    rule-once t e = record { kept = a .kept; is = λ s b x. ap (λ (o : Option ℕ). judgedOf (unless 26 o (messaged s b))) (ap foundOf (sym e) ∙ once-is s b x) }
+    rule-once t e = record { kept = a .kept; is = λ s b x. ap (λ (o : Option ℕ). judgedOf (unless 26 o (messaged s b))) (ap foundOf (sym e) ∙ once-is s b x); homes = homes-by }
 
     pub rule-rest : (r : Judged) → f ≡ Nothing → MessagesIs sheet bundle u v m c claim r → RulesIs sheet bundle w v m c claim r u
     unfolding published
@@ -104,6 +114,7 @@ module _ (sheet bundle w : List ℕ) (v : View) (m c claim : ℕ) where
               λ s b x.
               let o : none ≡ at26 s b = ap foundOf (sym e) ∙ once-is s b x in
               q .is s b (told s b x) (given s b x) (sym o) ∙ ap (λ (y : Option ℕ). judgedOf (unless 26 y (messaged s b))) o;
+          homes = homes-by;
         }
 
 -- a bundle that passes 26 and 31 to 33 has the published messages
@@ -161,7 +172,8 @@ module _ (sheet bundle w u : List ℕ) (v : View) (long : slotsEnd ≤ length w)
       record {
         long = h .long;
         is = λ s k. by s (readBundle s bundle) (sym e ∙ h .answer s (sized k));
-        laid = λ s k b q. none-laid s b (readBundle s bundle) (sym e ∙ h .answer s (sized k)) q;
+        laid = λ s k b q. none-passes s b (readBundle s bundle) (sym e ∙ h .answer s (sized k)) q;
+        homes = λ s k b q. none-passes s b (readBundle s bundle) (sym e ∙ h .answer s (sized k)) q;
       }
     where
       by : (s : Sheet) (o : Answer Bundle) → Unread r at ≡ readingOf o → Refused r at ≡ judgedOf (andThen o (published s))
@@ -177,9 +189,9 @@ module _ (sheet bundle w u : List ℕ) (v : View) (long : slotsEnd ≤ length w)
           two : r ≡ i → at ≡ j → Refused r at ≡ Refused i j
           two a b = cc
 
-      none-laid : (s : Sheet) (b : Bundle) (o : Answer Bundle) → Unread r at ≡ readingOf o → andThen o (published s) ≡ value b → Laid (taskCount s) (linkCount s) bundle u (b .programmes)
-      none-laid s b (value x) q z = let y : _≡_ {A = ℕ} 0 1 = cc in absurd (omega arith)
-      none-laid s b (refused i j) q z = not-value z
+      none-passes : {X : Type 0} (s : Sheet) (b : Bundle) (o : Answer Bundle) → Unread r at ≡ readingOf o → andThen o (published s) ≡ value b → X
+      none-passes s b (value x) q z = let y : _≡_ {A = ℕ} 0 1 = cc in absurd (omega arith)
+      none-passes s b (refused i j) q z = not-value z
 
   pub judge-rules : (last : List ℕ) (m c claim number : ℕ) (r : Judged) → Bytes bundle → f ≡ Read m c claim → number ≡ claim → RulesIs sheet bundle u v m c number r last
       → JudgeIs sheet bundle w last v r
@@ -189,6 +201,7 @@ module _ (sheet bundle w u : List ℕ) (v : View) (long : slotsEnd ≤ length w)
         long = q .kept .long ∙ h .long;
         is = λ s k. by s k (readBundle s bundle) refl (sym e ∙ h .answer s (sized k));
         laid = λ s k b z. laid-at s k b (readBundle s bundle) refl (sym e ∙ h .answer s (sized k)) z;
+        homes = λ s k b z. home-at s k b (readBundle s bundle) refl (sym e ∙ h .answer s (sized k)) z;
       }
     where
       told : (s : Sheet) → Known s sheet v → (x : Bundle) → readBundle s bundle ≡ value x → Read m c claim ≡ readingOf (value x)
@@ -222,3 +235,10 @@ module _ (sheet bundle w u : List ℕ) (v : View) (long : slotsEnd ≤ length w)
           kept-laid : (x : Bundle) → programmeCount x ≤ 16 → Laid (taskCount s) (linkCount s) bundle u (x .programmes) → Laid (taskCount s) (linkCount s) bundle last (x .programmes)
           kept-laid x few y = laid-by (λ i j. q .kept .low i (omega (arith, few))) y
       laid-at s k b (refused i j) o z v = not-value v
+
+      home-at : (s : Sheet) → Known s sheet v → (b : Bundle) (o : Answer Bundle) → readBundle s bundle ≡ o → Read m c claim ≡ readingOf o → andThen o (published s) ≡ value b
+          → (t : ℕ) → t < taskCount s → homeIn last t ≡ home b (run t)
+      home-at s k b (value x) o z v t l =
+          let a = is-published s x b v in
+          q .homes s x (told s k x o z) (a .0 .once) t l ∙ ap (λ (y : Bundle). home y (run t)) (a .1)
+      home-at s k b (refused i j) o z v t l = not-value v

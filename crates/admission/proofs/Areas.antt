@@ -29,6 +29,7 @@ known-in w sheet v h g =
       links = sym (g .links);
       limited = sym (g .limit);
       unpacked = sym (g .unpacking);
+      wired = sym (g .cube);
     }
 
 pub seen-in : (w sheet : List ℕ) (v : View) → Shown sheet w → ViewIs w v → Seen sheet v

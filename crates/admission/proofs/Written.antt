@@ -66,10 +66,10 @@ link-bytes-length (l ∷ ls) = omega (arith, link-bytes-length ls)
 
 module _ (s : Sheet) where
   abbrev front : List ℕ
-  front = boardBytes (s .processors) (s .limit) (s .unpacking)
+  front = boardBytes (s .processors) (s .limit) (s .unpacking) (s .cube)
 
   front-long : length front ≡ frontOf s
-  front-long = board-length (s .processors) (s .limit) (s .unpacking)
+  front-long = board-length (s .processors) (s .limit) (s .unpacking) (s .cube)
 
   abbrev tail : List ℕ
   tail = linkBytes (s .links) ++ 0x51 ∷ []

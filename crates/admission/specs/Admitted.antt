@@ -7,13 +7,13 @@ use lib.ListN.{length}
 use Rattle.folds.specs.Answers.{Answer, value, refused, unless, unlessAt, andThen}
 use Rattle.numbers.specs.Number.{Bytes}
 use Rattle.sheet.specs.Sheet.{Sheet, taskCount, linkCount}
-use Rattle.bundle.specs.Bundle.{Bundle, programmeCount}
+use Rattle.bundle.specs.Bundle.{run, Bundle, programmeCount}
 use Rattle.bundle.specs.Format.{readBundle}
 use Rattle.bundle.specs.Counts.{commandCount}
 use Rattle.bundle.specs.Lies.{Laid}
-use Rattle.admission.specs.Messages.{at26, atMessage, at28}
+use Rattle.admission.specs.Messages.{home, at26, atMessage, at28}
 use Rattle.admission.specs.Fields.{Known}
-use Rattle.admission.specs.Notes.{slotsEnd, Kept}
+use Rattle.admission.specs.Notes.{homeIn, slotsEnd, Kept}
 use Rattle.admission.specs.Rules.{Given}
 use Rattle.admission.specs.declared.view.View.{View}
 use Rattle.admission.specs.declared.Judged.{Judged}
@@ -61,9 +61,11 @@ module _ (sheet bundle w : List ℕ) (v : View) (m c claim : ℕ) (r : Judged) w
   pub record RulesIs (last : List ℕ) : Type 0 where
     pub kept : Kept w last
     pub is : (s : Sheet) (b : Bundle) → Told s b sheet bundle w v m c claim → r ≡ judgedOf (published s b)
+    pub homes : (s : Sheet) (b : Bundle) → Told s b sheet bundle w v m c claim → at26 s b ≡ none → (t : ℕ) → t < taskCount s → homeIn last t ≡ home b (run t)
 
--- bytes of any kind: 21 to 26 and 31 to 33, and where the programmes lie of a bundle that passes them
+-- bytes of any kind: 21 to 26 and 31 to 33; of a bundle that passes them, where the programmes lie, and which of them runs each task
 pub record JudgeIs (sheet bundle w last : List ℕ) (v : View) (r : Judged) : Type 0 where
   pub long : length last ≡ length w
   pub is : (s : Sheet) → Known s sheet v → r ≡ judgedOf (publishedBytes s bundle)
   pub laid : (s : Sheet) → Known s sheet v → (b : Bundle) → publishedBytes s bundle ≡ value b → Laid (taskCount s) (linkCount s) bundle last (b .programmes)
+  pub homes : (s : Sheet) → Known s sheet v → (b : Bundle) → publishedBytes s bundle ≡ value b → (t : ℕ) → t < taskCount s → homeIn last t ≡ home b (run t)

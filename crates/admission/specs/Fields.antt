@@ -57,6 +57,7 @@ pub record Known (s : Sheet) (sheet : List ℕ) (v : View) : Type 0 where
   pub links : linkCount s ≡ v .links
   pub limited : s .limit ≡ v .limit
   pub unpacked : s .unpacking ≡ v .unpacking
+  pub wired : s .cube ≡ v .cube
 
 -- some sheet is seen by v in these bytes
 pub record Seen (sheet : List ℕ) (v : View) : Type 0 where

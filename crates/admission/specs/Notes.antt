@@ -56,6 +56,10 @@ pub data Noted (b : Bundle) (k i : ℕ) (c : Command) (x : ℕ) : Type 0 where
   again : x ≡ 1 → 2 ≤ sofar b k i c → Noted b k i c x
   once : (j p : ℕ) → x ≡ 4096 * suc j + rank b j p → sofar b k i c ≡ 1 → getElem? (programmeOf b j) p ≡ some c → Noted b k i c x
 
+-- the programme that runs task t, by its note
+abbrev pub homeIn : List ℕ → ℕ → ℕ
+homeIn w t = getD w (slotsAt + slotOf (run t)) 0 / 4096 - 1
+
 -- words from slotsAt on have the notes of all commands, and r were met
 pub record Notes (s : Sheet) (b : Bundle) (k i r : ℕ) (w : List ℕ) : Type 0 where
   pub note : (c : Command) → Known s c → Noted b k i c (getD w (slotsAt + slotOf c) 0)

@@ -13,6 +13,7 @@ pub record ViewIs (w : List ℕ) (v : View) : Type 0 where
   pub processors : v .processors ≡ sheetIn w .processors
   pub limit : v .limit ≡ sheetIn w .limit
   pub unpacking : v .unpacking ≡ sheetIn w .unpacking
+  pub cube : v .cube ≡ sheetIn w .cube
   pub tasks : v .tasks ≡ taskCount (sheetIn w)
   pub links : v .links ≡ linkCount (sheetIn w)
   pub front : v .front ≡ frontOf (sheetIn w)

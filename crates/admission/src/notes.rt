@@ -4,7 +4,7 @@ ghost use Prim.Native.Nat.{_+_, _*_, _≤_, _<_};
 ghost use lib.ListN.{length, getD};
 ghost use lib.Dec.{eqb};
 ghost use Rattle.folds.specs.Folds.{bit};
-ghost use Rattle.admission.specs.Notes.{slotsAt, slotsEnd, messageAt, notedWords, BlankIs, NotesIs};
+ghost use Rattle.admission.specs.Notes.{slotsAt, slotsEnd, homeIn, messageAt, notedWords, BlankIs, NotesIs};
 
 // Where the notes of runs, of sends and of receives stand.
 pub const NOTES: usize = 2048;
@@ -71,4 +71,12 @@ pub fn note_all(bundle: &[u8], w: &mut [u32], n: usize, l: usize)
             }
         }
     }
+}
+
+// The programme that runs task t, by its note.
+pub fn home(w: &[u32], t: usize) -> usize
+    requires { ⌜ (t < 256) × (slotsEnd ≤ length (now w)) ⌝ }
+    ensures { λ r. ⌜ (r ≡ homeIn (now (w .entry)) t) × (r < 1048576) ⌝ }
+{
+    numbers::minus(workspace::word(w, NOTES + t) / 4096, 1)
 }

@@ -11,6 +11,7 @@ pub struct View {
     pub processors: usize,
     pub limit: usize,
     pub unpacking: usize,
+    pub cube: bool,
     pub tasks: usize,
     pub links: usize,
     pub front: usize,
@@ -66,11 +67,13 @@ pub fn of_tables(work: &[u32]) -> View
 {
     let tasks = sheet::tables::tasks(work);
     let unpacking = sheet::tables::unpacking(work);
-    let front = sheet::front(unpacking);
+    let cube = sheet::tables::cube(work);
+    let front = sheet::front(unpacking, cube);
     View {
         processors: sheet::tables::processors(work),
         limit: sheet::tables::limit(work),
         unpacking,
+        cube,
         tasks,
         links: sheet::tables::links(work),
         front,

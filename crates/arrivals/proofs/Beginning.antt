@@ -1,17 +1,17 @@
 -- Before the first turn all that is kept is 0.
 use Prim.Native.Nat.{ℕ, _+_, _*_, _≤_, _<_}
 use mathlib.Core.Bool.{Bool, true, false, true≢false}
-use mathlib.Core.Path.{_≡_, refl, sym, _∙_}
+use mathlib.Core.Path.{_≡_, refl, ap, sym, _∙_}
 use mathlib.Core.List.{List}
 use native.Mathlib.Omega.{arith}
 use borrow.Author.Tests.{ne-eqb, le-ltb}
 use lib.ListN.{getD}
-use Rattle.folds.specs.Folds.{pick, both, sum, greatest}
-use Rattle.folds.proofs.Laws.{sum-zeros, greatest-le}
+use Rattle.folds.specs.Folds.{pick, bit, both, sum, greatest}
+use Rattle.folds.proofs.Laws.{none-any, sum-zeros, greatest-le}
 use Rattle.sheet.specs.Sheet.{Sheet, taskCount, linkCount, sourceOf, targetOf}
 use Rattle.planner.specs.Schedule.{Schedule, placed, stands, placeOf}
-use Rattle.planner.specs.Placing.{reachBy, endBy, endOf, storeBy, bytesBy, storeOn}
-use Rattle.arrivals.specs.Layout.{seenFrom, arrivalsFrom, sendersFrom, endsFrom, storesFrom, waitingFrom, packedFrom, keptLength}
+use Rattle.planner.specs.Placing.{reachBy, endBy, endOf, storeBy, bytesBy, storeOn, isOpen}
+use Rattle.arrivals.specs.Layout.{seenFrom, arrivalsFrom, sendersFrom, endsFrom, storesFrom, openFrom, waitingFrom, packedFrom, keptLength}
 use Rattle.arrivals.specs.Kept.{countedBy, into, intoFrom, waits, oneBy, known, Counted, Ends, Closed}
 use Rattle.arrivals.specs.Steps.{Zero}
 use Rattle.arrivals.proofs.Fours.{four-zero}
@@ -52,6 +52,10 @@ module _ (s : Sheet) (σ : Schedule) (free : (u : ℕ) → placeOf σ u ≡ 16) 
         sum-zeros (linkCount s) (bytesBy s σ k) (λ l g. rw (nowhere-on (targetOf s l) k h)),
       )
 
+  no-open : (k : ℕ) → k < 16 → isOpen s σ k ≡ false
+  unfolding isOpen
+  no-open k h = none-any (taskCount s) (λ u. stands σ u k) (λ u l. nowhere-on u k h)
+
   -- in words of 0
   module _ (kept : List ℕ) (few : taskCount s ≤ 256) (zero : Zero seenFrom keptLength kept) where
     z : (i : ℕ) → seenFrom ≤ i → i < keptLength → getD kept i 0 ≡ 0
@@ -69,7 +73,11 @@ module _ (s : Sheet) (σ : Schedule) (free : (u : ℕ) → placeOf σ u ≡ 16) 
 
     pub ends-zero : Ends s σ kept
     ends-zero =
-        record { ends = λ k h. z (endsFrom + k) (omega arith) (omega arith) ∙ sym (no-end k h); stores = λ k h. z (storesFrom + k) (omega arith) (omega arith) ∙ sym (no-store k h) }
+        record {
+          ends = λ k h. z (endsFrom + k) (omega arith) (omega arith) ∙ sym (no-end k h);
+          stores = λ k h. z (storesFrom + k) (omega arith) (omega arith) ∙ sym (no-store k h);
+          opens = λ k h. z (openFrom + k) (omega arith) (omega arith) ∙ sym (ap bit (no-open k h));
+        }
 
   pub closed-zero : Closed s σ
   closed-zero l h e = absurd (true≢false (sym e ∙ not-placed (targetOf s l)))

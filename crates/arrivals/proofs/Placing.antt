@@ -11,10 +11,10 @@ use lib.ListN.{getD}
 use lib.Seq.{getD-set-same}
 use lib.Dec.{eqb}
 use Rattle.folds.specs.Folds.{pick, both, sum}
-use Rattle.folds.proofs.Laws.{sum-cong, greatest-cong, sum-point, greatest-point, sum-add}
+use Rattle.folds.proofs.Laws.{any-found, any-cong, sum-cong, greatest-cong, sum-point, greatest-point, sum-add}
 use Rattle.sheet.specs.Sheet.{Sheet, taskCount, linkCount, sourceOf, targetOf, costOf, bytesOf, storeOf}
 use Rattle.planner.specs.Schedule.{Schedule, put, nowhere, placed, stands, placeOf, finishOf}
-use Rattle.planner.specs.Placing.{reachBy, endBy, endOf, storeBy, bytesBy, storeOn}
+use Rattle.planner.specs.Placing.{reachBy, endBy, endOf, storeBy, bytesBy, storeOn, isOpen}
 use Rattle.planner.proofs.Schedules.{on-other, finish-other, placed-other}
 use Rattle.arrivals.specs.Layout.{seenFrom, arrivalsFrom, sendersFrom, packedFrom}
 use Rattle.arrivals.specs.Kept.{countedBy, into, intoFrom, waits, oneBy, known, Counted, Surveyed, Closed}
@@ -166,6 +166,19 @@ module _ (s : Sheet) (σ : Schedule) (t k a b : ℕ) (g : Placeable s σ t k) wh
   pub end-put : (j : ℕ) → j < 16 → endOf s σ′ j ≡ max (endOf s σ j) (pick (eqb k j) b 0)
   unfolding endOf
   end-put j h = greatest-point (taskCount s) (endBy s σ j) (endBy s σ′ j) t (pick (eqb k j) b 0) (g .task) (end-term j h) (λ u l d. end-rest j u d)
+
+  -- k is open, and of the others those that were
+  pub open-now : isOpen s σ′ k ≡ true
+  unfolding isOpen
+  open-now = any-found (taskCount s) (λ u. stands σ′ u k) t (g .task) (stands-now k ∙ eq-eqb k k refl)
+
+  pub open-else : (j : ℕ) → j < 16 → j ≢ k → isOpen s σ′ j ≡ isOpen s σ j
+  unfolding isOpen
+  open-else j h d = any-cong (taskCount s) (λ u. stands σ′ u j) (λ u. stands σ u j) (λ u l. by u (ℕ-discrete u t))
+    where
+      by : (u : ℕ) → Dec (u ≡ t) → stands σ′ u j ≡ stands σ u j
+      by u (yes e) = rw e (stands-now j ∙ ne-eqb k j (λ x. d (sym x)) ∙ sym (stands-free j h))
+      by u (no e) = stands-other u j e
 
   -- the store of each processor
   stores-term : (j : ℕ) → j < 16 → storeBy s σ′ j t ≡ storeBy s σ j t + pick (eqb k j) (storeOf s t) 0

@@ -1,21 +1,22 @@
 -- A walk over the links into t: its starts, on one processor and on all, by the links below l.
-use Prim.Native.Nat.{ℕ, _+_, _≤_, _<_, max}
+use Prim.Native.Nat.{ℕ, _+_, _*_, _≤_, _<_, max}
 use mathlib.Core.Bool.{Bool, true, false, not}
 use mathlib.Core.Path.{_≡_, refl, ap, ap₂, sym, _∙_}
 use mathlib.Core.Logic.{_≢_}
 use mathlib.Core.List.{List}
 use native.Mathlib.Omega.{arith}
 use native.Mathlib.Decide.{ℕ-discrete}
-use borrow.Author.Tests.{eq-eqb, ne-eqb, le-ltb}
+use borrow.Author.Tests.{eq-eqb, ne-eqb, le-ltb, ltb-true}
 use lib.ListN.{getD}
 use lib.Dec.{eqb, ltb}
 use Rattle.folds.specs.Folds.{pick, greatest}
 use Rattle.folds.proofs.Laws.{greatest-le, term-le-greatest}
-use Rattle.sheet.specs.Sheet.{Sheet, taskCount, linkCount, sourceOf, targetOf}
-use Rattle.sheet.specs.Times.{linkTime}
+use Rattle.sheet.specs.Sheet.{Sheet, taskCount, linkCount, sourceOf, targetOf, costOf}
+use Rattle.sheet.specs.Hops.{hops, linkTime}
+use Rattle.sheet.proofs.Hopping.{flat-time}
 use Rattle.sheet.specs.Tables.{Ranged}
 use Rattle.planner.specs.Schedule.{Schedule, placed, placeOf, stands, finishOf}
-use Rattle.planner.specs.Placing.{comes, reachBy, elsewhere, endBy, endOf, startBy, startFrom, startOn}
+use Rattle.planner.specs.Placing.{comes, reachBy, reachOn, elsewhere, endBy, endOf, startBy, startFrom, startOn}
 use Rattle.planner.proofs.Unpacking.{unpacked-from, start-unpacked}
 use Rattle.planner.proofs.Finishes.{receives-early, into-le}
 use Rattle.adjacency.specs.Chains.{headOf, nextOf, Chained}
@@ -23,20 +24,62 @@ use Rattle.adjacency.specs.declared.End.the-variants.{Target}
 use Rattle.adjacency.proofs.Walks.{greatest-first, greatest-next}
 use Rattle.arrivals.specs.Layout.{endsFrom}
 use Rattle.arrivals.specs.Kept.{Ends, Caches}
-use Rattle.arrivals.specs.Lanes.{Lanes, Steps, startPast, startUnpacked, startBeyond, startTo, partlyTo, Soon, Early}
+use Rattle.arrivals.specs.Lanes.{lane, Lanes, Steps, Away, startPast, startUnpacked, startHopped, startBeyond, startTo, partlyTo, Soon, Early}
 use Rattle.arrivals.specs.declared.Starts.{Starts}
+use Rattle.arrivals.specs.declared.Row.{Row}
 use Rattle.arrivals.proofs.Numbered.{Walking, walk-begins, walk-ended, walk-more, walk-there}
 use Rattle.arrivals.proofs.Unpacking.{unpacked-first, unpacked-next, comes-else}
 
--- the numbers of a link as the code reads them
-module _ (s : Sheet) (σ : Schedule) (l : ℕ) (q : Starts) {a f x : ℕ} {r : Starts} (ea : a ≡ placeOf σ (sourceOf s l)) (ef : f ≡ finishOf σ (sourceOf s l)) (ex : x ≡ linkTime s l) where
-  pub beyond-plain : s .unpacking ≡ 0 → Steps (startPast a f x) q r → Steps (startBeyond s σ l) q r
-  unfolding startBeyond
-  beyond-plain z h = record { on = λ k m. h .on k m ∙ rw (eq-eqb (s .unpacking) 0 z, ea, ef, ex) }
+-- the time of a message by its cost
+pub time-hopped : (s : Sheet) (l j k : ℕ) {c r : ℕ} → s .cube ≡ true → c ≡ costOf s l → r ≡ c * hops j k → r ≡ linkTime s l j k
+unfolding linkTime
+time-hopped s l j k cubic ec er = er ∙ ap (λ (x : ℕ). x * hops j k) ec ∙ sym (ap (λ (b : Bool). pick b (costOf s l * hops j k) (costOf s l)) cubic)
 
-  pub beyond-unpacked : s .unpacking ≢ 0 → {u : ℕ} → u ≡ s .unpacking → Steps (startUnpacked a (f + x) u) q r → Steps (startBeyond s σ l) q r
+pub time-flat : (s : Sheet) (l j k : ℕ) {c : ℕ} → s .cube ≡ false → c ≡ costOf s l → c ≡ linkTime s l j k
+time-flat s l j k flat ec = ec ∙ sym (flat-time s l j k flat)
+
+-- a placed task stands on the board
+pub placed-low : (σ : Schedule) (u : ℕ) {k v : ℕ} → k ≡ placeOf σ v → v ≡ u → placed σ u ≡ true → k < 16
+unfolding placed
+placed-low σ u e q p = omega (arith, e ∙ ap (placeOf σ) q, ltb-true (placeOf σ u) 16 p)
+
+-- a lane past link l: on a cube, and elsewhere where receives take no time, and where they do
+module _ (s : Sheet) (σ : Schedule) (l : ℕ) (q : Starts) (k : ℕ) where
+  abbrev hopped : ℕ
+  hopped = startUnpacked (placeOf σ (sourceOf s l)) (reachOn s σ k l) (s .unpacking) k (lane q k)
+
+  abbrev past : ℕ
+  past = startPast (placeOf σ (sourceOf s l)) (finishOf σ (sourceOf s l)) (costOf s l) k (lane q k)
+
+  abbrev received : ℕ
+  received = startUnpacked (placeOf σ (sourceOf s l)) (reachBy s σ l) (s .unpacking) k (lane q k)
+
+  flat-lane : s .cube ≡ false → (b : Bool) → eqb (s .unpacking) 0 ≡ b → pick b past received ≡ startBeyond s σ l k (lane q k)
   unfolding startBeyond
-  beyond-unpacked z eu h = record { on = λ k m. h .on k m ∙ rw (ne-eqb (s .unpacking) 0 z, ea, ef, ex, eu) }
+  flat-lane flat b e =
+      sym (ap (λ (x : Bool). pick x hopped (pick (eqb (s .unpacking) 0) past received)) flat ∙ ap (λ (x : Bool). pick x past received) e)
+
+  cube-lane : s .cube ≡ true → hopped ≡ startBeyond s σ l k (lane q k)
+  unfolding startBeyond
+  cube-lane cubic = sym (ap (λ (x : Bool). pick x hopped (pick (eqb (s .unpacking) 0) past received)) cubic)
+
+-- the numbers of a link as the code reads them
+module _ (s : Sheet) (σ : Schedule) (l : ℕ) (q : Starts) {a f x u : ℕ} {r : Starts} (ea : a ≡ placeOf σ (sourceOf s l)) (ef : f ≡ finishOf σ (sourceOf s l)) (ex : x ≡ costOf s l) (eu : u ≡ s .unpacking) where
+  pub beyond-plain : s .cube ≡ false → u ≡ 0 → Steps (startPast a f x) q r → Steps (startBeyond s σ l) q r
+  beyond-plain flat z h = record { on = λ k m. h .on k m ∙ rw (ea, ef, ex) (flat-lane s σ l q k flat true (eq-eqb (s .unpacking) 0 (sym eu ∙ z))) }
+
+  pub beyond-unpacked : s .cube ≡ false → u ≢ 0 → Steps (startUnpacked a (f + x) u) q r → Steps (startBeyond s σ l) q r
+  beyond-unpacked flat z h = record { on = λ k m. h .on k m ∙ rw (ea, ef, ex, eu) (flat-lane s σ l q k flat false (ne-eqb (s .unpacking) 0 (λ e. z (eu ∙ e)))) }
+
+  pub beyond-hopped : s .cube ≡ true → {row : Row} {c : ℕ} → c ≡ x → Away a row → Steps (startHopped row a f c u) q r → Steps (startBeyond s σ l) q r
+  unfolding startHopped
+  beyond-hopped cubic {row} {c} ec away h =
+      record {
+        on =
+            λ k m.
+            let time : c * getD (row .at) k 0 ≡ linkTime s l (placeOf σ (sourceOf s l)) k = rw (away .on k m, ea) (time-hopped s l (placeOf σ (sourceOf s l)) k cubic (ec ∙ ex) refl) in
+            h .on k m ∙ rw (time, ea, ef, eu) (cube-lane s σ l q k cubic);
+      }
 
 module _ (s : Sheet) (σ : Schedule) (t : ℕ) where
   -- a link that leads elsewhere gives nothing
@@ -50,17 +93,27 @@ module _ (s : Sheet) (σ : Schedule) (t : ℕ) where
 
   -- a link from a placed task, as a lane passes it
   pub beyond-is : (l : ℕ) → targetOf s l ≡ t → placed σ (sourceOf s l) ≡ true → sourceOf s l < taskCount s → (k x : ℕ) → endOf s σ k ≤ x
-      → startBeyond s σ l k x ≡ pick (elsewhere s σ t k l) (max x (reachBy s σ l) + s .unpacking) x
+      → startBeyond s σ l k x ≡ pick (elsewhere s σ t k l) (max x (reachOn s σ k l) + s .unpacking) x
   unfolding startBeyond startPast startUnpacked elsewhere comes stands endOf endBy
-  beyond-is l e p h k x late = rw (eq-eqb (targetOf s l) t e, p) (go (ℕ-discrete (s .unpacking) 0) (eqb (placeOf σ (sourceOf s l)) k) refl)
+  beyond-is l e p h k x late = rw (eq-eqb (targetOf s l) t e, p) (by (s .cube) refl)
     where
-      go : Dec (s .unpacking ≡ 0) → (own : Bool) → eqb (placeOf σ (sourceOf s l)) k ≡ own
-          → pick (eqb (s .unpacking) 0) (max x (finishOf σ (sourceOf s l) + pick own 0 (linkTime s l))) (pick own x (max x (reachBy s σ l) + s .unpacking)) ≡ pick (not own) (max x (reachBy s σ l) + s .unpacking) x
-      go (no d) true q = rw (ne-eqb (s .unpacking) 0 d)
-      go (no d) false q = rw (ne-eqb (s .unpacking) 0 d)
-      go (yes z) true q =
+      received : (own : Bool) → pick own x (max x (reachOn s σ k l) + s .unpacking) ≡ pick (not own) (max x (reachOn s σ k l) + s .unpacking) x
+      received true = refl
+      received false = refl
+
+      go : linkTime s l (placeOf σ (sourceOf s l)) k ≡ costOf s l → Dec (s .unpacking ≡ 0) → (own : Bool) → eqb (placeOf σ (sourceOf s l)) k ≡ own
+          → pick (eqb (s .unpacking) 0) (max x (finishOf σ (sourceOf s l) + pick own 0 (costOf s l))) (pick own x (max x (reachBy s σ l) + s .unpacking)) ≡ pick (not own) (max x (reachOn s σ k l) + s .unpacking) x
+      go c (no d) true q = rw (ne-eqb (s .unpacking) 0 d)
+      go c (no d) false q = rw (ne-eqb (s .unpacking) 0 d) (omega (arith, c))
+      go c (yes z) true q =
           rw (eq-eqb (s .unpacking) 0 z) (omega (arith, late, term-le-greatest (taskCount s) (endBy s σ k) (sourceOf s l) h, ap (λ (u : Bool). pick u (finishOf σ (sourceOf s l)) 0) q))
-      go (yes z) false q = rw (eq-eqb (s .unpacking) 0 z) (omega (arith, z))
+      go c (yes z) false q = rw (eq-eqb (s .unpacking) 0 z) (omega (arith, z, c))
+
+      by : (cubic : Bool) → s .cube ≡ cubic
+          → pick cubic (pick (eqb (placeOf σ (sourceOf s l)) k) x (max x (reachOn s σ k l) + s .unpacking)) (pick (eqb (s .unpacking) 0) (max x (finishOf σ (sourceOf s l) + pick (eqb (placeOf σ (sourceOf s l)) k) 0 (costOf s l))) (pick (eqb (placeOf σ (sourceOf s l)) k) x (max x (reachBy s σ l) + s .unpacking)))
+          ≡ pick (not (eqb (placeOf σ (sourceOf s l)) k)) (max x (reachOn s σ k l) + s .unpacking) x
+      by true q = received (eqb (placeOf σ (sourceOf s l)) k)
+      by false q = go (flat-time s l (placeOf σ (sourceOf s l)) k q) (ℕ-discrete (s .unpacking) 0) (eqb (placeOf σ (sourceOf s l)) k) refl
 
   pub start-is : ((l : ℕ) → l < linkCount s → sourceOf s l < taskCount s) → (k : ℕ) → startTo s σ t (linkCount s) k ≡ startOn s σ t k
   unfolding startTo
@@ -68,7 +121,7 @@ module _ (s : Sheet) (σ : Schedule) (t : ℕ) where
 
   start-late : (l k : ℕ) → endOf s σ k ≤ startTo s σ t l k
   unfolding startTo
-  start-late l k = unpacked-from s (elsewhere s σ t k) (reachBy s σ) (endOf s σ k) l
+  start-late l k = unpacked-from s (elsewhere s σ t k) (reachOn s σ k) (endOf s σ k) l
 
   pub partly-is : (k : ℕ) → partlyTo s σ t (linkCount s) k ≡ startFrom s σ t k (endOf s σ k)
   unfolding partlyTo startFrom
@@ -92,7 +145,7 @@ module _ (s : Sheet) (σ : Schedule) (t : ℕ) where
     pub starts-first : {l : ℕ} {own : List ℕ} {r : Starts} → l ≡ headOf Target w t → l ≤ linkCount s → Ends s σ own → Lanes (λ k. getD own (endsFrom + k) 0) r → Lanes (startTo s σ t l) r
     unfolding startTo
     starts-first e h ends g =
-        record { on = λ k m. g .on k m ∙ ends .ends k m ∙ unpacked-first chained t t-in (elsewhere s σ t k) (else-else k) (reachBy s σ) (endOf s σ k) e h }
+        record { on = λ k m. g .on k m ∙ ends .ends k m ∙ unpacked-first chained t t-in (elsewhere s σ t k) (else-else k) (reachOn s σ k) (endOf s σ k) e h }
 
     pub starts-next : {l l′ : ℕ} {q r : Starts} → l < linkCount s → targetOf s l ≡ t → placed σ (sourceOf s l) ≡ true → sourceOf s l < taskCount s → l′ ≡ nextOf Target w l → l < l′ → l′ ≤ linkCount s
         → Steps (startBeyond s σ l) q r → Lanes (startTo s σ t l) q → Lanes (startTo s σ t l′) r
@@ -101,7 +154,7 @@ module _ (s : Sheet) (σ : Schedule) (t : ℕ) where
         record {
           on =
               λ k m. step .on k m ∙ ap (startBeyond s σ l k) (g .on k m) ∙ beyond-is l own on source k (startTo s σ t l k) (start-late l k) ∙
-              unpacked-next chained t t-in (elsewhere s σ t k) (else-else k) (reachBy s σ) (endOf s σ k) h own e more few;
+              unpacked-next chained t t-in (elsewhere s σ t k) (else-else k) (reachOn s σ k) (endOf s σ k) h own e more few;
         }
 
   pub starts-done : {l : ℕ} {r : Starts} → ((l : ℕ) → l < linkCount s → sourceOf s l < taskCount s) → l ≡ linkCount s → Lanes (startTo s σ t l) r → Lanes (startOn s σ t) r
@@ -116,15 +169,19 @@ module _ (s : Sheet) (σ : Schedule) (t : ℕ) where
             λ k m. omega (
               arith,
               g .on k m,
-              receives-early s σ t _ (early .early) k l,
+              receives-early s σ t _ (early .early) k m l,
               into-le s (ranged .few-links) (λ i n. omega (arith, ranged .costs i n)) (omega (arith, ranged .unpacks)) t l h,
             );
       }
 
   -- a link as one processor alone looks at it
-  pub by-is : (k l : ℕ) {at f x y r : ℕ} → targetOf s l ≡ t → at ≡ placeOf σ (sourceOf s l) → f ≡ finishOf σ (sourceOf s l) → x ≡ linkTime s l → y ≡ pick (eqb at k) 0 x → r ≡ pick (ltb at 16) (f + y) 0 → r ≡ startBy s σ t k l
+  pub by-is : (k l : ℕ) {at f x y r : ℕ} → targetOf s l ≡ t → at ≡ placeOf σ (sourceOf s l) → f ≡ finishOf σ (sourceOf s l) → (at < 16 → x ≡ linkTime s l at k) → y ≡ pick (eqb at k) 0 x → r ≡ pick (ltb at 16) (f + y) 0 → r ≡ startBy s σ t k l
   unfolding startBy comes placed stands
-  by-is k l {at} {f} e ea ef ex ey er = er ∙ rw (eq-eqb (targetOf s l) t e, ← ea, ← ef, ← ex, ey)
+  by-is k l {at} {f} {x} {y} {r} e ea ef ex ey er = er ∙ rw (eq-eqb (targetOf s l) t e, ← ea, ← ef, ey) (go (ltb at 16) refl)
+    where
+      go : (b : Bool) → ltb at 16 ≡ b → pick b (f + pick (eqb at k) 0 x) 0 ≡ pick b (f + pick (eqb at k) 0 (linkTime s l at k)) 0
+      go true q = rw (ex (ltb-true at 16 q))
+      go false q = refl
 
 -- the walk over the links into t for its start on k alone, at link l, after i links
 pub record Waiting (s : Sheet) (σ : Schedule) (t k i l x : ℕ) : Type 0 where

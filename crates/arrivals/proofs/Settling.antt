@@ -1,4 +1,4 @@
--- The end and the store of the processor that t goes on, and the links into t that wait no more.
+-- The end and the store of the processor that t goes on, which is open then, and the links into t that wait no more.
 use Prim.Native.Nat.{ℕ, _+_, _-_, _≤_, _<_}
 use mathlib.Core.Bool.{not}
 use mathlib.Core.Path.{_≡_, refl, ap, sym, _∙_, subst}
@@ -8,19 +8,19 @@ use native.Mathlib.Decide.{ℕ-discrete}
 use borrow.Author.Tests.{eq-eqb, ne-eqb}
 use lib.ListN.{length, getD, set, length-set}
 use lib.Seq.{getD-set-same, getD-set-other}
-use Rattle.folds.specs.Folds.{both}
+use Rattle.folds.specs.Folds.{bit, both}
 use Rattle.folds.proofs.Tests.{pick-le}
 use Rattle.folds.proofs.Laws.{sum-le}
 use Rattle.sheet.specs.Sheet.{Sheet, taskCount, linkCount, sourceOf, targetOf, bytesOf, storeOf}
 use Rattle.sheet.specs.Tables.{Ranged}
 use Rattle.planner.specs.Schedule.{Schedule, put, stands}
-use Rattle.planner.specs.Placing.{endOf, storeBy, bytesBy, storeOn}
+use Rattle.planner.specs.Placing.{endOf, storeBy, bytesBy, storeOn, isOpen}
 use Rattle.adjacency.specs.Frames.{Only}
 use Rattle.adjacency.proofs.Frames.{only-none, only-set}
-use Rattle.arrivals.specs.Layout.{bytesFrom, endsFrom, storesFrom, waitingFrom, turnBytesFrom, turnLinksFrom, keptLength}
+use Rattle.arrivals.specs.Layout.{bytesFrom, endsFrom, storesFrom, openFrom, waitingFrom, turnBytesFrom, turnLinksFrom, keptLength}
 use Rattle.arrivals.specs.Kept.{known, Gathered, Counted, Surveyed, Ends}
 use Rattle.arrivals.specs.Steps.{Placeable, Released, Enough}
-use Rattle.arrivals.proofs.Placing.{end-put, store-put, store-else, waits-put}
+use Rattle.arrivals.proofs.Placing.{end-put, open-now, open-else, store-put, store-else, waits-put}
 
 store-small : (s : Sheet) (σ : Schedule) (k : ℕ) → Ranged s → storeOn s σ k ≤ 83884800
 unfolding storeOn storeBy bytesBy
@@ -40,42 +40,62 @@ module _ (s : Sheet) (σ : Schedule) (w : List ℕ) (t k a f : ℕ) (long : kept
   store-with = rw (ends .stores k (g .on), gathered .bytes t (g .task), surveyed .bytes k (g .on)) (sym (store-put s σ t k a f g))
 
   module _ (x : ℕ) (ex : x ≡ storeOn s (put σ t k a f) k) where
+    abbrev ended : List ℕ
+    ended = set w (endsFrom + k) f
+
+    abbrev stored : List ℕ
+    stored = set ended (storesFrom + k) x
+
     abbrev new : List ℕ
-    new = set (set w (endsFrom + k) f) (storesFrom + k) x
+    new = set stored (openFrom + k) 1
 
     settled-only : Only endsFrom waitingFrom w new
     settled-only =
         let h = g .on in
-        only-set (storesFrom + k) x (omega arith) (omega arith) (only-set (endsFrom + k) f (omega arith) (omega arith) (only-none endsFrom waitingFrom w))
+        only-set (openFrom + k) 1 (omega arith) (omega arith)
+        (only-set (storesFrom + k) x (omega arith) (omega arith) (only-set (endsFrom + k) f (omega arith) (omega arith) (only-none endsFrom waitingFrom w)))
+
+    -- opening k leaves ends and stores
+    before-open : (i : ℕ) → i < openFrom → getD new i 0 ≡ getD stored i 0
+    before-open i h = getD-set-other stored (openFrom + k) i 1 0 (omega arith)
 
     end-at : (j : ℕ) → j < 16 → Dec (j ≡ k) → getD new (endsFrom + j) 0 ≡ endOf s (put σ t k a f) j
     end-at j h (yes e) =
         let p = g .on in
-        rw e (getD-set-other (set w (endsFrom + k) f) (storesFrom + k) (endsFrom + k) x 0 (omega arith) ∙ getD-set-same w (endsFrom + k) f 0 (omega arith)
+        rw e (before-open (endsFrom + k) (omega arith) ∙ getD-set-other ended (storesFrom + k) (endsFrom + k) x 0 (omega arith) ∙ getD-set-same w (endsFrom + k) f 0 (omega arith)
         ∙ sym (end-put s σ t k a f g k p ∙ rw (eq-eqb k k refl) (omega arith)))
     end-at j h (no e) =
         let p = g .on in
-        getD-set-other (set w (endsFrom + k) f) (storesFrom + k) (endsFrom + j) x 0 (omega arith) ∙ getD-set-other w (endsFrom + k) (endsFrom + j) f 0 (λ q. e (omega arith)) ∙ ends .ends j h
+        before-open (endsFrom + j) (omega arith) ∙ getD-set-other ended (storesFrom + k) (endsFrom + j) x 0 (omega arith) ∙ getD-set-other w (endsFrom + k) (endsFrom + j) f 0 (λ q. e (omega arith)) ∙ ends .ends j h
         ∙ sym (end-put s σ t k a f g j h ∙ rw (ne-eqb k j (λ q. e (sym q))) (omega arith))
 
     store-at : (j : ℕ) → j < 16 → Dec (j ≡ k) → getD new (storesFrom + j) 0 ≡ storeOn s (put σ t k a f) j
     store-at j h (yes e) =
         let p = g .on in
-        rw e (getD-set-same (set w (endsFrom + k) f) (storesFrom + k) x 0 (simp length-set (omega arith)) ∙ ex)
+        rw e (before-open (storesFrom + k) (omega arith) ∙ getD-set-same ended (storesFrom + k) x 0 (simp length-set (omega arith)) ∙ ex)
     store-at j h (no e) =
         let p = g .on in
-        getD-set-other (set w (endsFrom + k) f) (storesFrom + k) (storesFrom + j) x 0 (λ q. e (omega arith)) ∙ getD-set-other w (endsFrom + k) (storesFrom + j) f 0 (omega arith) ∙ ends .stores j h
+        before-open (storesFrom + j) (omega arith) ∙ getD-set-other ended (storesFrom + k) (storesFrom + j) x 0 (λ q. e (omega arith)) ∙ getD-set-other w (endsFrom + k) (storesFrom + j) f 0 (omega arith) ∙ ends .stores j h
         ∙ sym (store-else s σ t k a f g j h e)
 
+    open-at : (j : ℕ) → j < 16 → Dec (j ≡ k) → getD new (openFrom + j) 0 ≡ bit (isOpen s (put σ t k a f) j)
+    open-at j h (yes e) =
+        let p = g .on in
+        rw e (getD-set-same stored (openFrom + k) 1 0 (simp length-set (omega arith)) ∙ sym (ap bit (open-now s σ t k a f g)))
+    open-at j h (no e) =
+        let p = g .on in
+        getD-set-other stored (openFrom + k) (openFrom + j) 1 0 (λ q. e (omega arith)) ∙ getD-set-other ended (storesFrom + k) (openFrom + j) x 0 (omega arith) ∙ getD-set-other w (endsFrom + k) (openFrom + j) f 0 (omega arith)
+        ∙ ends .opens j h ∙ sym (ap bit (open-else s σ t k a f g j h e))
+
     settled-ends : Ends s (put σ t k a f) new
-    settled-ends = record { ends = λ j h. end-at j h (ℕ-discrete j k); stores = λ j h. store-at j h (ℕ-discrete j k) }
+    settled-ends = record { ends = λ j h. end-at j h (ℕ-discrete j k); stores = λ j h. store-at j h (ℕ-discrete j k); opens = λ j h. open-at j h (ℕ-discrete j k) }
 
   -- as the code writes it
   pub settled-by : (w₂ : List ℕ) {f₁ x y z v r : ℕ} → f₁ ≡ f → x ≡ getD w (storesFrom + k) 0 → y ≡ storeOf s t → z ≡ getD w (bytesFrom + t) 0 → v ≡ getD w (turnBytesFrom + k) 0
-      → r ≡ x + y + z - v → w₂ ≡ set (set w (endsFrom + k) f₁) (storesFrom + k) r → Only endsFrom waitingFrom w w₂ × Ends s (put σ t k a f) w₂
+      → r ≡ x + y + z - v → w₂ ≡ set (set (set w (endsFrom + k) f₁) (storesFrom + k) r) (openFrom + k) 1 → Only endsFrom waitingFrom w w₂ × Ends s (put σ t k a f) w₂
   settled-by w₂ {f₁} {x} {y} {z} {v} {r} ef ex ey ez ev er e =
       let er′ : r ≡ storeOn s (put σ t k a f) k = omega (arith, store-with) in
-      let e′ : w₂ ≡ set (set w (endsFrom + k) f) (storesFrom + k) r = e ∙ ap (λ (i : ℕ). set (set w (endsFrom + k) i) (storesFrom + k) r) ef in
+      let e′ : w₂ ≡ set (set (set w (endsFrom + k) f) (storesFrom + k) r) (openFrom + k) 1 = e ∙ ap (λ (i : ℕ). set (set (set w (endsFrom + k) i) (storesFrom + k) r) (openFrom + k) 1) ef in
       (subst (Only endsFrom waitingFrom w) (sym e′) (settled-only r er′), subst (Ends s (put σ t k a f)) (sym e′) (settled-ends r er′))
 
   pub settled-sub : {x y z v : ℕ} → x ≡ getD w (storesFrom + k) 0 → y ≡ storeOf s t → z ≡ getD w (bytesFrom + t) 0 → v ≡ getD w (turnBytesFrom + k) 0 → (v ≤ x + y + z) × (x + y + z - v ≤ 83884800)

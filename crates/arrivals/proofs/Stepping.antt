@@ -1,14 +1,17 @@
 -- A loop over the lanes: those below k are done, the others stand as they were.
-use Prim.Native.Nat.{ℕ, _+_, _<_, _≤_}
+use Prim.Native.Nat.{ℕ, _+_, _*_, _<_, _≤_}
 use mathlib.Core.Path.{_≡_, refl, ap, _∙_}
 use mathlib.Core.List.{List}
 use native.Mathlib.Omega.{arith}
 use native.Mathlib.Decide.{ℕ-discrete}
+use native.Mathlib.Nat.{mul-le-mul}
 use lib.ListN.{length, getD, set, length-set}
 use lib.Seq.{getD-set-same, getD-set-other}
+use Rattle.sheet.specs.Hops.{hops}
 use Rattle.arrivals.specs.declared.Starts.{Starts}
+use Rattle.arrivals.specs.declared.Row.{Row}
 use Rattle.planner.specs.Schedule.{latestStart}
-use Rattle.arrivals.specs.Lanes.{Steps, Soon}
+use Rattle.arrivals.specs.Lanes.{Steps, Away, Soon}
 
 pub record Halfway (g : ℕ → ℕ → ℕ) (v : List ℕ) (k : ℕ) (w : List ℕ) : Type 0 where
   pub long : length w ≡ 16
@@ -35,6 +38,14 @@ halfway-more {g} {v} {w} {k} {x} h l e =
 pub halfway-end : {g : ℕ → ℕ → ℕ} {q r : Starts} {k : ℕ} → Halfway g (q .at) k (r .at) → 16 ≤ k → Steps g q r
 halfway-end h l = record { on = λ j m. h .done j (omega arith) }
 
+-- a row of hops
+pub row-end : {source : ℕ} {v : List ℕ} {r : Row} {k : ℕ} → Halfway (λ j x. hops source j) v k (r .at) → 16 ≤ k → Away source r
+row-end h l = record { on = λ j m. h .done j (omega arith) }
+
 -- a lane that is not done is as low as it was
 pub halfway-soon : {g : ℕ → ℕ → ℕ} {q r : Starts} {k : ℕ} → Halfway g (q .at) k (r .at) → k < 16 → Soon q → getD (r .at) k 0 ≤ latestStart
 halfway-soon {k = k} h l low = omega (arith, h .left k (omega arith), low .soon k l)
+
+-- a product of a cost and so many hops
+pub times-le : (most cost hops : ℕ) → cost ≤ 65535 → hops ≤ most → cost * hops ≤ 65535 * most
+times-le most cost hops h l = mul-le-mul h l

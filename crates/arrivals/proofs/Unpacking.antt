@@ -8,8 +8,7 @@ use native.Mathlib.Omega.{arith}
 use borrow.Author.Tests.{eq-eqb, ne-eqb}
 use lib.Dec.{ltb}
 use Rattle.folds.specs.Folds.{pick}
-use Rattle.sheet.specs.Sheet.{Sheet, taskCount, linkCount, sourceOf, targetOf}
-use Rattle.sheet.specs.Times.{linkTime}
+use Rattle.sheet.specs.Sheet.{Sheet, taskCount, linkCount, sourceOf, targetOf, costOf}
 use Rattle.sheet.specs.Tables.{Ranged}
 use Rattle.planner.specs.Schedule.{Schedule, latestStart, placed, placeOf, finishOf}
 use Rattle.planner.specs.Placing.{comes, reachBy, arrival, unpacked, readyArrival}
@@ -38,7 +37,7 @@ unfolding comes
 comes-else s σ t l h d = rw (ne-eqb (targetOf s l) t d)
 
 -- the numbers of a link as the code reads them
-pub fresh-by : (s : Sheet) (σ : Schedule) (l x : ℕ) {at f c y u r : ℕ} → at ≡ placeOf σ (sourceOf s l) → f ≡ finishOf σ (sourceOf s l) → c ≡ linkTime s l → y ≡ max x (f + c) → u ≡ s .unpacking → r ≡ pick (ltb at 16) (y + u) x → r ≡ freshPast s σ (targetOf s l) l x
+pub fresh-by : (s : Sheet) (σ : Schedule) (l x : ℕ) {at f c y u r : ℕ} → at ≡ placeOf σ (sourceOf s l) → f ≡ finishOf σ (sourceOf s l) → c ≡ costOf s l → y ≡ max x (f + c) → u ≡ s .unpacking → r ≡ pick (ltb at 16) (y + u) x → r ≡ freshPast s σ (targetOf s l) l x
 unfolding freshPast comes placed
 fresh-by s σ l x ea ef ec ey eu er = er ∙ rw (eq-eqb (targetOf s l) (targetOf s l) refl, ← ea, ← ef, ← ec, ey, eu)
 

@@ -20,7 +20,7 @@ use Rattle.planner.specs.Placing.{reachBy}
 use Rattle.schedule.specs.Layout.{scheduleIn}
 use Rattle.adjacency.specs.Chains.{headOf, nextOf, Chained}
 use Rattle.adjacency.specs.declared.End.the-variants.{Source}
-use Rattle.arrivals.specs.Layout.{bytesFrom, seenFrom, arrivalsFrom, sendersFrom, endsFrom, storesFrom, waitingFrom, turnBytesFrom, packedFrom, keptLength}
+use Rattle.arrivals.specs.Layout.{bytesFrom, seenFrom, arrivalsFrom, sendersFrom, endsFrom, storesFrom, openFrom, waitingFrom, turnBytesFrom, packedFrom, keptLength}
 use Rattle.arrivals.specs.Kept.{countedBy, into, known, oneBy, Single, Gathered, Counted, Ends, Kept, Arrived}
 use Rattle.arrivals.specs.Steps.{upTo, Beside}
 use Rattle.arrivals.proofs.Fours.{four-cong}
@@ -79,7 +79,7 @@ gathered-frame few f d =
 
 pub ends-frame : {s : Sheet} {σ : Schedule} {w w′ : List ℕ} → ((i : ℕ) → endsFrom ≤ i → i < waitingFrom → getD w′ i 0 ≡ getD w i 0) → Ends s σ w → Ends s σ w′
 ends-frame f d =
-    record { ends = λ k h. f (endsFrom + k) (omega arith) (omega arith) ∙ d .ends k h; stores = λ k h. f (storesFrom + k) (omega arith) (omega arith) ∙ d .stores k h }
+    record { ends = λ k h. f (endsFrom + k) (omega arith) (omega arith) ∙ d .ends k h; stores = λ k h. f (storesFrom + k) (omega arith) (omega arith) ∙ d .stores k h; opens = λ k h. f (openFrom + k) (omega arith) (omega arith) ∙ d .opens k h }
 
 beside-none : (w : List ℕ) → Beside w w
 beside-none w = record { long = refl; low = λ i h. refl; mid = λ i h g. refl }

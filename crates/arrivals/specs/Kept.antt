@@ -5,15 +5,15 @@ use mathlib.Core.Path.{_≡_}
 use mathlib.Core.List.{List}
 use lib.ListN.{length, getD}
 use lib.Dec.{eqb}
-use Rattle.folds.specs.Folds.{pick, both, sum, greatest}
+use Rattle.folds.specs.Folds.{pick, bit, both, sum, greatest}
 use Rattle.sheet.specs.Sheet.{Sheet, taskCount, linkCount, sourceOf, targetOf, bytesOf}
 use Rattle.sheet.specs.Tables.{sheetIn, Loaded, Ranged}
 use Rattle.planner.specs.Schedule.{Schedule, placeOf, placed, stands}
-use Rattle.planner.specs.Placing.{reachBy, endOf, storeOn}
+use Rattle.planner.specs.Placing.{reachBy, endOf, storeOn, isOpen}
 use Rattle.schedule.specs.Layout.{scheduleIn}
 use Rattle.adjacency.specs.Chains.{Chained}
 use Rattle.adjacency.specs.declared.End.the-variants.{Source, Target}
-use Rattle.arrivals.specs.Layout.{bytesFrom, seenFrom, arrivalsFrom, sendersFrom, endsFrom, storesFrom, waitingFrom, turnBytesFrom, turnLinksFrom, packedFrom, keptLength}
+use Rattle.arrivals.specs.Layout.{bytesFrom, seenFrom, arrivalsFrom, sendersFrom, endsFrom, storesFrom, openFrom, waitingFrom, turnBytesFrom, turnLinksFrom, packedFrom, keptLength}
 
 -- what link l gives, if it is counted (c) and of those that are asked for (q)
 unfoldable pub countedBy : (ℕ → Bool) → (ℕ → ℕ) → (ℕ → Bool) → ℕ → ℕ
@@ -71,6 +71,7 @@ Surveyed s σ t w = SurveyedTo s σ t (linkCount s) w
 pub record Ends (s : Sheet) (σ : Schedule) (w : List ℕ) : Type 0 where
   pub ends : (k : ℕ) → k < 16 → getD w (endsFrom + k) 0 ≡ endOf s σ k
   pub stores : (k : ℕ) → k < 16 → getD w (storesFrom + k) 0 ≡ storeOn s σ k
+  pub opens : (k : ℕ) → k < 16 → getD w (openFrom + k) 0 ≡ bit (isOpen s σ k)
 
 -- no task is placed before its predecessors
 abbrev pub Closed : Sheet → Schedule → Type 0

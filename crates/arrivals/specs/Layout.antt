@@ -26,22 +26,26 @@ endsFrom = 1280
 abbrev pub storesFrom : ℕ
 storesFrom = 1296
 
+-- .. 1 if it is open, else 0
+abbrev pub openFrom : ℕ
+openFrom = 1312
+
 -- .. the known links from it to tasks that are not placed
 abbrev pub waitingFrom : ℕ
-waitingFrom = 1312
+waitingFrom = 1328
 
 -- .. the bytes of the links from it into the task of this turn
 abbrev pub turnBytesFrom : ℕ
-turnBytesFrom = 1328
+turnBytesFrom = 1344
 
 -- .. the number of these links
 abbrev pub turnLinksFrom : ℕ
-turnLinksFrom = 1344
+turnLinksFrom = 1360
 
 -- at 4 t + j the known links into task t from processors 4 j to 4 j + 3, a byte for each (1,024 words)
 abbrev pub packedFrom : ℕ
-packedFrom = 1360
+packedFrom = 1376
 
 -- how many words these are
 abbrev pub keptLength : ℕ
-keptLength = 2384
+keptLength = 2400

@@ -6,6 +6,7 @@ ghost use lib.ListN.{length, getD};
 ghost use lib.Dec.{eqb, ltb};
 ghost use Rattle.folds.specs.Folds.{pick};
 ghost use Rattle.sheet.specs.Sheet.{taskCount, linkCount, sourceOf, targetOf};
+ghost use Rattle.sheet.specs.Hops.{hops, linkTime};
 ghost use Rattle.sheet.specs.Tables.{sheetIn, Loaded};
 ghost use Rattle.planner.specs.Schedule.{put, latestFinish, latestStart, placed};
 ghost use Rattle.planner.specs.Placing.{ready, readyArrival, endOf, startBy, startFrom};
@@ -15,10 +16,11 @@ ghost use Rattle.adjacency.specs.Chains.{Chained};
 ghost use Rattle.adjacency.specs.declared.End.the-variants.{Target};
 ghost use Rattle.arrivals.specs.Layout.{seenFrom, endsFrom, waitingFrom, turnBytesFrom, packedFrom, keptLength};
 ghost use Rattle.arrivals.specs.Kept.{Single, Gathered, Counted, SurveyedTo, Surveyed, Ends, Kept};
-ghost use Rattle.arrivals.specs.Lanes.{Lanes, Steps, startPast, startUnpacked, startBeyond, freshPast, Soon, Started, Early};
+ghost use Rattle.arrivals.specs.Lanes.{Lanes, Steps, Away, startPast, startUnpacked, startHopped, startBeyond, freshPast, Soon, Started, Early};
 ghost use Rattle.arrivals.specs.Reach.{further};
 ghost use Rattle.arrivals.specs.Steps.{countWords, upTo, Beside, Placeable, Landed, Released, Enough, GatheredTo};
 use adjacency::End;
+use sheet::hops;
 use sheet::tables;
 
 // Where each table of the planner's own words begins, and how many words these are: specs/Layout says what they hold.
@@ -34,15 +36,17 @@ pub const ENDS: usize = 1280;
 
 pub const STORES: usize = 1296;
 
-pub const WAITING: usize = 1312;
+pub const OPEN: usize = 1312;
 
-pub const TURN_BYTES: usize = 1328;
+pub const WAITING: usize = 1328;
 
-pub const TURN_LINKS: usize = 1344;
+pub const TURN_BYTES: usize = 1344;
 
-pub const PACKED: usize = 1360;
+pub const TURN_LINKS: usize = 1360;
 
-pub const LENGTH: usize = 2384;
+pub const PACKED: usize = 1376;
+
+pub const LENGTH: usize = 2400;
 
 // When the latest message to a task is there, and the processor that it comes from.
 pub struct Reach {
@@ -117,7 +121,7 @@ pub fn count_link(w: &[u32], kept: &mut [u32], t: usize, k: usize, f: usize, l: 
     write_link(kept, v, k, seen + 1, reach, pending + 1, number + one_of(k));
 }
 
-// k ends at f with t on it, from a on.
+// k ends at f with t on it, from a on, and is open.
 pub fn settle(w: &[u32], kept: &mut [u32], t: usize, k: usize, a: usize, f: usize)
     requires { ⌜ Kept (now w) (now kept) ⌝ }
     requires { ⌜ Placeable (sheetIn (now w)) (scheduleIn (now w)) t k × Surveyed (sheetIn (now w)) (scheduleIn (now w)) t (now kept) ⌝ }
@@ -132,6 +136,7 @@ pub fn settle(w: &[u32], kept: &mut [u32], t: usize, k: usize, a: usize, f: usiz
     let r = u - v;
     kept[ENDS + k] = workspace::narrow(f);
     kept[STORES + k] = workspace::narrow(r);
+    kept[OPEN + k] = 1;
 }
 
 // The links into the task of this turn wait no more.
@@ -228,16 +233,69 @@ fn starts_unpacked(starts: Starts, source: usize, reach: u32, unpacking: u32) ->
     r
 }
 
-// Past link l, whose source is placed; the unpacking time is the same for the whole walk.
-fn starts_with(w: &[u32], starts: Starts, unpacking: u32, l: usize) -> Starts
-    requires { ⌜ Loaded (now w) × (l < linkCount (sheetIn (now w))) ⌝ }
-    requires { ⌜ Early (scheduleIn (now w)) × Soon starts × (unpacking ≡ sheetIn (now w) .unpacking) ⌝ }
+// How many hops each processor is from one: in a row of its own, since a loop over bytes is a few vector instructions.
+pub struct Row {
+    pub at: [u8; 16],
+}
+
+fn hops_from(source: usize) -> Row
+    requires { ⌜ source < 16 ⌝ }
+    ensures { λ r. ⌜ Away source r ⌝ }
+{
+    let from = source as u8;
+    let at = [0u8; 16];
+    let mut r = Row { at: at };
+    let mut k: usize = 0;
+    while k < 16 {
+        r.at[k] = hops::hops(from, k as u8) as u8;
+        k += 1;
+    }
+    r
+}
+
+// The time of a message over so many hops.
+fn times(cost: u16, hops: u8) -> u32
+    ensures { λ r. ⌜ (r ≡ cost * hops) × (r ≤ 16711425) ⌝ }
+{
+    (cost as u32) * (hops as u32)
+}
+
+// The starts on all processors of a cube, past one link more, whose message takes its cost for each hop.
+fn starts_hopped(
+    starts: Starts,
+    row: Row,
+    source: usize,
+    finish: u32,
+    cost: u16,
+    unpacking: u32,
+) -> Starts
+    requires { ⌜ Soon starts × (finish ≤ latestFinish) × (unpacking ≤ 65535) ⌝ }
+    ensures { λ r. ⌜ Steps (startHopped row source finish cost unpacking) starts r ⌝ }
+{
+    let mut r = starts;
+    let mut k: usize = 0;
+    while k < 16 {
+        let time = times(cost, row.at[k]);
+        r.at[k] = start_unpacked(r.at[k], k, source, finish + time, unpacking);
+        k += 1;
+    }
+    r
+}
+
+// Past link l, whose source is placed; the unpacking time and whether the board is a cube are the same for the whole walk.
+fn starts_with(w: &[u32], starts: Starts, cube: bool, unpacking: u32, l: usize) -> Starts
+    requires { ⌜ Loaded (now w) × (l < linkCount (sheetIn (now w))) × (placed (scheduleIn (now w)) (sourceOf (sheetIn (now w)) l) ≡ true) ⌝ }
+    requires { ⌜ Early (scheduleIn (now w)) × Soon starts × (cube ≡ sheetIn (now w) .cube) × (unpacking ≡ sheetIn (now w) .unpacking) ⌝ }
     ensures { λ r. ⌜ Steps (startBeyond (sheetIn (now (w .entry))) (scheduleIn (now (w .entry))) l) starts r ⌝ }
 {
     let u = tables::source(w, l);
     let k = schedule::place(w, u);
     let f = workspace::narrow(schedule::finish(w, u));
-    let time = workspace::narrow(tables::cost(w, l));
+    let cost = tables::cost(w, l);
+    if cube {
+        return starts_hopped(starts, hops_from(k), k, f, cost as u16, unpacking);
+    }
+    let time = workspace::narrow(cost);
     if unpacking == 0 {
         return starts_past(starts, k, f, time);
     }
@@ -269,12 +327,13 @@ fn survey_links(w: &[u32], kept: &mut [u32], t: usize) -> Starts
     ensures { λ r. ⌜ Only turnBytesFrom packedFrom (now (kept .entry)) (now (kept .exit)) × Surveyed (sheetIn (now (w .entry))) (scheduleIn (now (w .entry))) t (now (kept .exit)) × Started (now (w .entry)) t r ⌝ }
 {
     let n = workspace::word(kept, t);
+    let cube = tables::cube(w);
     let unpacking = workspace::narrow(tables::unpacking(w));
     let mut starts = begun(kept);
     let mut l = adjacency::first(w, End::Target, t);
     let mut i: usize = 0;
     while i < n {
-        starts = starts_with(w, starts, unpacking, l);
+        starts = starts_with(w, starts, cube, unpacking, l);
         survey_link(w, kept, t, l);
         l = adjacency::next(w, End::Target, l);
         i += 1;
@@ -293,14 +352,36 @@ pub fn survey(w: &[u32], kept: &mut [u32], t: usize) -> Starts
     survey_links(w, kept, t)
 }
 
+// How long a message of this cost is under way from one processor of a cube to another.
+fn hop_time(cost: usize, at: usize, k: usize) -> usize
+    requires { ⌜ (cost < 65536) × (at < 16) × (k < 16) ⌝ }
+    ensures { λ r. ⌜ (r ≡ cost * hops at k) × (r ≤ 524280) ⌝ }
+{
+    cost * workspace::wide(hops::hops(at as u8, k as u8))
+}
+
+// How long the message of link l is under way to k from where its source stands, if it is placed.
+fn time_to(w: &[u32], cube: bool, l: usize, at: usize, k: usize) -> usize
+    requires { ⌜ Loaded (now w) × (l < linkCount (sheetIn (now w))) × (k < 16) × (cube ≡ sheetIn (now w) .cube) ⌝ }
+    ensures { λ r. ⌜ ((at < 16 → r ≡ linkTime (sheetIn (now (w .entry))) l at k)) × (r ≤ 524280) ⌝ }
+{
+    let cost = tables::cost(w, l);
+    if cube {
+        if at < 16 {
+            return hop_time(cost, at, k);
+        }
+    }
+    cost
+}
+
 // What t, to which link l leads, waits for on k: nothing while the link's source is not placed.
-fn start_by(w: &[u32], k: usize, l: usize) -> usize
-    requires { ⌜ Loaded (now w) × (l < linkCount (sheetIn (now w))) ⌝ }
+fn start_by(w: &[u32], cube: bool, k: usize, l: usize) -> usize
+    requires { ⌜ Loaded (now w) × (l < linkCount (sheetIn (now w))) × (k < 16) × (cube ≡ sheetIn (now w) .cube) ⌝ }
     ensures { λ r. ⌜ r ≡ startBy (sheetIn (now (w .entry))) (scheduleIn (now (w .entry))) (targetOf (sheetIn (now (w .entry))) l) k l ⌝ }
 {
     let u = tables::source(w, l);
     let at = schedule::place(w, u);
-    let c = chosen(at == k, 0, tables::cost(w, l));
+    let c = chosen(at == k, 0, time_to(w, cube, l, at, k));
     chosen(at < 16, schedule::finish(w, u) + c, 0)
 }
 
@@ -311,6 +392,7 @@ pub fn starts_before(w: &[u32], kept: &[u32], t: usize, k: usize, limit: usize) 
     ensures { λ r. ⌜ r ≡ ltb (startFrom (sheetIn (now (w .entry))) (scheduleIn (now (w .entry))) t k (endOf (sheetIn (now (w .entry))) (scheduleIn (now (w .entry))) k)) limit ⌝ }
 {
     let n = workspace::word(kept, t);
+    let cube = tables::cube(w);
     let mut start = workspace::word(kept, ENDS + k);
     let mut l = adjacency::first(w, End::Target, t);
     let mut i: usize = 0;
@@ -318,7 +400,7 @@ pub fn starts_before(w: &[u32], kept: &[u32], t: usize, k: usize, limit: usize) 
         if limit <= start {
             return false;
         }
-        start = numbers::later(start, start_by(w, k, l));
+        start = numbers::later(start, start_by(w, cube, k, l));
         l = adjacency::next(w, End::Target, l);
         i += 1;
     }

@@ -1,15 +1,15 @@
 -- The round trips of sheets and bundles through the functions of the interface.
-use Prim.Native.Nat.{ℕ, _*_, _/_, _≤_, _<_}
+use Prim.Native.Nat.{ℕ, zero, suc, _*_, _/_, _≤_}
 use native.Mathlib.Omega.{arith}
-use mathlib.Core.Path.{_≡_, refl, sym, ap, ap₂, subst, _∙_}
+use mathlib.Core.Path.{_≡_, refl, sym, ap, ap₂, _∙_}
+use mathlib.Core.Bool.{Bool, true, false}
 use mathlib.Core.List.{List, [], _∷_}
 use borrow.Author.Tests.{le-ltb}
 use lib.ListN.{length, getD, take}
 use lib.Dec.{ltb}
 use Rattle.folds.specs.Folds.{pick}
-use Rattle.folds.specs.Answers.{Answer, value, refused, andThen, longEnough, fitting, number, placeOr, written}
+use Rattle.folds.specs.Answers.{Answer, value, andThen, longEnough, fitting, number, placeOr, written}
 use Rattle.folds.proofs.Tests.{andThen-value, value-same}
-use Rattle.numbers.specs.Number.{Bytes}
 use Rattle.workspace.specs.Area.{fixed}
 use Rattle.sheet.specs.Sheet.{Sheet, taskCount, linkCount}
 use Rattle.sheet.specs.Writing.{sheetOfValues, taskValues, linkValues}
@@ -21,15 +21,25 @@ use Rattle.graph.specs.Graph.{readSheet}
 use Rattle.graph.proofs.Proper.{read-form}
 use Rattle.bundle.specs.Bundle.{Bundle}
 use Rattle.bundle.specs.Format.{readBundle}
-use Rattle.bundle.specs.Writing.{bundleBytes, bundleValues}
+use Rattle.bundle.specs.Writing.{bundleValues}
 use Rattle.bundle.specs.Writing as bundles
 use Rattle.bundle.proofs.Rounds as bundle-rounds
 use Rattle.entry_points.specs.Values.{tabled, taskTable, linkTable, boardAfter, boardOf, commandTable, claimAfter, valueCount}
 use Rattle.zeldrupa.specs.Promises.{Gives, writeSheetAnswer, writeBundleAnswer, readSheetAnswer, GivesSheet, readBundleAnswer, GivesBundle}
 use Rattle.zeldrupa.proofs.Gives.{enough}
-use Rattle.assurance.specs.RoundTrips.{Values, RoundTrips}
+use Rattle.assurance.specs.RoundTrips.{RoundTrips}
 use Rattle.assurance.proofs.Numbers.{Numbered, returned-0, numbered-value, numbered-refused, numbered-then, numbered-pick, numbered-long, numbered-fitting, numbered-sheet, numbered-bundle}
 use Rattle.assurance.proofs.Results.{long-value, past-test, fitting-value, value-fitting, written-front, gives-value, gave}
+
+-- a cube among a sheet's values, and the value of a cube
+cube-value : (c : ℕ) → c ≤ 1 → pick (sheets.cubeOf c) 1 0 ≡ c
+cube-value zero h = refl
+cube-value (suc zero) h = refl
+cube-value (suc (suc c)) h = absurd (omega arith)
+
+cube-again : (c : Bool) → sheets.cubeOf (pick c 1 0) ≡ c
+cube-again true = refl
+cube-again false = refl
 
 -- the tables of a sheet that have room, and what a sheet in tables was read from
 tabled-value : (t l : ℕ) (s : Sheet) → 2 * taskCount s ≤ t → 4 * linkCount s ≤ l → tabled t l s ≡ value s
@@ -68,11 +78,11 @@ module _ (sheet : List ℕ) {work work′ t t′ l l′ b b′ : List ℕ} {p r 
       (v .0, v .1, q .1 ∙ ap value (value-tabled (length t) (length l) (q .0) (v .0) (q .2)))
 
 -- the bytes that zeldrupa_write_sheet wrote, and the sheet that they are
-wrote-sheet : (processors limit unpacking : ℕ) (tasks links work work′ out out′ : List ℕ) (n : ℕ) → Gives (writeSheetAnswer processors limit unpacking tasks links (length work) (length out)) work work′ out out′ n 0
-    → (s : Sheet) × (readSheet (sheets.valueBytes processors limit unpacking tasks links) ≡ value s) × (take n out′ ≡ sheets.valueBytes processors limit unpacking tasks links)
+wrote-sheet : (processors limit unpacking cube : ℕ) (tasks links work work′ out out′ : List ℕ) (n : ℕ) → Gives (writeSheetAnswer processors limit unpacking cube tasks links (length work) (length out)) work work′ out out′ n 0
+    → (s : Sheet) × (readSheet (sheets.valueBytes processors limit unpacking (sheets.cubeOf cube) tasks links) ≡ value s) × (take n out′ ≡ sheets.valueBytes processors limit unpacking (sheets.cubeOf cube) tasks links)
 unfolding writeSheetAnswer
-wrote-sheet processors limit unpacking tasks links work work′ out out′ n g =
-    let bytes = sheets.valueBytes processors limit unpacking tasks links in
+wrote-sheet processors limit unpacking cube tasks links work work′ out out′ n g =
+    let bytes = sheets.valueBytes processors limit unpacking (sheets.cubeOf cube) tasks links in
     let a = andThen (readSheet bytes) (λ s. fitting (length out) bytes) in
     let v = gave g (numbered-long fixed (length work) a (numbered-then (readSheet bytes) _ (numbered-sheet bytes) (λ s. numbered-fitting (length out) bytes))) refl .0 in
     let q = andThen-value (readSheet bytes) (λ s. fitting (length out) bytes) (take n out′) (long-value (length work) a (take n out′) v .1) in
@@ -125,10 +135,10 @@ read-bundle-is : (sheet bundle : List ℕ) (s : Sheet) (b : Bundle) (work c : �
 unfolding readBundleAnswer
 read-bundle-is sheet bundle s b work c h i e f = enough _ work h ∙ rw (e, f, value-fitting c (bundleValues b) i)
 
-write-sheet-is : (processors limit unpacking : ℕ) (tasks links sheet : List ℕ) (s : Sheet) (work out : ℕ) → fixed ≤ work → length sheet ≤ out
-    → sheets.valueBytes processors limit unpacking tasks links ≡ sheet → readSheet sheet ≡ value s → writeSheetAnswer processors limit unpacking tasks links work out ≡ value sheet
+write-sheet-is : (processors limit unpacking cube : ℕ) (tasks links sheet : List ℕ) (s : Sheet) (work out : ℕ) → fixed ≤ work → length sheet ≤ out
+    → sheets.valueBytes processors limit unpacking (sheets.cubeOf cube) tasks links ≡ sheet → readSheet sheet ≡ value s → writeSheetAnswer processors limit unpacking cube tasks links work out ≡ value sheet
 unfolding writeSheetAnswer
-write-sheet-is processors limit unpacking tasks links sheet s work out h room same e = enough _ work h ∙ rw (same, e, value-fitting out sheet room)
+write-sheet-is processors limit unpacking cube tasks links sheet s work out h room same e = enough _ work h ∙ rw (same, e, value-fitting out sheet room)
 
 write-bundle-is : (sheet commands bundle : List ℕ) (claim : ℕ) (s : Sheet) (b : Bundle) (work out : ℕ) → fixed ≤ work → length bundle ≤ out
     → bundles.valueBytes commands claim ≡ bundle → readSheet sheet ≡ value s → readBundle s bundle ≡ value b → writeBundleAnswer sheet commands claim work out ≡ value bundle
@@ -140,19 +150,22 @@ unfolding sheetOfValues
 round-trips =
     record {
       sheet-values =
-          λ processors limit unpacking tasks links small time small-tasks small-links work work′ out out′ n g area area′ t t′ l l′ b b′ p r long room-t room-l read.
-          let v = wrote-sheet processors limit unpacking tasks links work work′ out out′ n g in
+          λ processors limit unpacking cube tasks links small time wired small-tasks small-links work work′ out out′ n g area area′ t t′ l l′ b b′ p r long room-t room-l read.
+          let v = wrote-sheet processors limit unpacking cube tasks links work work′ out out′ n g in
           let s = v .0 in
-          let again = sheet-backs.values-again processors limit unpacking tasks links s small-tasks small-links small time (read-form _ s (v .1) .0) in
-          let nt : taskCount s ≡ length tasks / 2 = ap taskCount (again .0) ∙ sheet-backs.values-tasks processors limit unpacking tasks links in
-          let nl : linkCount s ≡ length links / 4 = ap linkCount (again .0) ∙ sheet-backs.values-links processors limit unpacking tasks links in
+          let again = sheet-backs.values-again processors limit unpacking (sheets.cubeOf cube) tasks links s small-tasks small-links small time (read-form _ s (v .1) .0) in
+          let nt : taskCount s ≡ length tasks / 2 = ap taskCount (again .0) ∙ sheet-backs.values-tasks processors limit unpacking (sheets.cubeOf cube) tasks links in
+          let nl : linkCount s ≡ length links / 4 = ap linkCount (again .0) ∙ sheet-backs.values-links processors limit unpacking (sheets.cubeOf cube) tasks links in
           let et : 2 * taskCount s ≡ length tasks = omega (arith, again .2) in
           let el : 4 * linkCount s ≡ length links = omega (arith, again .3) in
           let left = sheet-left (take n out′) read s (read-sheet-is (take n out′) s (length area) (length t) (length l) long (omega arith) (omega arith) (ap readSheet (v .2) ∙ v .1)) in (
             left .0,
-            ap (λ (k : ℕ). take k t′) (sym et) ∙ left .1 ∙ ap (λ (x : Sheet). taskValues (x .tasks)) (again .0) ∙ task-values-again processors limit unpacking tasks links (again .2),
-            ap (λ (k : ℕ). take k l′) (sym el) ∙ left .2 ∙ ap (λ (x : Sheet). linkValues (x .links)) (again .0) ∙ link-values-again processors limit unpacking tasks links (again .3),
-            left .3 ∙ ap₂ (λ (x y : ℕ). s .processors ∷ s .limit ∷ x ∷ y ∷ s .unpacking ∷ []) nt nl ∙ ap (λ (x : Sheet). x .processors ∷ x .limit ∷ length tasks / 2 ∷ length links / 4 ∷ x .unpacking ∷ []) (again .0),
+            ap (λ (k : ℕ). take k t′) (sym et) ∙ left .1 ∙ ap (λ (x : Sheet). taskValues (x .tasks)) (again .0) ∙ task-values-again processors limit unpacking (sheets.cubeOf cube) tasks links (again .2),
+            ap (λ (k : ℕ). take k l′) (sym el) ∙ left .2 ∙ ap (λ (x : Sheet). linkValues (x .links)) (again .0) ∙ link-values-again processors limit unpacking (sheets.cubeOf cube) tasks links (again .3),
+            left .3
+                ∙ ap₂ (λ (x y : ℕ). s .processors ∷ s .limit ∷ x ∷ y ∷ s .unpacking ∷ pick (s .cube) 1 0 ∷ []) nt nl
+                ∙ ap (λ (x : Sheet). x .processors ∷ x .limit ∷ length tasks / 2 ∷ length links / 4 ∷ x .unpacking ∷ pick (x .cube) 1 0 ∷ []) (again .0)
+                ∙ ap (λ (c : ℕ). processors ∷ limit ∷ length tasks / 2 ∷ length links / 4 ∷ unpacking ∷ c ∷ []) (cube-value cube wired),
           );
       sheet-bytes =
           λ sheet bytes work work′ t t′ l l′ b b′ p g area area′ out out′ n r long room write.
@@ -161,11 +174,12 @@ round-trips =
           let left = sheet-left sheet g s (v .1) in
           let vt : take (2 * getD b′ 2 0) t′ ≡ taskValues (s .tasks) = ap (λ (x : List ℕ). take (2 * getD x 2 0) t′) (left .3) ∙ left .1 in
           let vl : take (4 * getD b′ 3 0) l′ ≡ linkValues (s .links) = ap (λ (x : List ℕ). take (4 * getD x 3 0) l′) (left .3) ∙ left .2 in
-          let same : sheets.valueBytes (getD b′ 0 0) (getD b′ 1 0) (getD b′ 4 0) (take (2 * getD b′ 2 0) t′) (take (4 * getD b′ 3 0) l′) ≡ sheet =
-          ap₂ (λ (x y : List ℕ). sheets.valueBytes (getD b′ 0 0) (getD b′ 1 0) (getD b′ 4 0) x y) vt vl
-          ∙ ap (λ (x : List ℕ). sheets.valueBytes (getD x 0 0) (getD x 1 0) (getD x 4 0) (taskValues (s .tasks)) (linkValues (s .links))) (left .3)
+          let same : sheets.valueBytes (getD b′ 0 0) (getD b′ 1 0) (getD b′ 4 0) (sheets.cubeOf (getD b′ 5 0)) (take (2 * getD b′ 2 0) t′) (take (4 * getD b′ 3 0) l′) ≡ sheet =
+          ap₂ (λ (x y : List ℕ). sheets.valueBytes (getD b′ 0 0) (getD b′ 1 0) (getD b′ 4 0) (sheets.cubeOf (getD b′ 5 0)) x y) vt vl
+          ∙ ap (λ (x : List ℕ). sheets.valueBytes (getD x 0 0) (getD x 1 0) (getD x 4 0) (sheets.cubeOf (getD x 5 0)) (taskValues (s .tasks)) (linkValues (s .links))) (left .3)
+          ∙ ap (λ (c : Bool). sheets.valueBytes (s .processors) (s .limit) (s .unpacking) c (taskValues (s .tasks)) (linkValues (s .links))) (cube-again (s .cube))
           ∙ sheet-backs.bytes-of-values s ∙ sheet-rounds.bytes-again sheet s bytes (read-form sheet s (v .2) .0) in
-          gives-value write sheet (write-sheet-is _ _ _ _ _ sheet s (length area) (length out) long room same (v .2));
+          gives-value write sheet (write-sheet-is _ _ _ _ _ _ sheet s (length area) (length out) long room same (v .2));
       bundle-values =
           λ sheet commands claim small small-commands work work′ out out′ n g area area′ c c′ t t′ p r long room read.
           let v = wrote-bundle sheet commands claim work work′ out out′ n g in

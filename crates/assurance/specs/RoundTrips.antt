@@ -13,19 +13,19 @@ abbrev pub Values : List ℕ → Type 0
 Values v = (i : ℕ) → getD v i 0 < 65536
 
 pub record RoundTrips : Type 0 where
-  -- what zeldrupa_write_sheet wrote from values, zeldrupa_read_sheet gives back value for value
+  -- what zeldrupa_write_sheet wrote from values, zeldrupa_read_sheet gives back value for value; a cube that is not 0 comes back as 1
   pub sheet-values :
-      (processors limit unpacking : ℕ) (tasks links : List ℕ) → limit < 4294967296 → unpacking < 65536 → Values tasks → Values links →
-      (work work′ out out′ : List ℕ) (n : ℕ) → Gives (writeSheetAnswer processors limit unpacking tasks links (length work) (length out)) work work′ out out′ n 0 →
+      (processors limit unpacking cube : ℕ) (tasks links : List ℕ) → limit < 4294967296 → unpacking < 65536 → cube ≤ 1 → Values tasks → Values links →
+      (work work′ out out′ : List ℕ) (n : ℕ) → Gives (writeSheetAnswer processors limit unpacking cube tasks links (length work) (length out)) work work′ out out′ n 0 →
       (area area′ t t′ l l′ b b′ : List ℕ) (p r : ℕ) → fixed ≤ length area → length tasks ≤ length t → length links ≤ length l →
       GivesSheet (readSheetAnswer (take n out′) (length area) (length t) (length l)) area area′ t t′ l l′ b b′ p r →
-      (r ≡ 0) × (take (length tasks) t′ ≡ tasks) × (take (length links) l′ ≡ links) × (b′ ≡ processors ∷ limit ∷ length tasks / 2 ∷ length links / 4 ∷ unpacking ∷ [])
+      (r ≡ 0) × (take (length tasks) t′ ≡ tasks) × (take (length links) l′ ≡ links) × (b′ ≡ processors ∷ limit ∷ length tasks / 2 ∷ length links / 4 ∷ unpacking ∷ cube ∷ [])
   -- what zeldrupa_read_sheet gave, zeldrupa_write_sheet writes byte for byte
   pub sheet-bytes :
       (sheet : List ℕ) → Bytes sheet →
       (work work′ t t′ l l′ b b′ : List ℕ) (p : ℕ) → GivesSheet (readSheetAnswer sheet (length work) (length t) (length l)) work work′ t t′ l l′ b b′ p 0 →
       (area area′ out out′ : List ℕ) (n r : ℕ) → fixed ≤ length area → length sheet ≤ length out →
-      Gives (writeSheetAnswer (getD b′ 0 0) (getD b′ 1 0) (getD b′ 4 0) (take (2 * getD b′ 2 0) t′) (take (4 * getD b′ 3 0) l′) (length area) (length out)) area area′ out out′ n r →
+      Gives (writeSheetAnswer (getD b′ 0 0) (getD b′ 1 0) (getD b′ 4 0) (getD b′ 5 0) (take (2 * getD b′ 2 0) t′) (take (4 * getD b′ 3 0) l′) (length area) (length out)) area area′ out out′ n r →
       (r ≡ 0) × (n ≡ length sheet) × (take n out′ ≡ sheet)
   -- the same of bundles
   pub bundle-values :

@@ -1,4 +1,4 @@
--- The starred trial sheets of document 01, K1 to K8, a bare board, boards with an unpacking time and choices between two bundles, as one statement about the definitions, which compute them.
+-- The starred trial sheets of document 01, K1 to K8, a bare board, boards with an unpacking time and wired as a cube and choices between two bundles, as one statement about the definitions, which compute them.
 use Prim.Native.Nat.{ℕ}
 use mathlib.Core.Bool.{Bool, true, false}
 use mathlib.Core.Option.{Option, none, some}
@@ -10,6 +10,7 @@ use Rattle.numbers.specs.Number.{numberAt}
 use Rattle.commands.specs.Commands.{judge, readFrom, readAll}
 use Rattle.sheet.specs.Sheet.{Sheet, Task, Link, taskCount, linkCount, workOf, storeOf, sourceOf, targetOf, costOf, bytesOf}
 use Rattle.sheet.specs.Format.{joinsBy, joins, readForm}
+use Rattle.sheet.specs.Hops.{linkTime}
 use Rattle.sheet.specs.Writing.{boardBytes, taskBytes, linkBytes, sheetBytes}
 use Rattle.graph.specs.Graph.{reachesBy, reaches, onCircle, circle, levelBy, levelWithin, level, readSheet}
 use Rattle.bundle.specs.Bundle.{run, send, receive, Bundle, programmeCount, programmeOf}
@@ -19,15 +20,15 @@ use Rattle.sheet.specs.Format as sheets
 use Rattle.bundle.specs.Writing.{bundleBytes}
 use Rattle.admission.specs.Counting.{weigh, wholeOf, whole, is}
 use Rattle.admission.specs.Messages.{notOnce, holds, home, before, inside, sendFault, receiveFault, orderFault, messageFault, overStore, at26, atMessage, at28}
-use Rattle.machine.specs.Machine.{processorOf, stampOf, next, stated, stepIn, step, canStep}
+use Rattle.machine.specs.Machine.{processorOf, stampOf, next, travels, stated, stepIn, step, canStep}
 use Rattle.machine.specs.Runs.{clockOf, latest, settle, settled}
 use Rattle.checker.specs.Checker.{unfinished, at29, at30, closing, checked, check}
 use Rattle.better.specs.Orders.{byBytes, byRank}
 use Rattle.better.specs.Ranks.{runsTask, runners, rankOf}
 use Rattle.better.specs.Choices.{firstLent, secondLent, better}
 use Rattle.planner.specs.Schedule.{Schedule, empty, placeOf, startOf, finishOf, placed, stands}
-use Rattle.planner.specs.Placing.{comes, lacks, satisfied, ready, partlyReady, arrivalBy, arrival, priority, unpacked, readyArrival, readyPriority, aheadBy, firstReady, firstPartlyReady, endBy, endOf, startBy, startFrom, elsewhere, nearBy, startOn, storeBy, bytesBy, storeOn, fits, holdsBy, holdsPredecessor, startWith, bestStart, endsWith, delays, barred, followsBy, follows, spentBy, spent}
-use Rattle.planner.specs.Planner.{mayJoin, join, mayTake, idle, opens, mayShare, share, another, lastResort, choice, turn, turns, plannedBy, planned, brings, takesAway, receiveOf, sendOf, blockOf, blocks, programme, claimOf, bundleOf, plan}
+use Rattle.planner.specs.Placing.{comes, lacks, satisfied, ready, partlyReady, arrivalBy, arrival, priority, unpacked, readyArrival, readyPriority, aheadBy, firstReady, firstPartlyReady, endBy, endOf, startBy, startFrom, elsewhere, nearBy, startOn, storeBy, bytesBy, storeOn, fits, holdsBy, holdsPredecessor, startWith, bestStart, endsWith, delays, barred, isOpen, followsBy, follows, spentBy, spent}
+use Rattle.planner.specs.Planner.{mayJoin, join, mayTake, idle, mayOpen, another, mayShare, share, mayCrowd, lastResort, choice, turn, turns, plannedBy, planned, brings, takesAway, receiveOf, sendOf, blockOf, blocks, programme, running, claimOf, bundleOf, plan}
 use Rattle.planner.specs.Amended.{plannedBefore}
 use Rattle.listing.specs.Listing.{decimalWithin, decimal, planLine, taskLine, refusalLine, scheduleLines, listing}
 
@@ -40,7 +41,7 @@ link a b c d = record { source = a; target = b; cost = c; bytes = d }
 -- K1's graph on p processors of store limit m, with work w for task 2
 abbrev pub sheetK : ℕ → ℕ → ℕ → Sheet
 sheetK p m w =
-    record { processors = p; limit = m; unpacking = 0; tasks = task 1 10 ∷ task 3 10 ∷ task w 10 ∷ task 2 10 ∷ []; links = link 3 2 1 4 ∷ link 3 1 2 4 ∷ link 0 1 1 4 ∷ [] }
+    record { processors = p; limit = m; unpacking = 0; cube = false; tasks = task 1 10 ∷ task 3 10 ∷ task w 10 ∷ task 2 10 ∷ []; links = link 3 2 1 4 ∷ link 3 1 2 4 ∷ link 0 1 1 4 ∷ [] }
 
 abbrev pub k1 : Sheet
 k1 = sheetK 3 100 2
@@ -90,28 +91,28 @@ abbrev unguarded : Sheet → Schedule → ℕ → ℕ → Bool
 unguarded s σ t k = false
 
 abbrev pub k5 : Sheet
-k5 = record { processors = 2; limit = 6; unpacking = 0; tasks = task 1 3 ∷ task 1 3 ∷ task 1 2 ∷ task 1 2 ∷ task 1 2 ∷ []; links = [] }
+k5 = record { processors = 2; limit = 6; unpacking = 0; cube = false; tasks = task 1 3 ∷ task 1 3 ∷ task 1 2 ∷ task 1 2 ∷ task 1 2 ∷ []; links = [] }
 
 abbrev pub bundleK5 : Bundle
 bundleK5 = record { programmes = (run 0 ∷ run 1 ∷ []) ∷ (run 2 ∷ run 3 ∷ run 4 ∷ []) ∷ []; claim = 3 }
 
 abbrev pub k6 : Sheet
-k6 = record { processors = 2; limit = 0; unpacking = 0; tasks = task 1 0 ∷ task 1 0 ∷ task 1 0 ∷ task 1 0 ∷ []; links = link 0 1 0 0 ∷ link 2 3 0 0 ∷ [] }
+k6 = record { processors = 2; limit = 0; unpacking = 0; cube = false; tasks = task 1 0 ∷ task 1 0 ∷ task 1 0 ∷ task 1 0 ∷ []; links = link 0 1 0 0 ∷ link 2 3 0 0 ∷ [] }
 
 abbrev pub bundleK6 : Bundle
 bundleK6 =
     record { programmes = (receive 1 ∷ run 3 ∷ run 0 ∷ send 0 ∷ []) ∷ (receive 0 ∷ run 1 ∷ run 2 ∷ send 1 ∷ []) ∷ []; claim = 3 }
 
 abbrev pub k8 : List Link → Sheet
-k8 ls = record { processors = 2; limit = 0; unpacking = 0; tasks = task 1 0 ∷ task 1 0 ∷ task 1 0 ∷ []; links = ls }
+k8 ls = record { processors = 2; limit = 0; unpacking = 0; cube = false; tasks = task 1 0 ∷ task 1 0 ∷ task 1 0 ∷ []; links = ls }
 
 -- the smallest sheet that C-17 changes: "two tasks joined by a link of cost 0"
 abbrev pub freeLink : Sheet
-freeLink = record { processors = 2; limit = 0; unpacking = 0; tasks = task 1 0 ∷ task 1 0 ∷ []; links = link 0 1 0 0 ∷ [] }
+freeLink = record { processors = 2; limit = 0; unpacking = 0; cube = false; tasks = task 1 0 ∷ task 1 0 ∷ []; links = link 0 1 0 0 ∷ [] }
 
 -- a board with no jobs yet, its plan, and "PLAN 0 0"
 abbrev pub bare : Sheet
-bare = record { processors = 2; limit = 0; unpacking = 0; tasks = []; links = [] }
+bare = record { processors = 2; limit = 0; unpacking = 0; cube = false; tasks = []; links = [] }
 
 abbrev pub bundleBare : ℕ → List ℕ
 bundleBare c = 0x5A ∷ c ∷ 0x00 ∷ 0x00 ∷ 0x00 ∷ []
@@ -121,20 +122,24 @@ listingBare = 0x50 ∷ 0x4C ∷ 0x41 ∷ 0x4E ∷ 0x20 ∷ 0x30 ∷ 0x20 ∷ 0x3
 
 -- K1's graph on a board that unpacks a message in u; and K1's bytes without their end, up to the tasks and up to the links, before others
 abbrev pub timedK : ℕ → Sheet
-timedK u = record { processors = 3; limit = 100; unpacking = u; tasks = k1 .tasks; links = k1 .links }
+timedK u = record { processors = 3; limit = 100; unpacking = u; cube = false; tasks = k1 .tasks; links = k1 .links }
 
 abbrev pub behindTasks : List ℕ → List ℕ
-behindTasks b = boardBytes 3 100 0 ++ (taskBytes (k1 .tasks) ++ b)
+behindTasks b = boardBytes 3 100 0 false ++ (taskBytes (k1 .tasks) ++ b)
 
 abbrev pub behindLinks : List ℕ → List ℕ
 behindLinks b = behindTasks (linkBytes (k1 .links) ++ b)
+
+-- the same on a cube
+abbrev pub cubeK : ℕ → Sheet
+cubeK u = record { processors = 3; limit = 100; unpacking = u; cube = true; tasks = k1 .tasks; links = k1 .links }
 
 -- K1's tasks on one processor, in the order of K2; and two tasks with a free link between them, on one processor, behind an empty programme, and on two
 abbrev pub aloneK : List ℕ
 aloneK = 0x50 ∷ 0 ∷ 0x52 ∷ 3 ∷ 0x52 ∷ 0 ∷ 0x52 ∷ 1 ∷ 0x52 ∷ 2 ∷ 0x5A ∷ 8 ∷ 0 ∷ 0 ∷ 0 ∷ []
 
 abbrev pub two : Sheet
-two = record { processors = 3; limit = 0; unpacking = 0; tasks = task 1 0 ∷ task 1 0 ∷ []; links = link 0 1 0 0 ∷ [] }
+two = record { processors = 3; limit = 0; unpacking = 0; cube = false; tasks = task 1 0 ∷ task 1 0 ∷ []; links = link 0 1 0 0 ∷ [] }
 
 abbrev pub together : List ℕ
 together = 0x50 ∷ 0 ∷ 0x52 ∷ 0 ∷ 0x52 ∷ 1 ∷ 0x5A ∷ 2 ∷ 0 ∷ 0 ∷ 0 ∷ []
@@ -176,17 +181,29 @@ pub record Trials : Type 0 where
   pub free-before : scheduleBefore (sheetBytes freeLink) ≡ value (record { on = 0 ∷ 1 ∷ []; start = 0 ∷ 1 ∷ []; finish = 1 ∷ 2 ∷ []; order = 0 ∷ 1 ∷ []; opened = 2 })
   pub free-now : scheduleBy barred (sheetBytes freeLink) ≡ value (record { on = 0 ∷ 0 ∷ []; start = 0 ∷ 1 ∷ []; finish = 1 ∷ 2 ∷ []; order = 0 ∷ 1 ∷ []; opened = 1 })
   -- 55 is written, read and levelled; the levels are K1's
-  pub timed-written : sheetBytes (record { processors = 2; limit = 0; unpacking = 258; tasks = []; links = [] }) ≡ 0x4D ∷ 2 ∷ 0 ∷ 0 ∷ 0 ∷ 0 ∷ 0x55 ∷ 2 ∷ 1 ∷ 0x51 ∷ []
+  pub timed-written : sheetBytes (record { processors = 2; limit = 0; unpacking = 258; cube = false; tasks = []; links = [] }) ≡ 0x4D ∷ 2 ∷ 0 ∷ 0 ∷ 0 ∷ 0 ∷ 0x55 ∷ 2 ∷ 1 ∷ 0x51 ∷ []
   pub timed-read : readSheet (sheetBytes (timedK 258)) ≡ value (timedK 258)
   pub timed-most : readSheet (sheetBytes (timedK 65535)) ≡ value (timedK 65535)
   pub timed-levels : levels (sheetBytes (timedK 258)) ≡ value (5 ∷ 3 ∷ 2 ∷ 7 ∷ [])
   -- "a value of 0 gives 6, a wrong position gives 3", which comes before 1 and 6: first of all, a second time, behind a task and behind a link
-  pub timed-zero : readSheet (boardBytes 3 100 0 ++ 0x55 ∷ 0 ∷ 0 ∷ 0x51 ∷ []) ≡ refused 6 6
-  pub timed-cut : readSheet (boardBytes 3 100 0 ++ 0x55 ∷ 0 ∷ []) ≡ refused 1 6
+  pub timed-zero : readSheet (boardBytes 3 100 0 false ++ 0x55 ∷ 0 ∷ 0 ∷ 0x51 ∷ []) ≡ refused 6 6
+  pub timed-cut : readSheet (boardBytes 3 100 0 false ++ 0x55 ∷ 0 ∷ []) ≡ refused 1 6
   pub timed-first : readSheet (0x55 ∷ 1 ∷ []) ≡ refused 3 0
-  pub timed-twice : readSheet (boardBytes 3 100 1 ++ 0x55 ∷ 0 ∷ 0 ∷ []) ≡ refused 3 9
+  pub timed-twice : readSheet (boardBytes 3 100 1 false ++ 0x55 ∷ 0 ∷ 0 ∷ []) ≡ refused 3 9
   pub timed-behind-task : readSheet (behindTasks (0x55 ∷ 1 ∷ 0 ∷ 0x51 ∷ [])) ≡ refused 3 26
   pub timed-behind-link : readSheet (behindLinks (0x55 ∷ [])) ≡ refused 3 47
+  -- 48 is written behind the board, or behind the 55, read and levelled
+  pub cube-written : sheetBytes (record { processors = 2; limit = 0; unpacking = 0; cube = true; tasks = []; links = [] }) ≡ 0x4D ∷ 2 ∷ 0 ∷ 0 ∷ 0 ∷ 0 ∷ 0x48 ∷ 0x51 ∷ []
+  pub cube-timed-written : sheetBytes (record { processors = 2; limit = 0; unpacking = 258; cube = true; tasks = []; links = [] }) ≡ 0x4D ∷ 2 ∷ 0 ∷ 0 ∷ 0 ∷ 0 ∷ 0x55 ∷ 2 ∷ 1 ∷ 0x48 ∷ 0x51 ∷ []
+  pub cube-read : readSheet (sheetBytes (cubeK 0)) ≡ value (cubeK 0)
+  pub cube-timed-read : readSheet (sheetBytes (cubeK 258)) ≡ value (cubeK 258)
+  pub cube-levels : levels (sheetBytes (cubeK 258)) ≡ value (5 ∷ 3 ∷ 2 ∷ 7 ∷ [])
+  -- "elsewhere it gives 3": first of all, a second time, behind a task and behind a link; and so does a 55 behind it
+  pub cube-first : readSheet (0x48 ∷ []) ≡ refused 3 0
+  pub cube-twice : readSheet (boardBytes 3 100 0 true ++ 0x48 ∷ 0x51 ∷ []) ≡ refused 3 7
+  pub cube-behind-task : readSheet (behindTasks (0x48 ∷ 0x51 ∷ [])) ≡ refused 3 26
+  pub cube-behind-link : readSheet (behindLinks (0x48 ∷ [])) ≡ refused 3 47
+  pub timed-behind-cube : readSheet (boardBytes 3 100 0 true ++ 0x55 ∷ 1 ∷ 0 ∷ 0x51 ∷ []) ≡ refused 3 7
   pub k6-stuck : check (sheetBytes k6) (bundleBytes bundleK6) ≡ refused 29 0
   pub k7-claim : check (sheetBytes k1) (bundleK 6) ≡ refused 30 5
   pub k8-self : readSheet (sheetBytes (k8 (link 0 0 0 0 ∷ []))) ≡ refused 10 0
@@ -218,7 +235,7 @@ pub record Trials : Type 0 where
   pub better-bare : better (sheetBytes bare) (bundleBare 0) (0x50 ∷ 0 ∷ bundleBare 0) ≡ value secondLent
 
 pub trials : Trials
-unfolding all any sum greatest first leading least listed gather numberAt judge readFrom readAll taskCount linkCount workOf storeOf sourceOf targetOf costOf bytesOf joinsBy joins readForm sheetBytes reachesBy reaches onCircle circle levelBy levelWithin level readSheet programmeCount programmeOf readBundle bundleBytes weigh wholeOf whole is notOnce holds home before inside sendFault receiveFault orderFault messageFault overStore at26 atMessage at28 firstWith processorOf stampOf next stated stepIn step canStep clockOf latest settle settled unfinished at29 at30 closing checked check placeOf startOf finishOf placed stands comes lacks satisfied ready partlyReady arrivalBy arrival priority unpacked readyArrival readyPriority aheadBy firstReady firstPartlyReady endBy endOf startBy startFrom elsewhere nearBy startOn storeBy bytesBy storeOn fits holdsBy holdsPredecessor startWith bestStart endsWith delays barred followsBy follows spentBy spent mayJoin join mayTake idle opens mayShare share another lastResort choice turn turns plannedBy planned plannedBefore brings takesAway receiveOf sendOf blockOf blocks programme claimOf bundleOf plan decimalWithin decimal planLine taskLine refusalLine scheduleLines listing sheets.fault sheets.ended bundles.fault bundles.ended byBytes byRank runsTask runners rankOf better
+unfolding all any sum greatest first leading least listed gather numberAt judge readFrom readAll taskCount linkCount workOf storeOf sourceOf targetOf costOf bytesOf joinsBy joins readForm sheetBytes reachesBy reaches onCircle circle levelBy levelWithin level readSheet programmeCount programmeOf readBundle bundleBytes weigh wholeOf whole is notOnce holds home before inside sendFault receiveFault orderFault messageFault overStore at26 atMessage at28 firstWith processorOf stampOf next linkTime travels stated stepIn step canStep clockOf latest settle settled unfinished at29 at30 closing checked check placeOf startOf finishOf placed stands comes lacks satisfied ready partlyReady arrivalBy arrival priority unpacked readyArrival readyPriority aheadBy firstReady firstPartlyReady endBy endOf startBy startFrom elsewhere nearBy startOn storeBy bytesBy storeOn fits holdsBy holdsPredecessor startWith bestStart endsWith delays barred isOpen followsBy follows spentBy spent mayJoin join mayTake idle mayOpen another mayShare share mayCrowd lastResort choice turn turns plannedBy planned plannedBefore brings takesAway receiveOf sendOf blockOf blocks programme running claimOf bundleOf plan decimalWithin decimal planLine taskLine refusalLine scheduleLines listing sheets.fault sheets.ended bundles.fault bundles.ended byBytes byRank runsTask runners rankOf better
 trials =
     record {
       k1-read = refl;
@@ -255,6 +272,16 @@ trials =
       timed-twice = refl;
       timed-behind-task = refl;
       timed-behind-link = refl;
+      cube-written = refl;
+      cube-timed-written = refl;
+      cube-read = refl;
+      cube-timed-read = refl;
+      cube-levels = refl;
+      cube-first = refl;
+      cube-twice = refl;
+      cube-behind-task = refl;
+      cube-behind-link = refl;
+      timed-behind-cube = refl;
       k6-stuck = refl;
       k7-claim = refl;
       k8-self = refl;

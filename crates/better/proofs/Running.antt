@@ -12,9 +12,9 @@ use Rattle.folds.proofs.Tests.{below-suc, either-true}
 use Rattle.sheet.specs.Sheet.{Sheet}
 use Rattle.bundle.specs.Bundle.{Command, run, send, receive, Bundle, programmeCount, programmeOf}
 use Rattle.machine.specs.Machine.{State}
-use Rattle.stepping_machine.specs.Words.{firstIn, lastIn, countIn, kindIn, kindOf}
+use Rattle.stepping_machine.specs.Words.{firstIn, lastIn, countIn, kindIn, kindOf, amountOf}
 use Rattle.stepping_machine.specs.Represents.{Represents}
-use Rattle.stepping_machine.proofs.Packing.{word-kind}
+use Rattle.stepping_machine.proofs.Packing.{amount-small, word-kind}
 use Rattle.better.specs.Ranks.{isRun, runsTask, runnerOf, runners}
 use Rattle.better.specs.Parts.{RunsIs, RunnersIs}
 
@@ -45,8 +45,9 @@ module _ (s : Sheet) (b : Bundle) (w : List ℕ) (σ : State) (h : Represents s 
   -- the kind of the word at an index is the kind of its command
   kind-at : (i : ℕ) → i < length (programmeOf b k) → kindIn (getD w (firstIn w k + i) 0) ≡ kindOf (getD (programmeOf b k) i (run 0))
   kind-at i m =
-      let d = h .programmed .decoded k l in
-      word-kind s (h .programmed .ranged) (getD (programmeOf b k) i (run 0)) (d .known i m) (getD w (firstIn w k + i) 0) (d .word i m)
+      let p = h .programmed in
+      let d = p .decoded k l in
+      word-kind s (p .ranged) (amountOf s b k) (amount-small s b k (p .ranged) (p .few) l) (getD (programmeOf b k) i (run 0)) (d .known i m) (getD w (firstIn w k + i) 0) (d .word i m)
 
 -- no run stands between the indices a and i
 pub record Passed (w : List ℕ) (a i : ℕ) : Type 0 where

@@ -90,7 +90,7 @@ judge-sized z ps n e (c ∷ b) = kind-sized z ps n e (kindOf c) b
 
 -- some sheet has these counts
 abbrev pub sheetBy : ℕ → ℕ → ℕ → Sheet
-sheetBy p t l = record { processors = p; limit = 0; unpacking = 0; tasks = replicate t noTask; links = replicate l noLink }
+sheetBy p t l = record { processors = p; limit = 0; unpacking = 0; cube = false; tasks = replicate t noTask; links = replicate l noLink }
 
 pub sized-by : (p t l : ℕ) → Sized (sheetBy p t l) p t l
 unfolding taskCount linkCount

@@ -1,11 +1,12 @@
 -- From an opened sheet to the ends of each part: refused, too long for the output, or done.
 use Prim.Native.Nat.{ℕ, _+_, _*_, _/_, _%_, _<_, _≤_}
 use mathlib.Core.Path.{_≡_, refl, sym, ap, ap₂, _∙_}
+use mathlib.Core.Bool.{Bool}
 use mathlib.Core.List.{List, [], _∷_}
 use native.Mathlib.Omega.{arith}
 use borrow.Author.Tests.{lt-ltb, le-ltb}
 use lib.ListN.{length, getD, set}
-use Rattle.folds.specs.Folds.{listed}
+use Rattle.folds.specs.Folds.{listed, pick}
 use Rattle.folds.specs.Answers.{Answer, value, refused, andThen, fitting, written}
 use Rattle.folds.proofs.Lists.{length-listed}
 use Rattle.numbers.specs.Number.{stored}
@@ -71,24 +72,24 @@ unfolding levelsOf
 levels-length s = length-listed (taskCount s) (level s)
 
 -- the written sheet: values that are read are whole, and their links narrow
-module _ (p l u : ℕ) (tv lv : List ℕ) (s : Sheet) (ts : (k : ℕ) → getD tv k 0 < 65536) (ls : (k : ℕ) → getD lv k 0 < 65536) (small : l < 4294967296) (time : u < 65536) (e : readSheet (valueBytes p l u tv lv) ≡ value s) where
+module _ (p l u : ℕ) (c : Bool) (tv lv : List ℕ) (s : Sheet) (ts : (k : ℕ) → getD tv k 0 < 65536) (ls : (k : ℕ) → getD lv k 0 < 65536) (small : l < 4294967296) (time : u < 65536) (e : readSheet (valueBytes p l u c tv lv) ≡ value s) where
   pub whole-values : (length tv % 2 ≡ 0) × (length lv % 4 ≡ 0)
-  whole-values = let v = values-again p l u tv lv s ts ls small time (read-form (valueBytes p l u tv lv) s e .0) in (v .2, v .3)
+  whole-values = let v = values-again p l u c tv lv s ts ls small time (read-form (valueBytes p l u c tv lv) s e .0) in (v .2, v .3)
 
-  pub need-length : (start : ℕ) → start ≡ frontBy u → start + taskSize * (length tv / 2) + linkSize * (length lv / 4) + 1 ≡ length (valueBytes p l u tv lv)
-  need-length start h = ap (λ (x : ℕ). x + taskSize * (length tv / 2) + linkSize * (length lv / 4) + 1) h ∙ sym (written-length p l u tv lv (whole-values .0) (whole-values .1))
+  pub need-length : (start : ℕ) → start ≡ frontBy u c → start + taskSize * (length tv / 2) + linkSize * (length lv / 4) + 1 ≡ length (valueBytes p l u c tv lv)
+  need-length start h = ap (λ (x : ℕ). x + taskSize * (length tv / 2) + linkSize * (length lv / 4) + 1) h ∙ sym (written-length p l u c tv lv (whole-values .0) (whole-values .1))
 
   pub few-values : {w : List ℕ} → Loaded w → sheetIn w ≡ s → (length tv / 2 ≤ 256) × (length lv / 4 ≤ 1024)
   few-values {w} h q =
-      let v = values-again p l u tv lv s ts ls small time (read-form (valueBytes p l u tv lv) s e .0) in
-      let same : sheetIn w ≡ sheetOfValues p l u tv lv = q ∙ v .0 in
-      (omega (arith, ranged w h .few-tasks, ap taskCount same, values-tasks p l u tv lv), omega (arith, ranged w h .few-links, ap linkCount same, values-links p l u tv lv))
+      let v = values-again p l u c tv lv s ts ls small time (read-form (valueBytes p l u c tv lv) s e .0) in
+      let same : sheetIn w ≡ sheetOfValues p l u c tv lv = q ∙ v .0 in
+      (omega (arith, ranged w h .few-tasks, ap taskCount same, values-tasks p l u c tv lv), omega (arith, ranged w h .few-links, ap linkCount same, values-links p l u c tv lv))
 
   pub narrow-values : Narrow lv
   narrow-values =
       record {
-        sources = λ j h. values-narrow p l u tv lv s ts ls small time (read-form (valueBytes p l u tv lv) s e .0) j h .0;
-        targets = λ j h. values-narrow p l u tv lv s ts ls small time (read-form (valueBytes p l u tv lv) s e .0) j h .1;
+        sources = λ j h. values-narrow p l u c tv lv s ts ls small time (read-form (valueBytes p l u c tv lv) s e .0) j h .0;
+        targets = λ j h. values-narrow p l u c tv lv s ts ls small time (read-form (valueBytes p l u c tv lv) s e .0) j h .1;
       }
 
 -- the tables of a sheet
@@ -146,7 +147,10 @@ level-next f b m t x p h e =
 pub level-none : (f : ℕ → ℕ) (b : List ℕ) → b ≡ stored b 0 (listed 0 f)
 level-none f b = all-none 1 (λ y. y ∷ []) (λ ys. ys) refl (λ ys y. refl) (λ y. refl) f b
 
--- the words that hold processors, limit, counts and unpacking time are the sheet's
-pub board-is : (w : List ℕ) → getD w processorsAt 0 ∷ getD w limitAt 0 ∷ getD w taskCountAt 0 ∷ getD w linkCountAt 0 ∷ getD w unpackingAt 0 ∷ [] ≡ boardOf (sheetIn w)
+-- the words that hold processors, limit, counts and unpacking time are the sheet's, and c says whether it is a cube
+pub board-is : (w : List ℕ) (c : ℕ) → c ≡ pick (sheetIn w .cube) 1 0
+    → getD w processorsAt 0 ∷ getD w limitAt 0 ∷ getD w taskCountAt 0 ∷ getD w linkCountAt 0 ∷ getD w unpackingAt 0 ∷ c ∷ [] ≡ boardOf (sheetIn w)
 unfolding sheetIn
-board-is w = ap₂ (λ (n m : ℕ). getD w processorsAt 0 ∷ getD w limitAt 0 ∷ n ∷ m ∷ getD w unpackingAt 0 ∷ []) (sym (tasks-in w)) (sym (links-in w))
+board-is w c e =
+    ap₂ (λ (n m : ℕ). getD w processorsAt 0 ∷ getD w limitAt 0 ∷ n ∷ m ∷ getD w unpackingAt 0 ∷ c ∷ []) (sym (tasks-in w)) (sym (links-in w))
+    ∙ ap (λ (x : ℕ). getD w processorsAt 0 ∷ getD w limitAt 0 ∷ taskCount (sheetIn w) ∷ linkCount (sheetIn w) ∷ getD w unpackingAt 0 ∷ x ∷ []) e

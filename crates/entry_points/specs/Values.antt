@@ -23,9 +23,9 @@ tabled tasks links s =
     pick (ltb tasks (2 * taskCount s)) (refused 12 (2 * taskCount s))
     (pick (ltb links (4 * linkCount s)) (refused 12 (4 * linkCount s)) (value s))
 
--- processors, limit, task count, link count and unpacking time
+-- processors, limit, task count, link count, unpacking time, and 1 for a cube
 abbrev pub boardOf : Sheet → List ℕ
-boardOf s = s .processors ∷ s .limit ∷ taskCount s ∷ linkCount s ∷ s .unpacking ∷ []
+boardOf s = s .processors ∷ s .limit ∷ taskCount s ∷ linkCount s ∷ s .unpacking ∷ pick (s .cube) 1 0 ∷ []
 
 abbrev pub no-place : {A : Type 0} → A → ℕ
 no-place x = 0

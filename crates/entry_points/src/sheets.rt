@@ -2,12 +2,13 @@
 ghost use mathlib.Core.Path.{_≡_};
 ghost use Prim.Native.Nat.{_+_, _*_, _≤_, _<_};
 ghost use lib.ListN.{length};
+ghost use Rattle.folds.specs.Folds.{pick};
 ghost use Rattle.folds.specs.Answers.{andThen, fitting};
 ghost use Rattle.numbers.specs.Number.{stored};
 ghost use Rattle.workspace.specs.Area.{fixed};
 ghost use Rattle.sheet.specs.Sheet.{taskCount};
 ghost use Rattle.sheet.specs.Tables.{sheetIn, Loaded};
-ghost use Rattle.sheet.specs.Writing.{valueBytes, sheetBytes};
+ghost use Rattle.sheet.specs.Writing.{cubeOf, valueBytes, sheetBytes};
 ghost use Rattle.generator.specs.Load.{generated};
 ghost use Rattle.graph.specs.Graph.{readSheet};
 ghost use Rattle.levelling.specs.Found.{Levelled};
@@ -68,23 +69,25 @@ pub fn write(
     processors: u8,
     limit: u32,
     unpacking: u16,
+    cube: u8,
     tasks: &[u16],
     links: &[u16],
     work: &mut [u32],
     out: &mut [u8],
 ) -> Outcome
     requires { ⌜ fixed ≤ length (now work) ⌝ }
-    ensures { λ o. ⌜ PartIs (andThen (readSheet (valueBytes processors limit unpacking (now (tasks .entry)) (now (links .entry)))) (λ s. fitting (length (now (out .entry))) (valueBytes processors limit unpacking (now (tasks .entry)) (now (links .entry))))) (now (work .entry)) (now (work .exit)) (now (out .entry)) (now (out .exit)) o ⌝ }
+    ensures { λ o. ⌜ PartIs (andThen (readSheet (valueBytes processors limit unpacking (cubeOf cube) (now (tasks .entry)) (now (links .entry)))) (λ s. fitting (length (now (out .entry))) (valueBytes processors limit unpacking (cubeOf cube) (now (tasks .entry)) (now (links .entry))))) (now (work .entry)) (now (work .exit)) (now (out .entry)) (now (out .exit)) o ⌝ }
 {
-    match open::load(processors, limit, unpacking, tasks, links, work) {
+    match open::load(processors, limit, unpacking, cube, tasks, links, work) {
         Reading::Refused(r, at) => Outcome::Refused(r, at),
         Reading::Read => {
-            let start = sheet::front(unpacking as usize);
+            let wired = cube != 0;
+            let start = sheet::front(unpacking as usize, wired);
             let need = start + TASK_SIZE * (tasks.len() / 2) + LINK_SIZE * (links.len() / 4) + 1;
             if out.len() < need {
                 return Outcome::Refused(12, need);
             }
-            writer::put_sheet(out, processors, limit, unpacking, tasks, links);
+            writer::put_sheet(out, processors, limit, unpacking, wired, tasks, links);
             Outcome::Done(need)
         }
     }
@@ -115,8 +118,19 @@ pub fn generate(
     Outcome::Done(need)
 }
 
-// Processors, limit, tasks, links and the unpacking time.
-fn put_board(w: &[u32], board: &mut [u32; 5])
+// 1 for a cube.
+fn cube_word(w: &[u32]) -> u32
+    requires { ⌜ Loaded (now w) ⌝ }
+    ensures { λ r. ⌜ r ≡ pick (sheetIn (now (w .entry)) .cube) 1 0 ⌝ }
+{
+    if tables::cube(w) {
+        return 1;
+    }
+    0
+}
+
+// Processors, limit, tasks, links, the unpacking time, and whether the board is a cube.
+fn put_board(w: &[u32], board: &mut [u32; 6])
     requires { ⌜ Loaded (now w) ⌝ }
     ensures { λ _. ⌜ now (board .exit) ≡ boardOf (sheetIn (now (w .entry))) ⌝ }
 {
@@ -126,6 +140,7 @@ fn put_board(w: &[u32], board: &mut [u32; 5])
         w[TASK_COUNT],
         w[LINK_COUNT],
         w[UNPACKING],
+        cube_word(w),
     ];
 }
 
@@ -135,7 +150,7 @@ pub fn read(
     work: &mut [u32],
     tasks: &mut [u16],
     links: &mut [u16],
-    board: &mut [u32; 5],
+    board: &mut [u32; 6],
 ) -> Outcome
     requires { ⌜ fixed ≤ length (now work) ⌝ }
     ensures { λ o. ⌜ SheetIs (andThen (readSheet (now (sheet .entry))) (tabled (length (now (tasks .entry))) (length (now (links .entry))))) (now (work .entry)) (now (work .exit)) (now (tasks .entry)) (now (tasks .exit)) (now (links .entry)) (now (links .exit)) (now (board .entry)) (now (board .exit)) o ⌝ }

@@ -24,7 +24,7 @@ use Rattle.generator.specs.declared.draws.Draws.{Draws}
 use Rattle.generator.proofs.Steps.{after-none, task-at, try-at, states-on}
 
 -- a board without tasks
-pub tasked-none : (seed p l : ℕ) (w₀ w : List ℕ) (d : Draws) → LoadedOf (record { processors = p; limit = l; unpacking = 0; tasks = []; links = [] }) w₀ w → d ≡ startOf seed → Tasked seed p l 0 w w d
+pub tasked-none : (seed p l : ℕ) (w₀ w : List ℕ) (d : Draws) → LoadedOf (record { processors = p; limit = l; unpacking = 0; cube = false; tasks = []; links = [] }) w₀ w → d ≡ startOf seed → Tasked seed p l 0 w w d
 unfolding tasksFrom taskCount linkCount
 tasked-none seed p l w₀ w d h e =
     record {
@@ -32,7 +32,7 @@ tasked-none seed p l w₀ w d h e =
       loaded = h .loaded;
       tasks = sym (tasks-in w) ∙ ap taskCount (h .sheet);
       links = sym (links-in w) ∙ ap linkCount (h .sheet);
-      sheet = h .sheet ∙ ap (λ (ts : List Task). record { processors = p; limit = l; unpacking = 0; tasks = ts; links = [] }) (sym (listed-zero (taskAt seed)));
+      sheet = h .sheet ∙ ap (λ (ts : List Task). record { processors = p; limit = l; unpacking = 0; cube = false; tasks = ts; links = [] }) (sym (listed-zero (taskAt seed)));
       draws = e ∙ after-none (startOf seed);
     }
 
@@ -61,8 +61,8 @@ tasked-more {seed} {p} {l} {i} {w₀} {w} {d} h few w′ d′ e =
       links = away 1 (λ q. omega arith) (λ q. omega arith) ∙ h .links;
       sheet =
           sheet-task w i x y long few (h .tasks) (work-small d)
-          ∙ ap₂ (λ (s : Sheet) (t : Task). record { processors = s .processors; limit = s .limit; unpacking = s .unpacking; tasks = s .tasks ++ t ∷ []; links = s .links }) (h .sheet) (task-at seed i d (h .draws))
-          ∙ ap (λ (ts : List Task). record { processors = p; limit = l; unpacking = 0; tasks = ts; links = [] }) (sym (listed-one i (taskAt seed)));
+          ∙ ap₂ (λ (s : Sheet) (t : Task). record { processors = s .processors; limit = s .limit; unpacking = s .unpacking; cube = s .cube; tasks = s .tasks ++ t ∷ []; links = s .links }) (h .sheet) (task-at seed i d (h .draws))
+          ∙ ap (λ (ts : List Task). record { processors = p; limit = l; unpacking = 0; cube = false; tasks = ts; links = [] }) (sym (listed-one i (taskAt seed)));
       draws = states-on 2 (2 * i) (2 * (i + 1)) (startOf seed) d d′ (h .draws) (e .0) (omega arith);
     }
 

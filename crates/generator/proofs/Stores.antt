@@ -23,18 +23,18 @@ link-bytes l b r at x y u v h p q s t = h ∙ (λ i. stored b at (linkCommand (r
 
 module _ (s : Sheet) where
   pub sheet-stored : (b m₁ m₂ m₃ : List ℕ) (start n m : ℕ) → start ≡ frontOf s → n ≡ taskCount s → m ≡ linkCount s → start + taskSize * n + linkSize * m + 1 ≤ length b
-      → m₁ ≡ stored b 0 (boardBytes (s .processors) (s .limit) (s .unpacking)) → m₂ ≡ stored m₁ start (taskBytes (s .tasks)) → m₃ ≡ stored m₂ (start + taskSize * n) (linkBytes (s .links))
+      → m₁ ≡ stored b 0 (boardBytes (s .processors) (s .limit) (s .unpacking) (s .cube)) → m₂ ≡ stored m₁ start (taskBytes (s .tasks)) → m₃ ≡ stored m₂ (start + taskSize * n) (linkBytes (s .links))
       → length m₃ ≡ length b → set m₃ (start + taskSize * n + linkSize * m) 0x51 ≡ stored b 0 (sheetBytes s)
   unfolding sheetBytes taskCount linkCount
   sheet-stored b m₁ m₂ m₃ start n m front tn lm fit p q r e =
-      let k : List ℕ = boardBytes (s .processors) (s .limit) (s .unpacking) in
+      let k : List ℕ = boardBytes (s .processors) (s .limit) (s .unpacking) (s .cube) in
       let t : List ℕ = taskBytes (s .tasks) in
       let l : List ℕ = linkBytes (s .links) in
-      let kl : length k ≡ frontOf s = board-length (s .processors) (s .limit) (s .unpacking) in
+      let kl : length k ≡ frontOf s = board-length (s .processors) (s .limit) (s .unpacking) (s .cube) in
       let tl = task-bytes-length (s .tasks) in
       let ll = link-bytes-length (s .links) in
       let p₂ = stored-then b m₁ m₂ 0 start k t p q (omega arith) zero-le in
       let p₃ = stored-then b m₂ m₃ 0 (start + taskSize * n) (k ++ t) l p₂ r (omega (arith, length-append k t)) zero-le in
       let last = stored-one m₃ (start + taskSize * n + linkSize * m) 0x51 (omega arith) in
       stored-then b m₃ _ 0 (start + taskSize * n + linkSize * m) (k ++ t ++ l) (0x51 ∷ []) p₃ last (omega (arith, length-append (k ++ t) l, length-append k t)) zero-le
-      ∙ ap (stored b 0) (simp append-assoc)
+      ∙ ap (stored b 0) (append-assoc (k ++ t) l (0x51 ∷ []) ∙ append-assoc k t (l ++ (0x51 ∷ [])))

@@ -1,6 +1,6 @@
 -- A sheet from a seed: its tasks and its links by draws, in the order in which they are made.
 use Prim.Native.Nat.{ℕ, zero, suc, _+_, _*_, _%_}
-use mathlib.Core.Bool.{Bool, not}
+use mathlib.Core.Bool.{Bool, false, not}
 use mathlib.Core.List.{[], _∷_, _++_}
 use lib.Dec.{ltb, eqb}
 use Rattle.folds.specs.Folds.{pick, both, either, listed}
@@ -26,7 +26,7 @@ unfoldable pub tryAt : ℕ → ℕ → ℕ → Link
 tryAt seed n j = tryBehind n (after (2 * n + 4 * j) (startOf seed))
 
 abbrev pub withLink : Sheet → Link → Sheet
-withLink s x = record { processors = s .processors; limit = s .limit; unpacking = s .unpacking; tasks = s .tasks; links = s .links ++ x ∷ [] }
+withLink s x = record { processors = s .processors; limit = s .limit; unpacking = s .unpacking; cube = s .cube; tasks = s .tasks; links = s .links ++ x ∷ [] }
 
 -- "the link is written if from is below to and the pair is not there yet"
 unfoldable pub isNew : Sheet → Link → Bool
@@ -37,7 +37,7 @@ tried s x = pick (isNew s x) (withLink s x) s
 
 -- i tasks and no link
 unfoldable pub tasksFrom : ℕ → ℕ → ℕ → ℕ → Sheet
-tasksFrom seed processors limit i = record { processors = processors; limit = limit; unpacking = 0; tasks = listed i (taskAt seed); links = [] }
+tasksFrom seed processors limit i = record { processors = processors; limit = limit; unpacking = 0; cube = false; tasks = listed i (taskAt seed); links = [] }
 
 -- n tasks, and then the links of m tries
 unfoldable pub sheetFrom : ℕ → ℕ → ℕ → ℕ → ℕ → Sheet

@@ -1,5 +1,6 @@
 -- Draws, a sheet and the refusals, computed.
 use Prim.Native.Nat.{ℕ}
+use mathlib.Core.Bool.{false}
 use mathlib.Core.Path.{_≡_, refl}
 use mathlib.Core.List.{[], _∷_}
 use Rattle.folds.specs.Folds.{listed, any}
@@ -26,7 +27,7 @@ six-tries = refl
 
 their-sheet :
     generated 3 3 6 2 100
-    ≡ value (record { processors = 2; limit = 100; unpacking = 0; tasks = task 45 13 ∷ task 59 29 ∷ task 89 17 ∷ []; links = link 1 2 32 15 ∷ link 0 2 14 13 ∷ [] })
+    ≡ value (record { processors = 2; limit = 100; unpacking = 0; cube = false; tasks = task 45 13 ∷ task 59 29 ∷ task 89 17 ∷ []; links = link 1 2 32 15 ∷ link 0 2 14 13 ∷ [] })
 unfolding generated outside sheetFrom tasksFrom taskAt taskBehind tryAt tryBehind isNew tried joins joinsBy linkCount sourceOf targetOf any listed drawn after nextOf
 their-sheet = refl
 

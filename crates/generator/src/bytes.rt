@@ -83,6 +83,7 @@ pub fn put_sheet(w: &[u32], out: &mut [u8])
         tables::processors(w) as u8,
         tables::limit(w) as u32,
         tables::unpacking(w) as u16,
+        tables::cube(w),
     );
     let start = tables::front(w);
     put_tasks(w, &mut out[start..]);

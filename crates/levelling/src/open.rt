@@ -3,7 +3,7 @@ ghost use Prim.Native.Nat.{_≤_};
 ghost use lib.ListN.{length};
 ghost use Rattle.folds.specs.Answers.{value, unless};
 ghost use Rattle.workspace.specs.Area.{fixed};
-ghost use Rattle.sheet.specs.Writing.{valueBytes};
+ghost use Rattle.sheet.specs.Writing.{cubeOf, valueBytes};
 ghost use Rattle.sheet.specs.Tables.{sheetIn, Loaded};
 ghost use Rattle.graph.specs.Graph.{circle, readSheet};
 ghost use Rattle.levelling.specs.Opened.{OpenIs};
@@ -38,14 +38,15 @@ pub fn load(
     processors: u8,
     limit: u32,
     unpacking: u16,
+    cube: u8,
     tasks: &[u16],
     links: &[u16],
     w: &mut [u32],
 ) -> Reading
     requires { ⌜ fixed ≤ length (now w) ⌝ }
-    ensures { λ r. ⌜ OpenIs (readSheet (valueBytes processors limit unpacking (now (tasks .entry)) (now (links .entry)))) (now (w .entry)) (now (w .exit)) r ⌝ }
+    ensures { λ r. ⌜ OpenIs (readSheet (valueBytes processors limit unpacking (cubeOf cube) (now (tasks .entry)) (now (links .entry)))) (now (w .entry)) (now (w .exit)) r ⌝ }
 {
-    match values::load(processors, limit, unpacking, tasks, links, w) {
+    match values::load(processors, limit, unpacking, cube, tasks, links, w) {
         Reading::Refused(r, at) => Reading::Refused(r, at),
         Reading::Read => level(w),
     }

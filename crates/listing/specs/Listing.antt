@@ -7,7 +7,7 @@ use Rattle.folds.specs.Answers.{Answer, value, refused, andThen}
 use Rattle.sheet.specs.Sheet.{Sheet, taskCount}
 use Rattle.graph.specs.Graph.{readSheet}
 use Rattle.planner.specs.Schedule.{Schedule, placeOf, startOf, finishOf}
-use Rattle.planner.specs.Planner.{planned, claimOf}
+use Rattle.planner.specs.Planner.{planned, running, claimOf}
 
 abbrev pub digit : ℕ → ℕ
 digit d = 48 + d
@@ -35,9 +35,9 @@ field n = 0x20 ∷ decimal n
 abbrev pub lineEnd : List ℕ
 lineEnd = 0x0A ∷ []
 
--- "PLAN, processors opened, claim"
+-- "PLAN, processors opened, claim", and C-20 of document 02: "`PLAN` counts processors that run a task, on every sheet"
 unfoldable pub planLine : Sheet → Schedule → List ℕ
-planLine s σ = planWord ++ (field (σ .opened) ++ (field (claimOf s σ) ++ lineEnd))
+planLine s σ = planWord ++ (field (running s σ) ++ (field (claimOf s σ) ++ lineEnd))
 
 -- "task, processor, start, finish"
 unfoldable pub taskLine : Schedule → ℕ → List ℕ

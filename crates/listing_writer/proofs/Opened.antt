@@ -3,7 +3,6 @@ use Prim.Native.Nat.{ℕ}
 use mathlib.Core.Bool.{true}
 use mathlib.Core.Path.{_≡_, sym, ap, subst, _∙_}
 use mathlib.Core.List.{List}
-use native.Mathlib.Omega.{arith}
 use borrow.Author.Tests.{ltb-true}
 use lib.ListN.{length}
 use Rattle.folds.specs.Answers.{Answer, value, refused, andThen}
@@ -18,7 +17,7 @@ use Rattle.graph.proofs.Proper.{Proper, proper}
 use Rattle.planner.specs.Schedule.{Schedule, placeOf, placed}
 use Rattle.planner.specs.Placing.{barred}
 use Rattle.planner.specs.Planner.{planned}
-use Rattle.planner.proofs.Schedules.{plan-of, planned-build, empty-fair}
+use Rattle.planner.proofs.Schedules.{planned-build}
 use Rattle.schedule.specs.Layout.{scheduleIn}
 use Rattle.turns.specs.Turns.{answerOf, Afterwards}
 use Rattle.turns.specs.declared.Planned.{Planned}
@@ -39,10 +38,7 @@ planned-standing : {s : Sheet} → Proper s → Stands s
 unfolding planned placed
 planned-standing {s} p σ e =
     let m = planned-build s p (barred s) true σ e in
-    record {
-      few-opened = omega (arith, plan-of s p (empty-fair s p) (m .1) .fair .opened, p .form .board-few);
-      places = λ t h. ltb-true (placeOf σ t) 16 (m .2 t h);
-    }
+    record { places = λ t h. ltb-true (placeOf σ t) 16 (m .2 t h) }
 
 module _ (w w′ : List ℕ) (p : Planned) (h : answerOf p (scheduleIn w′) ≡ planned (sheetIn w)) where
   pub planned-refused : {out out′ : List ℕ} {r : Listed} (t : ℕ) → p ≡ planning.Refused t → FitIs (refusalLine 11 t) out out′ r → FitIs (plannedLines (sheetIn w)) out out′ r

@@ -5,14 +5,17 @@ use mathlib.Core.List.{List, _++_, append-assoc}
 use native.Mathlib.Omega.{arith}
 use lib.ListN.{length, getD, length-append}
 use Rattle.workspace.specs.Area.{finishesAt}
-use Rattle.folds.specs.Folds.{gather}
+use Rattle.folds.specs.Folds.{bit, gather}
+use Rattle.folds.proofs.Tests.{pick-le}
+use Rattle.folds.proofs.Laws.{sum-le}
 use Rattle.folds.proofs.Lists.{gather-part}
 use Rattle.folds.proofs.Loops.{gather-zero, gather-one}
 use Rattle.sheet.specs.Sheet.{Sheet, taskCount}
 use Rattle.sheet.specs.Tables.{sheetIn, Loaded}
 use Rattle.sheet.proofs.Rows.{ranged}
 use Rattle.planner.specs.Schedule.{Schedule, placeOf, startOf, finishOf}
-use Rattle.planner.specs.Planner.{claimOf}
+use Rattle.planner.specs.Placing.{isOpen}
+use Rattle.planner.specs.Planner.{running, claimOf}
 use Rattle.schedule.specs.Layout.{scheduleIn}
 use Rattle.schedule.proofs.Rows.{start-in, finish-in}
 use Rattle.listing.specs.Listing.{decimal, field, lineEnd, planWord, refusedWord, planLine, taskLine, refusalLine, scheduleLines}
@@ -21,14 +24,19 @@ use Rattle.numbers.specs.Number.{Put}
 use Rattle.numbers.proofs.Puts.{put-then, put-as, put-none}
 use Rattle.listing_writer.proofs.Digits.{decimal-length, decimal-short}
 
+-- no more processors run a task than the board has
+pub running-few : (s : Sheet) (σ : Schedule) → running s σ ≤ s .processors
+unfolding running
+running-few s σ = omega (arith, sum-le (s .processors) 1 (λ k. bit (isOpen s σ k)) (λ k h. pick-le (isOpen s σ k) 1 0 1 (omega arith) (omega arith)))
+
 -- lengths
 pub fields-length : (a b : ℕ) → length (twoFields a b) ≡ 3 + length (decimal a) + length (decimal b)
 unfolding twoFields
 fields-length a b = omega (arith, length-append (decimal a) (field b ++ lineEnd), length-append (decimal b) lineEnd)
 
-pub plan-length : (s : Sheet) (σ : Schedule) → length (planLine s σ) ≡ 7 + length (decimal (σ .opened)) + length (decimal (claimOf s σ))
+pub plan-length : (s : Sheet) (σ : Schedule) → length (planLine s σ) ≡ 7 + length (decimal (running s σ)) + length (decimal (claimOf s σ))
 unfolding planLine twoFields
-plan-length s σ = omega (arith, length-append planWord (twoFields (σ .opened) (claimOf s σ)), fields-length (σ .opened) (claimOf s σ))
+plan-length s σ = omega (arith, length-append planWord (twoFields (running s σ) (claimOf s σ)), fields-length (running s σ) (claimOf s σ))
 
 pub refusal-length : (number place : ℕ) → length (refusalLine number place) ≡ 10 + length (decimal number) + length (decimal place)
 unfolding refusalLine twoFields
@@ -65,7 +73,7 @@ pub fields-put : {b m₁ m₂ r : List ℕ} {at i j k : ℕ} (x y : ℕ) → at 
 unfolding twoFields
 fields-put x y h p q s = put-three h p q s
 
-pub plan-put : {b m r : List ℕ} {i j x y : ℕ} (s : Sheet) (σ : Schedule) → x ≡ σ .opened → y ≡ claimOf s σ → Put b 0 planWord m i → Put m i (twoFields x y) r j → Put b 0 (planLine s σ) r j
+pub plan-put : {b m r : List ℕ} {i j x y : ℕ} (s : Sheet) (σ : Schedule) → x ≡ running s σ → y ≡ claimOf s σ → Put b 0 planWord m i → Put m i (twoFields x y) r j → Put b 0 (planLine s σ) r j
 unfolding planLine twoFields
 plan-put s σ d e p q = put-then (omega arith) p (put-as (ap₂ twoFields d e) q)
 
@@ -87,7 +95,7 @@ pub end-room : (b m₁ m₂ : List ℕ) {at i j : ℕ} (x y : ℕ) → at + leng
     → Put m₁ i (field y) m₂ j → length m₂ ≡ length m₁ → j < length m₂
 end-room b m₁ m₂ x y h p e q f = omega (arith, fields-length x y, p .next, q .next)
 
-pub plan-room : (b m : List ℕ) {i : ℕ} (s : Sheet) (σ : Schedule) (x y : ℕ) → x ≡ σ .opened → y ≡ claimOf s σ → length (planLine s σ) ≤ length b
+pub plan-room : (b m : List ℕ) {i : ℕ} (s : Sheet) (σ : Schedule) (x y : ℕ) → x ≡ running s σ → y ≡ claimOf s σ → length (planLine s σ) ≤ length b
     → Put b 0 planWord m i → length m ≡ length b → i + length (twoFields x y) ≤ length m
 plan-room b m s σ x y d e h p k = omega (arith, fields-length x y, plan-length s σ, digits-of d, digits-of e, p .next)
 
@@ -154,7 +162,7 @@ module _ (w : List ℕ) (loaded : Loaded w) (standing : Standing (sheetIn w) (sc
         arith,
         schedule-length (sheetIn w) (scheduleIn w),
         plan-length (sheetIn w) (scheduleIn w),
-        decimal-short 1 (scheduleIn w .opened) (omega (arith, standing .few-opened)),
+        decimal-short 1 (running (sheetIn w) (scheduleIn w)) (omega (arith, running-few (sheetIn w) (scheduleIn w), ranged w loaded .few-processors)),
         decimal-length (claimOf (sheetIn w) (scheduleIn w)),
         gather-most (taskLine (scheduleIn w)) (taskCount (sheetIn w)) line-most,
       )

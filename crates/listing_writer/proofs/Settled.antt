@@ -1,13 +1,13 @@
--- "Of a longer input it reads the first 8,512, which settle the answer": no more than 8,457 bytes stand before a sheet's end, so that a
+-- "Of a longer input it reads the first 8,512, which settle the answer": no more than 8,458 bytes stand before a sheet's end, so that a
 -- longer input is refused within them, and the refusal is the same.
 use Prim.Native.Nat.{ℕ, zero, suc, _+_, _*_, _≤_, _<_}
 use mathlib.Core.Path.{_≡_, refl, sym, ap, subst, _∙_}
-use mathlib.Core.Bool.{false, false≢true}
+use mathlib.Core.Bool.{true, false, not, false≢true}
 use mathlib.Core.Option.{Option, none, some}
 use mathlib.Core.List.{List, [], _∷_, _++_}
 use native.Mathlib.Omega.{arith}
 use native.Mathlib.Decide.{decLt}
-use borrow.Author.Tests.{le-ltb, lt-ltb, leb-false, eqb-true, eqb-false}
+use borrow.Author.Tests.{le-ltb, lt-ltb, leb-false, not-true, eqb-true, eqb-false}
 use lib.ListN.{length, take, drop, length-append, take-append-drop}
 use lib.Seq.{take-all, length-take-le}
 use lib.Dec.{eqb, ltb}
@@ -18,11 +18,11 @@ use Rattle.commands.specs.Commands.{Outcome, refuse, go, verdict, judgeKind, ju
 use Rattle.commands.specs.Reading.{Going}
 use Rattle.commands.proofs.Going.{starts, goes, refuses, ends}
 use Rattle.sheet.specs.Sheet.{Sheet, taskCount, linkCount}
-use Rattle.sheet.specs.Sizes.{boardSize, unpackingSize, taskSize, linkSize, middleOf}
-use Rattle.sheet.specs.Format.{Kind, board, unpack, task, link, end, kindOf, width, Progress, fresh, fault, taskFrom, linkFrom, withCommand, ended, sheetFormat, readForm}
+use Rattle.sheet.specs.Sizes.{boardSize, unpackingSize, cubeSize, taskSize, linkSize, frontBy, middleOf}
+use Rattle.sheet.specs.Format.{Kind, board, unpack, wire, task, link, end, unwired, kindOf, width, Progress, fresh, fault, taskFrom, linkFrom, withCommand, ended, sheetFormat, readForm}
 use Rattle.sheet.specs.Faults.{begun}
 use Rattle.sheet.proofs.Judging.{sound-of}
-use Rattle.sheet.proofs.Fronts.{front-none, front-some, front-most}
+use Rattle.sheet.proofs.Fronts.{front-none, front-some, front-cube, front-most}
 use Rattle.graph.specs.Graph.{circle, readSheet}
 use Rattle.planner.specs.Planner.{planned}
 use Rattle.listing.specs.Listing.{linesOf, listing}
@@ -35,6 +35,7 @@ module _ (p : Progress) (a b c d e f : ℕ) (u v : List ℕ) where
   room : (k : Kind) (x : List ℕ) → width k ≤ length (ops x)
   room board x = omega arith
   room unpack x = omega arith
+  room wire x = omega arith
   room task x = omega arith
   room link x = omega arith
   room end x = omega arith
@@ -46,6 +47,7 @@ module _ (p : Progress) (a b c d e f : ℕ) (u v : List ℕ) where
       go : (k : Kind) → ltb (length (ops u)) (width k) ≡ false → ltb (length (ops v)) (width k) ≡ false → fault p k (ops u) ≡ fault p k (ops v)
       go board x y = rw (x, y)
       go unpack x y = rw (x, y)
+      go wire x y = rw (x, y)
       go task x y = rw (x, y)
       go link x y = rw (x, y)
       go end x y = rw (x, y)
@@ -80,11 +82,22 @@ module _ (rest : List ℕ) (w w′ : Answer Sheet) where
     unfolding taskCount linkCount
     more-unpack j m =
         let k = sound-of (begun s) all unpack j in
-        let first = both-parts (eqb (s .unpacking) 0) _ (k .turn) .0 in
+        let first = both-parts (eqb (s .unpacking) 0) (unwired s) (k .turn) in
+        let time : ℕ = numberAt 2 (drop 1 all) 0 in
         record {
           tasks = m .tasks;
           links = m .links;
-          long = omega (arith, m .long, front-none (s .unpacking) (eqb-true _ 0 first), front-some (numberAt 2 (drop 1 all) 0) (eqb-false _ 0 (k .range)));
+          long = omega (arith, m .long, front-cube (s .unpacking) (s .cube), front-none (s .unpacking) (eqb-true _ 0 (first .0)), front-cube time (s .cube), front-some time (eqb-false _ 0 (k .range)));
+        }
+
+    more-cube : judge sheetFormat (begun s) all ≡ go wire → Ample s all → Ample (withCommand s wire (drop 1 all)) (drop cubeSize all)
+    unfolding taskCount linkCount
+    more-cube j m =
+        let none : s .cube ≡ false = not-true (s .cube) (both-parts (not (s .cube)) _ (sound-of (begun s) all wire j .turn) .0) in
+        record {
+          tasks = m .tasks;
+          links = m .links;
+          long = omega (arith, m .long, ap (frontBy (s .unpacking)) none, front-cube (s .unpacking) true);
         }
 
     more-task : judge sheetFormat (begun s) all ≡ go task → Ample s all → Ample (withCommand s task (drop 1 all)) (drop taskSize all)
@@ -115,6 +128,7 @@ module _ (rest : List ℕ) (w w′ : Answer Sheet) where
     by-outcome rec (refuse r) j m g g′ = refuses sheetFormat g r j ∙ sym (refuses sheetFormat g′ r (same ∙ j))
     by-outcome rec (go board) j m g g′ = absurd (false≢true (sound-of (begun s) all board j .turn))
     by-outcome rec (go unpack) j m g g′ = rec _ _ _ (omega arith) (more-unpack j m) (goes sheetFormat g unpack refl j) (goes sheetFormat g′ unpack refl (same ∙ j))
+    by-outcome rec (go wire) j m g g′ = rec _ _ _ (omega arith) (more-cube j m) (goes sheetFormat g wire refl j) (goes sheetFormat g′ wire refl (same ∙ j))
     by-outcome rec (go task) j m g g′ = rec _ _ _ (omega arith) (more-task j m) (goes sheetFormat g task refl j) (goes sheetFormat g′ task refl (same ∙ j))
     by-outcome rec (go link) j m g g′ = rec _ _ _ (omega arith) (more-link j m) (goes sheetFormat g link refl j) (goes sheetFormat g′ link refl (same ∙ j))
     by-outcome rec (go end) j m g g′ = ends sheetFormat g end refl j ∙ ended-same ∙ sym (ends sheetFormat g′ end refl (same ∙ j))
@@ -123,13 +137,13 @@ module _ (rest : List ℕ) (w w′ : Answer Sheet) where
   settle zero s at d l m g g′ = absurd (omega arith)
   settle (suc n) s at (h ∷ a ∷ b ∷ c ∷ d ∷ e ∷ f ∷ x) l m g g′ =
       by-outcome s at h a b c d e f x (λ s′ at′ d′ k. settle n s′ at′ d′ (omega arith)) (judge sheetFormat (begun s) (h ∷ a ∷ b ∷ c ∷ d ∷ e ∷ f ∷ x)) refl m g g′
-  settle (suc n) s at [] l m g g′ = absurd (omega (arith, m .tasks, m .links, m .long, front-most (s .unpacking)))
-  settle (suc n) s at (h ∷ []) l m g g′ = absurd (omega (arith, m .tasks, m .links, m .long, front-most (s .unpacking)))
-  settle (suc n) s at (h ∷ a ∷ []) l m g g′ = absurd (omega (arith, m .tasks, m .links, m .long, front-most (s .unpacking)))
-  settle (suc n) s at (h ∷ a ∷ b ∷ []) l m g g′ = absurd (omega (arith, m .tasks, m .links, m .long, front-most (s .unpacking)))
-  settle (suc n) s at (h ∷ a ∷ b ∷ c ∷ []) l m g g′ = absurd (omega (arith, m .tasks, m .links, m .long, front-most (s .unpacking)))
-  settle (suc n) s at (h ∷ a ∷ b ∷ c ∷ d ∷ []) l m g g′ = absurd (omega (arith, m .tasks, m .links, m .long, front-most (s .unpacking)))
-  settle (suc n) s at (h ∷ a ∷ b ∷ c ∷ d ∷ e ∷ []) l m g g′ = absurd (omega (arith, m .tasks, m .links, m .long, front-most (s .unpacking)))
+  settle (suc n) s at [] l m g g′ = absurd (omega (arith, m .tasks, m .links, m .long, front-most (s .unpacking) (s .cube)))
+  settle (suc n) s at (h ∷ []) l m g g′ = absurd (omega (arith, m .tasks, m .links, m .long, front-most (s .unpacking) (s .cube)))
+  settle (suc n) s at (h ∷ a ∷ []) l m g g′ = absurd (omega (arith, m .tasks, m .links, m .long, front-most (s .unpacking) (s .cube)))
+  settle (suc n) s at (h ∷ a ∷ b ∷ []) l m g g′ = absurd (omega (arith, m .tasks, m .links, m .long, front-most (s .unpacking) (s .cube)))
+  settle (suc n) s at (h ∷ a ∷ b ∷ c ∷ []) l m g g′ = absurd (omega (arith, m .tasks, m .links, m .long, front-most (s .unpacking) (s .cube)))
+  settle (suc n) s at (h ∷ a ∷ b ∷ c ∷ d ∷ []) l m g g′ = absurd (omega (arith, m .tasks, m .links, m .long, front-most (s .unpacking) (s .cube)))
+  settle (suc n) s at (h ∷ a ∷ b ∷ c ∷ d ∷ e ∷ []) l m g g′ = absurd (omega (arith, m .tasks, m .links, m .long, front-most (s .unpacking) (s .cube)))
 
   -- the first command
   module _ (h a b c d e f : ℕ) (x : List ℕ) where
@@ -147,6 +161,7 @@ module _ (rest : List ℕ) (w w′ : Answer Sheet) where
         settle (suc (length (drop boardSize whole))) _ _ _ (omega arith) (begins l) (goes sheetFormat g board refl j)
         (goes sheetFormat g′ board refl (sym (judge-same fresh a b c d e f x (x ++ rest) h) ∙ j))
     by-first l (go unpack) j g g′ = absurd (false≢true (sound-of fresh whole unpack j .turn))
+    by-first l (go wire) j g g′ = absurd (false≢true (sound-of fresh whole wire j .turn))
     by-first l (go task) j g g′ = absurd (false≢true (sound-of fresh whole task j .turn))
     by-first l (go link) j g g′ = absurd (false≢true (sound-of fresh whole link j .turn))
     by-first l (go end) j g g′ = absurd (false≢true (sound-of fresh whole end j .turn))

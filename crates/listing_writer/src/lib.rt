@@ -37,7 +37,7 @@ fn list_refusal(number: usize, place: usize, out: &mut [u8]) -> Listed
 // The listing of the schedule in the work area, counted before it is written.
 fn list_counted(w: &[u32], out: &mut [u8]) -> Listed
     requires { ⌜ Loaded (now w) ⌝ }
-    requires { ⌜ scheduleIn (now w) .opened ≤ 16 ⌝ }
+    requires { ⌜ Standing (sheetIn (now w)) (scheduleIn (now w)) ⌝ }
     ensures { λ r. ⌜ FitIs (scheduleLines (sheetIn (now (w .entry))) (scheduleIn (now (w .entry)))) (now (out .entry)) (now (out .exit)) r ⌝ }
 {
     let need = rows::needed(w);

@@ -5,10 +5,11 @@ ghost use lib.ListN.{length};
 ghost use Rattle.folds.specs.Folds.{gather};
 ghost use Rattle.sheet.specs.Sheet.{taskCount};
 ghost use Rattle.sheet.specs.Tables.{sheetIn, Loaded};
+ghost use Rattle.planner.specs.Planner.{running};
 ghost use Rattle.schedule.specs.Layout.{scheduleIn};
 ghost use Rattle.listing.specs.Listing.{planLine, taskLine, refusalLine, scheduleLines};
 ghost use Rattle.numbers.specs.Number.{Put};
-ghost use Rattle.listing_writer.specs.Lines.{Standing};
+ghost use Rattle.listing_writer.specs.Lines.{Marked, Standing};
 use crate::fields::digits;
 use crate::fields::put_decimal;
 use crate::fields::put_field;
@@ -16,13 +17,52 @@ use crate::fields::put_fields;
 use crate::fields::put_word;
 use sheet::tables;
 
+// The processors: 1 for each on which a task stands.
+pub struct Runs {
+    pub at: [u32; 16],
+}
+
+fn runs_of(w: &[u32]) -> Runs
+    requires { ⌜ Loaded (now w) ⌝ }
+    requires { ⌜ Standing (sheetIn (now w)) (scheduleIn (now w)) ⌝ }
+    ensures { λ r. ⌜ Marked (scheduleIn (now (w .entry))) (taskCount (sheetIn (now (w .entry)))) r ⌝ }
+{
+    let n = tables::tasks(w);
+    let at = [0u32; 16];
+    let mut r = Runs { at: at };
+    let mut t: usize = 0;
+    while t < n {
+        let k = schedule::place(w, t);
+        r.at[k] = 1;
+        t += 1;
+    }
+    r
+}
+
+// How many processors run a task.
+fn running(w: &[u32]) -> usize
+    requires { ⌜ Loaded (now w) ⌝ }
+    requires { ⌜ Standing (sheetIn (now w)) (scheduleIn (now w)) ⌝ }
+    ensures { λ r. ⌜ (r ≡ running (sheetIn (now (w .entry))) (scheduleIn (now (w .entry)))) × (r ≤ 16) ⌝ }
+{
+    let runs = runs_of(w);
+    let n = tables::processors(w);
+    let mut found: usize = 0;
+    let mut k: usize = 0;
+    while k < n {
+        found += workspace::wide(runs.at[k]);
+        k += 1;
+    }
+    found
+}
+
 // How long the first line is.
 fn plan_length(w: &[u32]) -> usize
     requires { ⌜ Loaded (now w) ⌝ }
-    requires { ⌜ scheduleIn (now w) .opened ≤ 16 ⌝ }
+    requires { ⌜ Standing (sheetIn (now w)) (scheduleIn (now w)) ⌝ }
     ensures { λ r. ⌜ (r ≡ length (planLine (sheetIn (now (w .entry))) (scheduleIn (now (w .entry))))) × (r ≤ 47) ⌝ }
 {
-    7 + digits(schedule::opened(w)) + digits(schedule::claim(w))
+    7 + digits(running(w)) + digits(schedule::claim(w))
 }
 
 // How long the line of task t is.
@@ -40,7 +80,7 @@ fn task_length(w: &[u32], t: usize) -> usize
 // How long all lines of the schedule are.
 pub fn needed(w: &[u32]) -> usize
     requires { ⌜ Loaded (now w) ⌝ }
-    requires { ⌜ scheduleIn (now w) .opened ≤ 16 ⌝ }
+    requires { ⌜ Standing (sheetIn (now w)) (scheduleIn (now w)) ⌝ }
     ensures { λ r. ⌜ (r ≡ length (scheduleLines (sheetIn (now (w .entry))) (scheduleIn (now (w .entry))))) × (r ≤ 21551) ⌝ }
 {
     let tasks = tables::tasks(w);
@@ -65,14 +105,14 @@ pub fn most(w: &[u32]) -> usize
 // The first line, at the front.
 fn put_plan(w: &[u32], out: &mut [u8]) -> usize
     requires { ⌜ Loaded (now w) ⌝ }
-    requires { ⌜ scheduleIn (now w) .opened ≤ 16 ⌝ }
+    requires { ⌜ Standing (sheetIn (now w)) (scheduleIn (now w)) ⌝ }
     requires { ⌜ length (planLine (sheetIn (now w)) (scheduleIn (now w))) ≤ length (now out) ⌝ }
     ensures { λ r. ⌜ Put (now (out .entry)) 0 (planLine (sheetIn (now (w .entry))) (scheduleIn (now (w .entry)))) (now (out .exit)) r ⌝ }
 {
-    let opened = schedule::opened(w);
+    let found = running(w);
     let claim = schedule::claim(w);
     let at = put_word(out, 0, b"PLAN");
-    put_fields(out, at, opened, claim)
+    put_fields(out, at, found, claim)
 }
 
 // The line of task t, at `at`.
@@ -109,7 +149,7 @@ fn put_tasks(w: &[u32], out: &mut [u8], at: usize) -> usize
 // All lines of the schedule.
 pub fn put_schedule(w: &[u32], out: &mut [u8]) -> usize
     requires { ⌜ Loaded (now w) ⌝ }
-    requires { ⌜ scheduleIn (now w) .opened ≤ 16 ⌝ }
+    requires { ⌜ Standing (sheetIn (now w)) (scheduleIn (now w)) ⌝ }
     requires { ⌜ length (scheduleLines (sheetIn (now w)) (scheduleIn (now w))) ≤ length (now out) ⌝ }
     ensures { λ r. ⌜ Put (now (out .entry)) 0 (scheduleLines (sheetIn (now (w .entry))) (scheduleIn (now (w .entry)))) (now (out .exit)) r ⌝ }
 {

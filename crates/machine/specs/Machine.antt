@@ -5,10 +5,11 @@ use mathlib.Core.Option.{Option, none, some}
 use mathlib.Core.List.{List}
 use lib.ListN.{getD, set, replicate, getElem?}
 use Rattle.folds.specs.Folds.{then}
-use Rattle.sheet.specs.Sheet.{Sheet, workOf, linkCount}
-use Rattle.sheet.specs.Times.{linkTime}
+use Rattle.sheet.specs.Sheet.{Sheet, workOf, targetOf, linkCount}
+use Rattle.sheet.specs.Hops.{linkTime}
 use Rattle.bundle.specs.Bundle.{Command, run, send, receive, Bundle, programmeCount, programmeOf}
 use Rattle.admission.specs.Counting.{need}
+use Rattle.admission.specs.Messages.{home}
 
 pub record Processor : Type 0 where
   pub clock : ℕ
@@ -42,10 +43,14 @@ waits σ (run t) = some 0
 waits σ (send l) = some 0
 waits σ (receive l) = stampOf σ l
 
+-- the time that the message of link l is under way from processor k: to the one whose programme runs its target
+unfoldable pub travels : Sheet → Bundle → ℕ → ℕ → ℕ
+travels s b k l = linkTime s l k (home b (run (targetOf s l)))
+
 -- the stated time of a command of processor k: a run's work, the time that a send's message is under way, a receive's unpacking
 unfoldable pub stated : Sheet → Bundle → ℕ → Command → ℕ
 stated s b k (run t) = workOf s t
-stated s b k (send l) = linkTime s l
+stated s b k (send l) = travels s b k l
 stated s b k (receive l) = s .unpacking
 
 -- what a command of the time d adds to the clock: a message is under way while its sender goes on

@@ -1,6 +1,7 @@
 -- What the guard bars: before its arrival the first partly ready task u can start only where its latest message comes from, so that only
 -- there its best start can rise.
-use Prim.Native.Nat.{ℕ, zero, suc, _+_, _≤_, _<_, max, min}
+use Prim.Native.Nat.{ℕ, zero, suc, _+_, _*_, _≤_, _<_, max, min}
+use native.Mathlib.Nat.{mul-le-mul}
 use mathlib.Core.Path.{_≡_, refl, ap, ap₂, sym, _∙_}
 use mathlib.Core.Logic.{_≢_, ⊎-elim}
 use mathlib.Core.Bool.{Bool, true, false, true≢false}
@@ -14,7 +15,9 @@ use lib.Dec.{eqb, ltb}
 use Rattle.folds.specs.Folds.{pick, both, greatest, prefer, leading, least}
 use Rattle.folds.proofs.Tests.{below-suc, both-parts}
 use Rattle.folds.proofs.Laws.{any-found, greatest-some, term-le-greatest}
-use Rattle.sheet.specs.Sheet.{Sheet, taskCount, linkCount, workOf, sourceOf, targetOf}
+use Rattle.sheet.specs.Sheet.{Sheet, taskCount, linkCount, workOf, sourceOf, targetOf, costOf}
+use Rattle.sheet.specs.Hops.{hops, linkTime}
+use Rattle.sheet.proofs.Hopping.{some-hop}
 use Rattle.sheet.specs.Tables.{sheetIn}
 use Rattle.graph.specs.Graph.{level}
 use Rattle.planner.specs.Schedule.{Schedule, placed, stands, placeOf}
@@ -28,6 +31,18 @@ use Rattle.workspace.specs.declared.total.Found.{Found}
 use Rattle.workspace.specs.declared.total.Found.the-variants.{At, Nothing}
 use Rattle.readiness.proofs.Counts.{arrival-kept}
 use Rattle.placing.specs.Guards.{delaysFor, Rival, BarsFor, Bars, JoinBarsFor, JoinBars}
+
+-- a message between two processors takes its cost at least
+time-least : (s : Sheet) (l j k : ℕ) → j < 16 → k < 16 → (j ≡ k → ⊥) → costOf s l ≤ linkTime s l j k
+unfolding linkTime
+time-least s l j k h g d = by (s .cube)
+  where
+    times : (c n : ℕ) → 1 ≤ n → c ≤ c * n
+    times c n m = omega (arith, mul-le-mul {n₁ = c} {m₁ = 1} {n₂ = c} {m₂ = n} (omega arith) m)
+
+    by : (t : Bool) → costOf s l ≤ pick t (costOf s l * hops j k) (costOf s l)
+    by true = times (costOf s l) (hops j k) (some-hop j k h g d)
+    by false = omega arith
 
 -- what `least` finds
 module _ (p : ℕ → Bool) (f : ℕ → ℕ) where
@@ -134,11 +149,12 @@ module _ (w own : List ℕ) (kept : Kept w own) (u : ℕ) (h : u < taskCount (sh
     unfolding holdsPredecessor holdsBy
     main-holds = any-found (linkCount s) (holdsBy s σ u main) link (message .1) from-main
 
-    -- on every other one u waits for it
-    elsewhere : (j : ℕ) → j ≢ main → startBy s σ u j link ≡ latest
+    -- on every other one, which is a hop away at least, u waits for it
+    elsewhere : (j : ℕ) → j < 16 → j ≢ main → latest ≤ startBy s σ u j link
     unfolding startBy comes stands
-    elsewhere j n =
-        rw (both-parts (eqb (targetOf s link) u) (stands σ (sourceOf s link) main) from-main .0, source-placed, ne-eqb (placeOf σ (sourceOf s link)) j (λ q. n (sym q ∙ source-main))) reach-is
+    elsewhere j l n =
+        rw (both-parts (eqb (targetOf s link) u) (stands σ (sourceOf s link) main) from-main .0, source-placed, ne-eqb (placeOf σ (sourceOf s link)) j (λ q. n (sym q ∙ source-main)))
+        (omega (arith, reach-is, time-least s link (placeOf σ (sourceOf s link)) j (omega (arith, source-main, main-open, kept .few-opened)) l (λ q. n (sym q ∙ source-main))))
 
     -- processors that end at `ends`
     module _ (ends : ℕ → ℕ) where
@@ -146,9 +162,9 @@ module _ (w own : List ℕ) (kept : Kept w own) (u : ℕ) (h : u < taskCount (sh
       unfolding startWith startFrom
       start-main = refl
 
-      start-else : (j : ℕ) → j ≢ main → latest ≤ startWith s σ ends u j
+      start-else : (j : ℕ) → j < 16 → j ≢ main → latest ≤ startWith s σ ends u j
       unfolding startWith startFrom
-      start-else j n = omega (arith, elsewhere j n, term-le-greatest (linkCount s) (startBy s σ u j) link (message .1))
+      start-else j l n = omega (arith, elsewhere j l n, term-le-greatest (linkCount s) (startBy s σ u j) link (message .1))
 
       best-at : (o : Option ℕ) → LeastIs (holdsPredecessor s σ u) (startWith s σ ends u) (σ .opened) o
           → (startAt s σ ends u o ≤ max (ends main) near) × ((x : ℕ) → x ≤ max (ends main) near → x ≤ latest → x ≤ startAt s σ ends u o)
@@ -157,7 +173,7 @@ module _ (w own : List ℕ) (kept : Kept w own) (u : ℕ) (h : u < taskCount (sh
         where
           go : (x : ℕ) → x ≤ max (ends main) near → x ≤ latest → Dec (k ≡ main) → x ≤ startWith s σ ends u k
           go x a b (yes e) = omega (arith, ap (startWith s σ ends u) e, start-main)
-          go x a b (no e) = omega (arith, start-else k e)
+          go x a b (no e) = omega (arith, start-else k (omega (arith, l .0, kept .few-opened)) e)
 
       best : (bestStart s σ ends u ≤ max (ends main) near) × ((x : ℕ) → x ≤ max (ends main) near → x ≤ latest → x ≤ bestStart s σ ends u)
       unfolding bestStart

@@ -1,5 +1,7 @@
 -- The laws of `placing`.
 pub mod Ranks
+pub mod Sets
+pub mod Ties
 pub mod Starts
 pub mod Spent
 pub mod Due

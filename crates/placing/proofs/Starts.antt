@@ -40,12 +40,12 @@ placeable w own t k c k-in =
     }
 
 -- a start fits a word
-pub start-small : (w own : List ℕ) (t k : ℕ) → Choosing w own t → startOn (sheetIn w) (scheduleIn w) t k < 4294967296
-start-small w own t k c =
+pub start-small : (w own : List ℕ) (t k : ℕ) → Choosing w own t → k < 16 → startOn (sheetIn w) (scheduleIn w) t k < 4294967296
+start-small w own t k c h =
     let ranged = c .kept .ranged in
     omega (
       arith,
-      start-early (sheetIn w) (scheduleIn w) t _ (c .early .early) k,
+      start-early (sheetIn w) (scheduleIn w) t _ (c .early .early) k h,
       into-le (sheetIn w) (ranged .few-links) (λ l m. omega (arith, ranged .costs l m)) (omega (arith, ranged .unpacks)) t (linkCount (sheetIn w)) (omega arith),
     )
 

@@ -1,4 +1,5 @@
 -- The definitions of `placing`.
 pub mod Choosing
+pub mod Sets
 pub mod Ranks
 pub mod Guards

@@ -9,8 +9,8 @@ use Rattle.folds.specs.Folds.{pick, both}
 use Rattle.readiness.specs.Keys.{indexOf}
 use Rattle.sheet.specs.Sheet.{Sheet}
 use Rattle.planner.specs.Schedule.{Schedule}
-use Rattle.planner.specs.Placing.{endOf, startOn, fits, barred}
-use Rattle.planner.specs.Planner.{mayJoin, mayTake}
+use Rattle.planner.specs.Placing.{endOf, startOn, barred}
+use Rattle.planner.specs.Planner.{mayJoin, mayTake, mayCrowd}
 use Rattle.arrivals.specs.Layout.{endsFrom, waitingFrom}
 
 -- the least value first
@@ -34,7 +34,7 @@ module _ (s : Sheet) (σ : Schedule) (t : ℕ) where
   idleKey k = pick (mayTake s (barred s) σ t k) (highKey (endOf s σ k) k) 0
 
   unfoldable pub lastKey : ℕ → ℕ
-  lastKey k = pick (fits s σ t k) (lowKey (startOn s σ t k) k) 0
+  lastKey k = pick (mayCrowd s (barred s) σ t k) (lowKey (startOn s σ t k) k) 0
 
 -- by what is kept of it, k ends by a, and no more than d links from it wait
 unfoldable pub mayBeIdle : List ℕ → ℕ → ℕ → ℕ → Bool

@@ -1,7 +1,7 @@
 // Where a task goes: starts, fits and the guard, and the placing steps.
 ghost use mathlib.Core.Path.{_≡_};
 ghost use mathlib.Core.Bool.{true, false};
-ghost use mathlib.Core.Option.{none};
+ghost use mathlib.Core.Option.{none, some};
 ghost use mathlib.Core.Logic.{_≢_};
 ghost use Prim.Native.Nat.{_+_, _*_, _<_, _≤_};
 ghost use lib.ListN.{getD, length};
@@ -9,8 +9,8 @@ ghost use Rattle.folds.specs.Folds.{pick, both, either, any, sum, first, orElse
 ghost use Rattle.sheet.specs.Sheet.{taskCount, linkCount};
 ghost use Rattle.sheet.specs.Tables.{sheetIn};
 ghost use Rattle.planner.specs.Schedule.{latestStart, placed};
-ghost use Rattle.planner.specs.Placing.{arrival, readyArrival, endOf, startOn, fits, holdsPredecessor, barred, spent};
-ghost use Rattle.planner.specs.Planner.{join, idle, opens, mayShare, share, another, lastResort, choice};
+ghost use Rattle.planner.specs.Placing.{arrival, readyArrival, endOf, startOn, fits, holdsPredecessor, barred, isOpen, spent};
+ghost use Rattle.planner.specs.Planner.{join, idle, mayOpen, another, mayShare, share, lastResort, choice};
 ghost use Rattle.schedule.specs.Layout.{scheduleIn};
 ghost use Rattle.arrivals.specs.Layout.{sendersFrom, waitingFrom, keptLength};
 ghost use Rattle.arrivals.specs.Lanes.{Started};
@@ -18,6 +18,7 @@ ghost use Rattle.arrivals.specs.Kept.{Kept};
 ghost use Rattle.workspace.specs.Found.{foundOf, Below};
 ghost use Rattle.readiness.specs.Keyed.{Keyed};
 ghost use Rattle.placing.specs.Choosing.{Choosing, knownInto, dueBy, fourIn, Small, MoreDue, DuesTo, Dues, OnBoard};
+ghost use Rattle.placing.specs.Sets.{member, tieOf, closedIn};
 ghost use Rattle.placing.specs.Ranks.{lowKey, highKey, processorOf, joinKey, idleKey, mayBeIdle};
 ghost use Rattle.placing.specs.Guards.{Rival, BarsFor, Bars, JoinBarsFor, JoinBars};
 use adjacency::End;
@@ -45,6 +46,15 @@ fn fits_on(w: &[u32], kept: &[u32], t: usize, k: usize) -> bool
     let z = workspace::word(kept, arrivals::BYTES + t);
     let v = workspace::word(kept, arrivals::TURN_BYTES + k);
     x + y + z <= tables::limit(w) + v
+}
+
+// k is open.
+fn is_open(w: &[u32], kept: &[u32], k: usize) -> bool
+    requires { ⌜ Kept (now w) (now kept) ⌝ }
+    requires { ⌜ k < 16 ⌝ }
+    ensures { λ r. ⌜ r ≡ isOpen (sheetIn (now (w .entry))) (scheduleIn (now (w .entry))) k ⌝ }
+{
+    workspace::word(kept, arrivals::OPEN + k) == 1
 }
 
 // From where links are counted: from one processor, from all, or from processors 4 j to 4 j + 3, a byte for each.
@@ -152,6 +162,15 @@ fn are_both(a: bool, b: bool) -> bool
     ensures { λ r. ⌜ r ≡ both a b ⌝ }
 {
     if a { b } else { false }
+}
+
+// k is open, and t fits it.
+fn fits_open(w: &[u32], kept: &[u32], t: usize, k: usize) -> bool
+    requires { ⌜ Choosing (now w) (now kept) t ⌝ }
+    requires { ⌜ k < 16 ⌝ }
+    ensures { λ r. ⌜ r ≡ both (isOpen (sheetIn (now (w .entry))) (scheduleIn (now (w .entry))) k) (fits (sheetIn (now (w .entry))) (scheduleIn (now (w .entry))) t k) ⌝ }
+{
+    are_both(is_open(w, kept, k), fits_on(w, kept, t, k))
 }
 
 // The known links from k into the successors of t, of which d are known from all: a byte holds them, if it holds d.
@@ -337,7 +356,7 @@ fn idle_key(w: &[u32], kept: &[u32], t: usize, a: usize, d: usize, dues: Counts,
     let p = workspace::word(kept, arrivals::WAITING + k);
     if are_both(e <= a, p <= d) {
         if is_spent(w, kept, t, d, dues, k, p) {
-            if fits_on(w, kept, t, k) {
+            if fits_open(w, kept, t, k) {
                 return high_key(e, k);
             }
         }
@@ -398,19 +417,105 @@ fn idle_on(w: &[u32], kept: &[u32], t: usize, a: usize) -> Found
     Found::Nothing
 }
 
-// Step 3 would open a processor.
-fn may_open(w: &[u32], kept: &[u32], t: usize) -> bool
+// Step 3 may open k.
+fn may_open_on(w: &[u32], kept: &[u32], t: usize, k: usize) -> bool
     requires { ⌜ Choosing (now w) (now kept) t ⌝ }
-    ensures { λ r. ⌜ r ≡ opens (sheetIn (now (w .entry))) (barred (sheetIn (now (w .entry)))) (scheduleIn (now (w .entry))) t ⌝ }
+    requires { ⌜ k < 16 ⌝ }
+    ensures { λ r. ⌜ r ≡ mayOpen (sheetIn (now (w .entry))) (barred (sheetIn (now (w .entry)))) (scheduleIn (now (w .entry))) t k ⌝ }
 {
-    let n = schedule::opened(w);
-    if n < tables::processors(w) {
-        return fits_on(w, kept, t, n);
+    if is_open(w, kept, k) {
+        return false;
     }
-    false
+    fits_on(w, kept, t, k)
 }
 
-// The open processor k may be taken where step 3 would open one; a is t's A, x its start on k, and the guard bars one processor.
+// The lowest processor of a set.
+fn lowest(set: u16) -> Found
+    ensures { λ r. ⌜ (foundOf r ≡ first 16 (member set)) × Below 16 r ⌝ }
+{
+    if set == 0 {
+        return Found::Nothing;
+    }
+    Found::At(workspace::wide(u16::trailing_zeros(set)))
+}
+
+// The least start so far, and the set of those processors that have it.
+pub struct Tied {
+    pub least: u32,
+    pub set: u16,
+}
+
+// One processor more.
+fn tie(tied: Tied, k: usize, admissible: bool, value: u32) -> Tied
+    requires { ⌜ k < 16 ⌝ }
+    ensures { λ r. ⌜ r ≡ tieOf tied k admissible value ⌝ }
+{
+    if admissible {
+        if tied.set == 0 {
+            return Tied {
+                least: value,
+                set: 1u16 << k,
+            };
+        }
+        if value < tied.least {
+            return Tied {
+                least: value,
+                set: 1u16 << k,
+            };
+        }
+        if value == tied.least {
+            return Tied {
+                least: value,
+                set: tied.set | (1u16 << k),
+            };
+        }
+        return tied;
+    }
+    tied
+}
+
+// Some processor below n is not open: mostly none is left, and then step 3 gives none.
+fn some_closed(kept: &[u32], n: usize) -> bool
+    requires { ⌜ (keptLength ≤ length (now kept)) × (n ≤ 16) ⌝ }
+    ensures { λ r. ⌜ r ≡ any n (closedIn (now (kept .entry))) ⌝ }
+{
+    let mut found = false;
+    let mut k: usize = 0;
+    while k < n {
+        let x = workspace::word(kept, arrivals::OPEN + k);
+        found = is_either(found, x == 0);
+        k += 1;
+    }
+    found
+}
+
+// Step 3 over all processors of the board.
+fn open_among(w: &[u32], kept: &[u32], t: usize, starts: Starts) -> Found
+    requires { ⌜ Choosing (now w) (now kept) t × Started (now w) t starts ⌝ }
+    ensures { λ r. ⌜ (foundOf r ≡ another (sheetIn (now (w .entry))) (barred (sheetIn (now (w .entry)))) (scheduleIn (now (w .entry))) t) × Below 16 r ⌝ }
+{
+    let n = tables::processors(w);
+    let mut tied = Tied { least: 0, set: 0 };
+    let mut k: usize = 0;
+    while k < n {
+        tied = tie(tied, k, may_open_on(w, kept, t, k), starts.at[k]);
+        k += 1;
+    }
+    lowest(tied.set)
+}
+
+// Step 3: the processor that it would open.
+fn open_on(w: &[u32], kept: &[u32], t: usize, starts: Starts) -> Found
+    requires { ⌜ Choosing (now w) (now kept) t × Started (now w) t starts ⌝ }
+    ensures { λ r. ⌜ (foundOf r ≡ another (sheetIn (now (w .entry))) (barred (sheetIn (now (w .entry)))) (scheduleIn (now (w .entry))) t) × Below 16 r ⌝ }
+{
+    if some_closed(kept, tables::processors(w)) {
+        return open_among(w, kept, t, starts);
+    }
+    Found::Nothing
+}
+
+// Processor k may be taken where step 3 would open one, if it is open; a is t's A, x its start on k, and the guard bars one processor.
 fn may_share_on(
     w: &[u32],
     kept: &[u32],
@@ -426,7 +531,7 @@ fn may_share_on(
     ensures { λ r. ⌜ r ≡ mayShare (sheetIn (now (w .entry))) (barred (sheetIn (now (w .entry)))) (scheduleIn (now (w .entry))) t k ⌝ }
 {
     let early = are_both(k != bars, x <= a);
-    are_both(fits_on(w, kept, t, k), early)
+    are_both(fits_open(w, kept, t, k), early)
 }
 
 // Between steps 2 and 3: the lowest numbered open processor that starts t by its A.
@@ -457,24 +562,32 @@ fn last_on(w: &[u32], kept: &[u32], t: usize, starts: Starts) -> Found
     let mut k: usize = 0;
     while k < n {
         let x = workspace::wide(starts.at[k]);
-        best = numbers::later(best, low_key(fits_on(w, kept, t, k), x, k));
+        best = numbers::later(best, low_key(fits_open(w, kept, t, k), x, k));
         k += 1;
     }
     processor_of(best)
 }
 
-// Where step 3 would open a processor: an open one that starts t as early, or else the next.
-fn share_or_open(w: &[u32], kept: &[u32], t: usize, starts: Starts, rival: Found, a: usize) -> Found
+// Where step 3 would open `next`: an open processor that starts t as early, or else that one.
+fn share_or_open(
+    w: &[u32],
+    kept: &[u32],
+    t: usize,
+    starts: Starts,
+    rival: Found,
+    a: usize,
+    next: usize,
+) -> Found
     requires { ⌜ Choosing (now w) (now kept) t × Started (now w) t starts ⌝ }
     requires { ⌜ a ≡ readyArrival (sheetIn (now w)) (scheduleIn (now w)) t ⌝ }
     requires { ⌜ Rival (sheetIn (now w)) (scheduleIn (now w)) t (foundOf rival) × Below (taskCount (sheetIn (now w))) rival ⌝ }
-    requires { ⌜ true ≡ opens (sheetIn (now w)) (barred (sheetIn (now w))) (scheduleIn (now w)) t ⌝ }
+    requires { ⌜ (some next ≡ another (sheetIn (now w)) (barred (sheetIn (now w))) (scheduleIn (now w)) t) × (next < 16) ⌝ }
     ensures { λ r. ⌜ (foundOf r ≡ orElse (share (sheetIn (now (w .entry))) (barred (sheetIn (now (w .entry)))) (scheduleIn (now (w .entry))) t) (another (sheetIn (now (w .entry))) (barred (sheetIn (now (w .entry)))) (scheduleIn (now (w .entry))) t)) × Below 16 r ⌝ }
 {
     let bars = bars_of(w, kept, t, starts, rival);
     match share_on(w, kept, t, starts, bars, a) {
         Found::At(k) => Found::At(k),
-        Found::Nothing => Found::At(schedule::opened(w)),
+        Found::Nothing => Found::At(next),
     }
 }
 
@@ -485,10 +598,10 @@ fn without_idle(w: &[u32], kept: &[u32], t: usize, starts: Starts, rival: Found,
     requires { ⌜ Rival (sheetIn (now w)) (scheduleIn (now w)) t (foundOf rival) × Below (taskCount (sheetIn (now w))) rival ⌝ }
     ensures { λ r. ⌜ (foundOf r ≡ orElse (share (sheetIn (now (w .entry))) (barred (sheetIn (now (w .entry)))) (scheduleIn (now (w .entry))) t) (orElse (another (sheetIn (now (w .entry))) (barred (sheetIn (now (w .entry)))) (scheduleIn (now (w .entry))) t) (lastResort (sheetIn (now (w .entry))) (barred (sheetIn (now (w .entry)))) (scheduleIn (now (w .entry))) t))) × Below 16 r ⌝ }
 {
-    if may_open(w, kept, t) {
-        return share_or_open(w, kept, t, starts, rival, a);
+    match open_on(w, kept, t, starts) {
+        Found::At(next) => share_or_open(w, kept, t, starts, rival, a, next),
+        Found::Nothing => last_on(w, kept, t, starts),
     }
-    last_on(w, kept, t, starts)
 }
 
 // Steps 2 to 4, where nothing is joined.

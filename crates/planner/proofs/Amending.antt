@@ -5,15 +5,16 @@ use mathlib.Core.Bool.{Bool, true, false, not, true≢false}
 use mathlib.Core.Option.{Option, none, some}
 use mathlib.Core.Path.{_≡_, refl, sym, ap, _∙_}
 use mathlib.Core.Logic.{⊎-elim}
-use Rattle.folds.specs.Folds.{pick, both, either, first, orElse, isSome, sum}
+use borrow.Author.Tests.{not-true}
+use Rattle.folds.specs.Folds.{pick, both, either, first, orElse, isSome, least, sum}
 use Rattle.folds.specs.Answers.{Answer, value, refused, andThen}
 use Rattle.folds.proofs.Tests.{both-parts, either-none, not-value, not-some}
 use Rattle.folds.proofs.Laws.{first-some, sum-zeros, sum-le}
 use Rattle.sheet.specs.Sheet.{Sheet, taskCount}
 use Rattle.graph.proofs.Proper.{Proper}
 use Rattle.planner.specs.Schedule.{Schedule, empty, placeOf}
-use Rattle.planner.specs.Placing.{ready, readyPriority, aheadBy, firstReady, startOn, barred}
-use Rattle.planner.specs.Planner.{join, idle, opens, mayShare, share, another, lastResort, choice, placeOn, placeTask, turn, turns, plannedBy, planned}
+use Rattle.planner.specs.Placing.{ready, readyPriority, aheadBy, firstReady, startOn, fits, barred, isOpen}
+use Rattle.planner.specs.Planner.{join, idle, mayOpen, another, mayShare, share, lastResort, choice, placeOn, placeTask, turn, turns, plannedBy, planned}
 use Rattle.planner.specs.Amended.{usesThree, opensInVain, atTask, onwards, meets, plannedBefore, wasteful, Changes}
 use Rattle.planner.proofs.Ready.{all-placed}
 use Rattle.planner.proofs.Choosing.{leading-some, leading-none, chosen}
@@ -22,33 +23,39 @@ use Rattle.planner.proofs.Schedules.{Fair, Placing, place, placed-same,
 module _ (s : Sheet) (guard : Schedule → ℕ → ℕ → Bool) where
   -- the amended steps choose what those of document 01 do, unless a processor is opened in vain
   module _ (σ : Schedule) (t : ℕ) where
-    behind : (j i : Option ℕ) (b : Bool) (f : Option ℕ)
-        → both (both (not (isSome j)) (both (not (isSome i)) (isSome (pick {X = Option ℕ} b (some (σ .opened)) none)))) (isSome f) ≡ false
-        → orElse j (orElse i (orElse (pick b f none) (orElse (pick b (some (σ .opened)) none) (lastResort s guard σ t)))) ≡ orElse j (orElse i (orElse (pick b (some (σ .opened)) none) (lastResort s guard σ t)))
-    behind (some j) i b f e = refl
-    behind none (some i) b f e = refl
-    behind none none false f e = refl
-    behind none none true none e = refl
-    behind none none true (some k) e = absurd (true≢false e)
+    behind : (j i a f : Option ℕ) → both (both (not (isSome j)) (both (not (isSome i)) (isSome a))) (isSome f) ≡ false
+        → orElse j (orElse i (orElse (pick (isSome a) f none) (orElse a (lastResort s guard σ t)))) ≡ orElse j (orElse i (orElse a (lastResort s guard σ t)))
+    behind (some j) i a f e = refl
+    behind none (some i) a f e = refl
+    behind none none none f e = refl
+    behind none none (some a) none e = refl
+    behind none none (some a) (some k) e = absurd (true≢false e)
 
     pub choice-same : opensInVain s guard σ t ≡ false → choice s guard true σ t ≡ choice s guard false σ t
-    unfolding choice share another opensInVain usesThree
-    choice-same e = behind (join s guard σ t) (idle s guard σ t) (opens s guard σ t) (first (σ .opened) (mayShare s guard σ t)) e
+    unfolding choice share opensInVain usesThree
+    choice-same e = behind (join s guard σ t) (idle s guard σ t) (another s guard σ t) (first (σ .opened) (mayShare s guard σ t)) e
 
-    -- where one is opened in vain, one of lower number is chosen instead
-    apart : (j i : Option ℕ) (b : Bool) (f : Option ℕ)
-        → both (both (not (isSome j)) (both (not (isSome i)) (isSome (pick {X = Option ℕ} b (some (σ .opened)) none)))) (isSome f) ≡ true
-        → (orElse j (orElse i (orElse (pick b (some (σ .opened)) none) (lastResort s guard σ t))) ≡ some (σ .opened))
-        × (orElse j (orElse i (orElse (pick b f none) (orElse (pick b (some (σ .opened)) none) (lastResort s guard σ t)))) ≡ f) × (isSome f ≡ true)
-    apart (some j) i b f e = absurd (true≢false (sym e))
-    apart none (some i) b f e = absurd (true≢false (sym e))
-    apart none none false f e = absurd (true≢false (sym e))
-    apart none none true none e = absurd (true≢false (sym e))
-    apart none none true (some k) e = (refl, refl, refl)
+    -- where one is opened in vain, one that is open is chosen instead
+    apart : (j i a f : Option ℕ) → both (both (not (isSome j)) (both (not (isSome i)) (isSome a))) (isSome f) ≡ true
+        → (orElse j (orElse i (orElse a (lastResort s guard σ t))) ≡ a)
+        × (orElse j (orElse i (orElse (pick (isSome a) f none) (orElse a (lastResort s guard σ t)))) ≡ f) × (isSome f ≡ true) × (isSome a ≡ true)
+    apart (some j) i a f e = absurd (true≢false (sym e))
+    apart none (some i) a f e = absurd (true≢false (sym e))
+    apart none none none f e = absurd (true≢false (sym e))
+    apart none none (some a) none e = absurd (true≢false (sym e))
+    apart none none (some a) (some k) e = (refl, refl, refl, refl)
 
-    choice-apart : opensInVain s guard σ t ≡ true → (choice s guard false σ t ≡ some (σ .opened)) × (choice s guard true σ t ≡ first (σ .opened) (mayShare s guard σ t)) × (isSome (first (σ .opened) (mayShare s guard σ t)) ≡ true)
-    unfolding choice share another opensInVain usesThree
-    choice-apart e = apart (join s guard σ t) (idle s guard σ t) (opens s guard σ t) (first (σ .opened) (mayShare s guard σ t)) e
+    choice-apart : opensInVain s guard σ t ≡ true → (choice s guard false σ t ≡ another s guard σ t) × (choice s guard true σ t ≡ first (σ .opened) (mayShare s guard σ t)) × (isSome (first (σ .opened) (mayShare s guard σ t)) ≡ true) × (isSome (another s guard σ t) ≡ true)
+    unfolding choice share opensInVain usesThree
+    choice-apart e = apart (join s guard σ t) (idle s guard σ t) (another s guard σ t) (first (σ .opened) (mayShare s guard σ t)) e
+
+    -- the one that was opened was not open
+    other-one : (j k : ℕ) → another s guard σ t ≡ some j → first (σ .opened) (mayShare s guard σ t) ≡ some k → j ≡ k → ⊥
+    unfolding another least mayOpen mayShare
+    other-one j k e f q =
+        let shut = both-parts (not (isOpen s σ j)) _ (leading-some (s .processors) (mayOpen s guard σ t) _ j e .1) .0 in
+        let held = both-parts (isOpen s σ k) _ (both-parts (both (isOpen s σ k) (fits s σ t k)) _ (first-some (σ .opened) (mayShare s guard σ t) k f .1) .0) .0 in
+        true≢false (sym held ∙ ap (isOpen s σ) (sym q) ∙ not-true (isOpen s σ j) shut)
 
   -- the turns give the same where nothing is opened in vain
   pub turns-same : (n : ℕ) (σ : Schedule) → meets s guard n σ ≡ false → turns s guard true n σ ≡ turns s guard false n σ
@@ -97,13 +104,12 @@ module _ (s : Sheet) (guard : Schedule → ℕ → ℕ → Bool) where
             placing-on : (a : Bool) (k : ℕ) → choice s guard a σ t ≡ some k → Placing s σ t k
             placing-on a k c = record { below = found .0; isReady = found .1; room = chosen s guard σ t k a (f .opened) c }
 
-            here : (c : Option ℕ) → first (σ .opened) (mayShare s guard σ t) ≡ c → isSome c ≡ true → choice s guard true σ t ≡ c → choice s guard false σ t ≡ some (σ .opened)
-                → andThen (placeOn s guard σ t c) (turns s guard true n) ≡ value φ → andThen (placeOn s guard σ t (some (σ .opened))) (turns s guard false n) ≡ value φ → ⊥
-            here none z w c d x y = absurd (true≢false (sym w))
-            here (some k) z w c d x y =
-                let low = first-some (σ .opened) (mayShare s guard σ t) k z in
-                let same = same-place true false n f (placing-on true k c) (placing-on false (σ .opened) d) h x y in
-                absurd (omega (arith, low .0))
+            here : (c d : Option ℕ) → first (σ .opened) (mayShare s guard σ t) ≡ c → another s guard σ t ≡ d → isSome c ≡ true → isSome d ≡ true → choice s guard true σ t ≡ c → choice s guard false σ t ≡ d
+                → andThen (placeOn s guard σ t c) (turns s guard true n) ≡ value φ → andThen (placeOn s guard σ t d) (turns s guard false n) ≡ value φ → ⊥
+            here none d z o v w c g x y = absurd (true≢false (sym v))
+            here (some k) none z o v w c g x y = absurd (true≢false (sym w))
+            here (some k) (some j) z o v w c g x y =
+                absurd (other-one σ t j k o z (sym (same-place true false n f (placing-on true k c) (placing-on false j g) h x y)))
 
             later : (c : Option ℕ) → choice s guard false σ t ≡ c → andThen (placeOn s guard σ t c) (turns s guard false n) ≡ value φ → onwards s guard (meets s guard n) (placeOn s guard σ t c) ≡ true
                 → andThen (placeOn s guard σ t c) (turns s guard true n) ≡ value φ → ⊥
@@ -113,7 +119,7 @@ module _ (s : Sheet) (guard : Schedule → ℕ → ℕ → Bool) where
             at : (b : Bool) → opensInVain s guard σ t ≡ b → either b (onwards s guard (meets s guard n) (placeTask s guard false σ (some t))) ≡ true → ⊥
             at true v m =
                 let c = choice-apart σ t v in
-                here (first (σ .opened) (mayShare s guard σ t)) refl (c .2) (c .1) (c .0) (ap (λ (o : Option ℕ). andThen (placeOn s guard σ t o) (turns s guard true n)) (sym (c .1)) ∙ g) (ap (λ (o : Option ℕ). andThen (placeOn s guard σ t o) (turns s guard false n)) (sym (c .0)) ∙ e)
+                here (first (σ .opened) (mayShare s guard σ t)) (another s guard σ t) refl refl (c .2) (c .3) (c .1) (c .0) (ap (λ (o : Option ℕ). andThen (placeOn s guard σ t o) (turns s guard true n)) (sym (c .1)) ∙ g) (ap (λ (o : Option ℕ). andThen (placeOn s guard σ t o) (turns s guard false n)) (sym (c .0)) ∙ e)
             at false v m = later (choice s guard false σ t) refl e m (ap (λ (o : Option ℕ). andThen (placeOn s guard σ t o) (turns s guard true n)) (sym (choice-same σ t v)) ∙ g)
 
 pub changes : (s : Sheet) → Proper s → Changes s

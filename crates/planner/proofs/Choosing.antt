@@ -1,19 +1,18 @@
 -- What `leading` finds, and what every placing step finds: a processor of the board on which the task fits.
 use Prim.Native.Nat.{ℕ, zero, suc, _≤_, _<_}
 use native.Mathlib.Omega.{arith}
-use mathlib.Core.Bool.{Bool, true, false}
+use mathlib.Core.Bool.{Bool, true, false, not}
 use mathlib.Core.Option.{Option, none, some}
 use mathlib.Core.Path.{_≡_, refl, sym, ap, _∙_}
 use mathlib.Core.Logic.{_⊎_, inl, inr, ⊎-elim}
 use lib.Dec.{ltb}
-use borrow.Author.Tests.{ltb-true}
-use Rattle.folds.specs.Folds.{pick, both, first, leading, least, prefer, orElse}
+use Rattle.folds.specs.Folds.{pick, both, first, leading, least, prefer, orElse, isSome}
 use Rattle.folds.proofs.Tests.{below-suc, both-parts, not-some}
 use Rattle.folds.proofs.Laws.{first-some}
 use Rattle.sheet.specs.Sheet.{Sheet}
 use Rattle.planner.specs.Schedule.{Schedule}
-use Rattle.planner.specs.Placing.{fits, holdsPredecessor}
-use Rattle.planner.specs.Planner.{mayJoin, join, mayTake, idle, opens, mayShare, share, another, lastResort, choice}
+use Rattle.planner.specs.Placing.{fits, holdsPredecessor, isOpen}
+use Rattle.planner.specs.Planner.{mayJoin, join, mayTake, idle, mayOpen, another, mayShare, share, mayCrowd, lastResort, choice}
 
 pick-or : {A : Type 0} (b : Bool) (x y z : A) → pick b x y ≡ z → (x ≡ z) ⊎ (y ≡ z)
 pick-or true x y z e = inl e
@@ -44,50 +43,54 @@ leading-none (suc n) p a e i h = go (leading n p a) (p n) refl refl e (λ q l. l
     go (some j) false q c f r = not-some (sym f)
     go (some j) true q c f r = ⊎-elim (λ g. not-some (sym g)) (λ g. not-some (sym g)) (pick-or (a n j) (some n) (some j) none f)
 
-orElse-some : (o u : Option ℕ) (k : ℕ) → orElse o u ≡ some k → (o ≡ some k) ⊎ (u ≡ some k)
+-- folds of what is alike
+pub leading-cong : (n : ℕ) (p q : ℕ → Bool) (a b : ℕ → ℕ → Bool) → ((i : ℕ) → i < n → p i ≡ q i) → ((i j : ℕ) → a i j ≡ b i j) → leading n p a ≡ leading n q b
+unfolding leading
+leading-cong zero p q a b f g = refl
+leading-cong (suc n) p q a b f g = rw (f n (omega arith), leading-cong n p q a b (λ i l. f i (omega arith)) g) (by (q n) (leading n q b))
+  where
+    by : (u : Bool) (o : Option ℕ) → pick u (prefer a n o) o ≡ pick u (prefer b n o) o
+    by true none = refl
+    by true (some j) = rw (g n j)
+    by false o = refl
+
+pub least-cong : (n : ℕ) (p q : ℕ → Bool) (f g : ℕ → ℕ) → ((i : ℕ) → i < n → p i ≡ q i) → ((i : ℕ) → f i ≡ g i) → least n p f ≡ least n q g
+unfolding least
+least-cong n p q f g h e = leading-cong n p q (λ a b. ltb (f a) (f b)) (λ a b. ltb (g a) (g b)) h (λ i j. rw (e i, e j))
+
+pub orElse-some : (o u : Option ℕ) (k : ℕ) → orElse o u ≡ some k → (o ≡ some k) ⊎ (u ≡ some k)
 orElse-some none u k e = inr e
 orElse-some (some j) u k e = inl e
 
--- k is open or next, and t fits it
+-- k is on the board, and t fits it
 pub record Room (s : Sheet) (σ : Schedule) (t k : ℕ) : Type 0 where
-  pub next : k ≤ σ .opened
   pub board : k < s .processors
   pub fit : fits s σ t k ≡ true
 
 module _ (s : Sheet) (guard : Schedule → ℕ → ℕ → Bool) (σ : Schedule) (t k : ℕ) where
-  an-open : (p : ℕ → Bool) (a : ℕ → ℕ → Bool) → σ .opened ≤ s .processors → (p k ≡ true → fits s σ t k ≡ true) → leading (σ .opened) p a ≡ some k → Room s σ t k
-  an-open p a h f e = let m = leading-some (σ .opened) p a k e in record { next = omega arith; board = omega arith; fit = f (m .1) }
+  found : (n : ℕ) (p : ℕ → Bool) (a : ℕ → ℕ → Bool) → n ≤ s .processors → (p k ≡ true → fits s σ t k ≡ true) → leading n p a ≡ some k → Room s σ t k
+  found n p a h f e = let m = leading-some n p a k e in record { board = omega arith; fit = f (m .1) }
 
-  opens-room : opens s guard σ t ≡ true → Room s σ t (σ .opened)
-  unfolding opens
-  opens-room q =
-      let m = both-parts (ltb (σ .opened) (s .processors)) _ q in
-      record { next = omega arith; board = ltb-true (σ .opened) (s .processors) (m .0); fit = m .1 }
+  open-fits : (b : Bool) → both (both (isOpen s σ k) (fits s σ t k)) b ≡ true → fits s σ t k ≡ true
+  open-fits b e = both-parts (isOpen s σ k) _ (both-parts (both (isOpen s σ k) (fits s σ t k)) b e .0) .1
 
-  next-open : another s guard σ t ≡ some k → Room s σ t k
-  unfolding another
-  next-open e = go (opens s guard σ t) refl e
-    where
-      go : (b : Bool) → opens s guard σ t ≡ b → pick b (some (σ .opened)) none ≡ some k → Room s σ t k
-      go true q f = let z : σ .opened ≡ k = cc in rw (← z) (opens-room q)
-      go false q f = not-some f
-
-  shared-open : (amended : Bool) → σ .opened ≤ s .processors → pick amended (share s guard σ t) none ≡ some k → Room s σ t k
+  shared : (amended : Bool) → σ .opened ≤ s .processors → pick amended (share s guard σ t) none ≡ some k → Room s σ t k
   unfolding share mayShare
-  shared-open false h e = not-some e
-  shared-open true h e = go (opens s guard σ t) e
+  shared false h e = not-some e
+  shared true h e = go (isSome (another s guard σ t)) e
     where
       go : (b : Bool) → pick b (first (σ .opened) (mayShare s guard σ t)) none ≡ some k → Room s σ t k
-      go true f = let m = first-some (σ .opened) (mayShare s guard σ t) k f in record { next = omega arith; board = omega arith; fit = both-parts (fits s σ t k) _ (m .1) .0 }
+      go true f = let m = first-some (σ .opened) (mayShare s guard σ t) k f in record { board = omega arith; fit = open-fits _ (m .1) }
       go false f = not-some f
 
   pub chosen : (amended : Bool) → σ .opened ≤ s .processors → choice s guard amended σ t ≡ some k → Room s σ t k
-  unfolding choice join idle lastResort least mayJoin mayTake
+  unfolding choice join idle another lastResort least mayJoin mayTake mayOpen mayCrowd
   chosen amended h e =
-      ⊎-elim (an-open (mayJoin s guard σ t) _ h (λ m. both-parts (holdsPredecessor s σ t k) _ (both-parts (both (holdsPredecessor s σ t k) (fits s σ t k)) _ m .0) .1))
-      (λ q. ⊎-elim (an-open (mayTake s guard σ t) _ h (λ m. both-parts (fits s σ t k) _ m .0))
-      (λ q. ⊎-elim (shared-open amended h)
-      (λ q. ⊎-elim next-open (an-open (fits s σ t) _ h (λ m. m))
+      ⊎-elim (found (σ .opened) (mayJoin s guard σ t) _ h (λ m. both-parts (holdsPredecessor s σ t k) _ (both-parts (both (holdsPredecessor s σ t k) (fits s σ t k)) _ m .0) .1))
+      (λ q. ⊎-elim (found (σ .opened) (mayTake s guard σ t) _ h (λ m. open-fits _ m))
+      (λ q. ⊎-elim (shared amended h)
+      (λ q. ⊎-elim (found (s .processors) (mayOpen s guard σ t) _ (omega arith) (λ m. both-parts (not (isOpen s σ k)) _ m .1))
+      (found (σ .opened) (mayCrowd s guard σ t) _ h (λ m. both-parts (isOpen s σ k) _ m .1))
       (orElse-some (another s guard σ t) (lastResort s guard σ t) k q))
       (orElse-some (pick amended (share s guard σ t) none) (orElse (another s guard σ t) (lastResort s guard σ t)) k q))
       (orElse-some (idle s guard σ t) (orElse (pick amended (share s guard σ t) none) (orElse (another s guard σ t) (lastResort s guard σ t))) k q))

@@ -8,18 +8,18 @@ use mathlib.Core.List.{List}
 use lib.ListN.{length}
 use lib.Seq.{getD-set-same}
 use lib.Dec.{eqb}
-use borrow.Author.Tests.{eq-eqb, ne-eqb}
+use borrow.Author.Tests.{eq-eqb, ne-eqb, ltb-true}
 use Rattle.folds.specs.Folds.{pick, both, sum}
 use Rattle.folds.proofs.Tests.{equal-or, both-parts, pick-le}
 use Rattle.folds.proofs.Laws.{sum-cong, sum-add, sum-le, sum-only, greatest-le}
 use Rattle.folds.proofs.Lists.{getD-replicate}
-use Rattle.sheet.specs.Sheet.{Sheet, taskCount, linkCount, sourceOf, targetOf, workOf}
-use Rattle.sheet.specs.Times.{linkTime}
+use Rattle.sheet.specs.Sheet.{Sheet, taskCount, linkCount, sourceOf, targetOf, workOf, costOf}
+use Rattle.sheet.proofs.Hopping.{time-most}
 use Rattle.graph.proofs.Forms.{Sized}
 use Rattle.graph.proofs.Proper.{Proper}
-use Rattle.planner.specs.Schedule.{Schedule, nowhere, latestFinish, latestStart, empty, finishOf, placed, stands, put}
+use Rattle.planner.specs.Schedule.{Schedule, nowhere, latestFinish, latestStart, empty, placeOf, finishOf, placed, stands, put}
 use Rattle.planner.specs.Loads.{linkLoad, loadInto, workUpTo, loadUpTo, loadOf}
-use Rattle.planner.specs.Placing.{comes, reachBy, unpacked, readyArrival, elsewhere, nearBy, endBy, endOf, startOn}
+use Rattle.planner.specs.Placing.{comes, reachBy, reachOn, unpacked, readyArrival, elsewhere, nearBy, endBy, endOf, startOn}
 use Rattle.planner.proofs.Ready.{ready-free}
 use Rattle.planner.proofs.Schedules.{Fair, place, Placing, Built, built, placing, finish-other, once-put, fair-place, empty-fair}
 use Rattle.planner.proofs.Unpacking.{unpacked-le}
@@ -41,6 +41,14 @@ module _ (s : Sheet) where
     unfolding readyArrival
     arrival-early = fresh-early (linkCount s)
 
+    -- .. by the hops to k
+    reach-on-le : (k l : ℕ) → k < nowhere → comes s σ t l ≡ true → (reachOn s σ k l + s .unpacking ≤ b + loadInto s t l) × (s .unpacking ≤ loadInto s t l)
+    unfolding comes placed
+    reach-on-le k l h e =
+        let c = both-parts (eqb (targetOf s l) t) (placed σ (sourceOf s l)) e in
+        let g = ap (λ u. pick u (linkLoad s l) 0) (c .0) in
+        (omega (arith, early (sourceOf s l), g, time-most s l (placeOf σ (sourceOf s l)) k (ltb-true (placeOf σ (sourceOf s l)) nowhere (c .1)) h), omega (arith, g))
+
     module _ (k : ℕ) where
       pub end-early : endOf s σ k ≤ b
       unfolding endOf endBy
@@ -50,14 +58,14 @@ module _ (s : Sheet) where
       unfolding nearBy
       near-early l h = pick-le (both (comes s σ t l) (stands σ (sourceOf s l) k)) (finishOf σ (sourceOf s l)) 0 b (early (sourceOf s l)) (omega arith)
 
-      pub receives-early : (n : ℕ) → unpacked s (elsewhere s σ t k) (reachBy s σ) (endOf s σ k) n ≤ b + sum n (loadInto s t)
+      pub receives-early : k < nowhere → (n : ℕ) → unpacked s (elsewhere s σ t k) (reachOn s σ k) (endOf s σ k) n ≤ b + sum n (loadInto s t)
       unfolding elsewhere
-      receives-early =
-          unpacked-le s (elsewhere s σ t k) (reachBy s σ) (endOf s σ k) b (loadInto s t) end-early (λ l e. reach-le l (both-parts (comes s σ t l) (not (stands σ (sourceOf s l) k)) e .0))
+      receives-early h =
+          unpacked-le s (elsewhere s σ t k) (reachOn s σ k) (endOf s σ k) b (loadInto s t) end-early (λ l e. reach-on-le k l h (both-parts (comes s σ t l) (not (stands σ (sourceOf s l) k)) e .0))
 
-      pub start-early : startOn s σ t k ≤ b + sum (linkCount s) (loadInto s t)
+      pub start-early : k < nowhere → startOn s σ t k ≤ b + sum (linkCount s) (loadInto s t)
       unfolding startOn
-      start-early = omega (arith, receives-early (linkCount s), greatest-le (linkCount s) (nearBy s σ t k) b near-early)
+      start-early h = omega (arith, receives-early h (linkCount s), greatest-le (linkCount s) (nearBy s σ t k) b near-early)
 
   -- t, which was not placed, stands on k until f
   module _ (σ : Schedule) (t k a f : ℕ) (free : placed σ t ≡ false) (t-in : t < taskCount s) (on-long : length (σ .on) ≡ taskCount s) (board : k < nowhere) where
@@ -81,7 +89,7 @@ module _ (s : Sheet) where
     pub finish-le : length (σ .finish) ≡ taskCount s → f ≡ startOn s σ t k + workOf s t → ((u : ℕ) → finishOf σ u ≤ loadOf s σ) → (u : ℕ) → finishOf (put σ t k a f) u ≤ loadOf s (put σ t k a f)
     unfolding finishOf
     finish-le finish-long e h u =
-        ⊎-elim (λ q. rw q (rw (getD-set-same (σ .finish) t f 0 (omega (arith, finish-long))) (omega (arith, e, start-early σ t (loadOf s σ) h k, load-more))))
+        ⊎-elim (λ q. rw q (rw (getD-set-same (σ .finish) t f 0 (omega (arith, finish-long))) (omega (arith, e, start-early σ t (loadOf s σ) h k board, load-more))))
         (λ d. omega (arith, finish-other σ t k a f u d, h u, load-more)) (equal-or u t)
 
   pub empty-load : (u : ℕ) → finishOf (empty s) u ≤ loadOf s (empty s)
@@ -89,7 +97,7 @@ module _ (s : Sheet) where
   empty-load u = rw (getD-replicate {A = ℕ} (taskCount s) u 0) (omega arith)
 
   -- the numbers of a sheet have their widths
-  module _ (few : linkCount s ≤ 1024) (costs : (l : ℕ) → l < linkCount s → linkTime s l ≤ 262140) (unpacks : s .unpacking ≤ 65535) where
+  module _ (few : linkCount s ≤ 1024) (costs : (l : ℕ) → l < linkCount s → costOf s l ≤ 65535) (unpacks : s .unpacking ≤ 65535) where
     load-le : (l : ℕ) → l < linkCount s → (b : Bool) → pick b (linkLoad s l) 0 ≤ 327675
     load-le l m b = pick-le b (linkLoad s l) 0 327675 (omega (arith, costs l m)) (omega arith)
 

@@ -6,4 +6,5 @@ pub mod Unpacking
 pub mod Times
 pub mod Finishes
 pub mod Amending
+pub mod Flat
 pub mod Same

@@ -11,7 +11,7 @@ use Rattle.folds.proofs.Laws.{term-le-greatest, greatest-le, greatest-cong, gre
 use Rattle.sheet.specs.Sheet.{Sheet, taskCount, linkCount, sourceOf, targetOf, workOf}
 use Rattle.graph.proofs.Proper.{Proper}
 use Rattle.planner.specs.Schedule.{Schedule, nowhere, empty, placeOf, finishOf, placed, stands}
-use Rattle.planner.specs.Placing.{comes, reachBy, unpacked, elsewhere, endBy, endOf, startOn}
+use Rattle.planner.specs.Placing.{comes, reachOn, unpacked, elsewhere, endBy, endOf, startOn}
 use Rattle.planner.specs.Planner.{brings, claimOf}
 use Rattle.planner.proofs.Ready.{ready-source}
 use Rattle.planner.proofs.Unpacking.{unpacked-cong, end-le-start, start-unpacked}
@@ -43,10 +43,10 @@ module _ (s : Sheet) (proper : Proper s) {σ : Schedule} (fair : Fair s σ) {t k
       (λ n. by-other j u n) (equal-or u t))
 
   -- the receives of t's block on k, where the tasks stand as on φ, end when t starts
-  pub starts : (φ : Schedule) → ((u : ℕ) → placed σ u ≡ true → placeOf φ u ≡ placeOf σ u) → unpacked s (brings s φ k t) (reachBy s σ) (endOf s σ k) (linkCount s) ≡ startOn s σ t k
+  pub starts : (φ : Schedule) → ((u : ℕ) → placed σ u ≡ true → placeOf φ u ≡ placeOf σ u) → unpacked s (brings s φ k t) (reachOn s σ k) (endOf s σ k) (linkCount s) ≡ startOn s σ t k
   unfolding elsewhere comes brings stands
   starts φ same =
-      unpacked-cong s (brings s φ k t) (elsewhere s σ t k) (reachBy s σ) (reachBy s σ) (endOf s σ k) (linkCount s)
+      unpacked-cong s (brings s φ k t) (elsewhere s σ t k) (reachOn s σ k) (reachOn s σ k) (endOf s σ k) (linkCount s)
       (λ l h. ⊎-elim
       (λ (q : targetOf s l ≡ t). let r = ready-source s σ t l (p .isReady) h q in rw (eq-eqb (targetOf s l) t q, r, same (sourceOf s l) r))
       (λ d. rw (ne-eqb (targetOf s l) t d)) (equal-or (targetOf s l) t))

@@ -8,7 +8,7 @@ use Rattle.folds.specs.Folds.{pick, both, sum, greatest}
 use Rattle.folds.proofs.Laws.{term-le-greatest, greatest-le}
 use Rattle.sheet.specs.Sheet.{Sheet, taskCount, linkCount, sourceOf}
 use Rattle.planner.specs.Schedule.{Schedule, finishOf, stands}
-use Rattle.planner.specs.Placing.{comes, reachBy, arrivalBy, arrival, unpacked, readyArrival, endBy, endOf, elsewhere, nearBy, startOn}
+use Rattle.planner.specs.Placing.{comes, reachBy, reachOn, arrivalBy, arrival, unpacked, readyArrival, endBy, endOf, elsewhere, nearBy, startOn}
 
 module _ (s : Sheet) (test : ℕ → Bool) (x : ℕ → ℕ) (e : ℕ) where
   -- one link more, as a loop counts
@@ -89,7 +89,7 @@ module _ (s : Sheet) (σ : Schedule) (t : ℕ) where
   module _ (k : ℕ) where
     pub end-le-start : endOf s σ k ≤ startOn s σ t k
     unfolding startOn
-    end-le-start = omega (arith, unpacked-from s (elsewhere s σ t k) (reachBy s σ) (endOf s σ k) (linkCount s))
+    end-le-start = omega (arith, unpacked-from s (elsewhere s σ t k) (reachOn s σ k) (endOf s σ k) (linkCount s))
 
     -- a predecessor on k is over by k's end, so that only messages can come later
     module _ (declared : (l : ℕ) → l < linkCount s → sourceOf s l < taskCount s) where
@@ -102,6 +102,6 @@ module _ (s : Sheet) (σ : Schedule) (t : ℕ) where
           go l h true false q = omega arith
           go l h false v q = omega arith
 
-      pub start-unpacked : unpacked s (elsewhere s σ t k) (reachBy s σ) (endOf s σ k) (linkCount s) ≡ startOn s σ t k
+      pub start-unpacked : unpacked s (elsewhere s σ t k) (reachOn s σ k) (endOf s σ k) (linkCount s) ≡ startOn s σ t k
       unfolding startOn
-      start-unpacked = omega (arith, near-end, unpacked-from s (elsewhere s σ t k) (reachBy s σ) (endOf s σ k) (linkCount s))
+      start-unpacked = omega (arith, near-end, unpacked-from s (elsewhere s σ t k) (reachOn s σ k) (endOf s σ k) (linkCount s))

@@ -7,8 +7,8 @@ use Rattle.folds.specs.Folds.{pick, both, first, leading, least, orElse}
 use Rattle.folds.specs.Answers.{Answer, value, refused, andThen}
 use Rattle.sheet.specs.Sheet.{Sheet, taskCount, workOf}
 use Rattle.planner.specs.Schedule.{Schedule, empty, put}
-use Rattle.planner.specs.Placing.{ready, arrival, priority, aheadBy, firstPartlyReady, endOf, startFrom, fits, holdsPredecessor, bestStart, spent}
-use Rattle.planner.specs.Planner.{opens, another}
+use Rattle.planner.specs.Placing.{ready, arrival, priority, aheadBy, firstPartlyReady, endOf, fits, holdsPredecessor, spent}
+use Rattle.planner.specs.Flat.{startFromFlat, bestStartFlat, opensFlat, anotherFlat}
 
 module _ (s : Sheet) where
   unfoldable pub firstReadyThen : Schedule → Option ℕ
@@ -16,14 +16,14 @@ module _ (s : Sheet) where
 
   -- "the greatest of k's end time and, over its predecessors, finish + (0 if on k, else cost)"
   unfoldable pub startThen : Schedule → ℕ → ℕ → ℕ
-  startThen σ t k = startFrom s σ t k (endOf s σ k)
+  startThen σ t k = startFromFlat s σ t k (endOf s σ k)
 
   unfoldable pub endsWithThen : Schedule → ℕ → ℕ → ℕ → ℕ
   endsWithThen σ t k j = pick (eqb j k) (startThen σ t k + workOf s t) (endOf s σ j)
 
   unfoldable pub delaysThen : Schedule → ℕ → ℕ → ℕ → Bool
   delaysThen σ t u k =
-      both (ltb (bestStart s σ (endOf s σ) u) (arrival s σ u)) (ltb (bestStart s σ (endOf s σ) u) (bestStart s σ (endsWithThen σ t k) u))
+      both (ltb (bestStartFlat s σ (endOf s σ) u) (arrival s σ u)) (ltb (bestStartFlat s σ (endOf s σ) u) (bestStartFlat s σ (endsWithThen σ t k) u))
 
   abbrev pub barredForThen : Schedule → ℕ → ℕ → Option ℕ → Bool
   barredForThen σ t k none = false
@@ -50,7 +50,7 @@ module _ (s : Sheet) (guard : Schedule → ℕ → ℕ → Bool) where
   mayShareThen σ t k = both (fits s σ t k) (both (not (guard σ t k)) (leb (startThen s σ t k) (arrival s σ t)))
 
   unfoldable pub shareThen : Schedule → ℕ → Option ℕ
-  shareThen σ t = pick (opens s guard σ t) (first (σ .opened) (mayShareThen σ t)) none
+  shareThen σ t = pick (opensFlat s σ t) (first (σ .opened) (mayShareThen σ t)) none
 
   unfoldable pub lastResortThen : Schedule → ℕ → Option ℕ
   lastResortThen σ t = least (σ .opened) (fits s σ t) (startThen s σ t)
@@ -62,7 +62,7 @@ module _ (s : Sheet) (guard : Schedule → ℕ → ℕ → Bool) where
   module _ (amended : Bool) where
     unfoldable pub choiceThen : Schedule → ℕ → Option ℕ
     choiceThen σ t =
-        orElse (joinThen σ t) (orElse (idleThen σ t) (orElse (pick amended (shareThen σ t) none) (orElse (another s guard σ t) (lastResortThen σ t))))
+        orElse (joinThen σ t) (orElse (idleThen σ t) (orElse (pick amended (shareThen σ t) none) (orElse (anotherFlat s σ t) (lastResortThen σ t))))
 
     abbrev pub placeTaskThen : Schedule → Option ℕ → Answer Schedule
     placeTaskThen σ none = value σ

@@ -1,15 +1,14 @@
 -- What bounds the times of a schedule: all works, costs and unpacking so far, one after the other.
-use Prim.Native.Nat.{ℕ, _+_}
+use Prim.Native.Nat.{ℕ, _+_, _*_}
 use lib.Dec.{eqb}
 use Rattle.folds.specs.Folds.{pick, sum}
-use Rattle.sheet.specs.Sheet.{Sheet, taskCount, linkCount, targetOf, workOf}
-use Rattle.sheet.specs.Times.{linkTime}
+use Rattle.sheet.specs.Sheet.{Sheet, taskCount, linkCount, targetOf, workOf, costOf}
 use Rattle.planner.specs.Schedule.{Schedule, placed}
 
 module _ (s : Sheet) where
-  -- what a message and its unpacking add at most
+  -- what a message and its unpacking add at most: no two processors are more than four hops apart
   abbrev pub linkLoad : ℕ → ℕ
-  linkLoad l = linkTime s l + s .unpacking
+  linkLoad l = 4 * costOf s l + s .unpacking
 
   -- .. for the links into t
   abbrev pub loadInto : ℕ → ℕ → ℕ

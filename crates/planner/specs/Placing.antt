@@ -5,10 +5,10 @@ use mathlib.Core.Bool.{Bool, false, not}
 use mathlib.Core.Option.{Option, none, some}
 use lib.Dec.{ltb, leb, eqb}
 use Rattle.folds.specs.Folds.{pick, both, either, any, all, sum, greatest, leading, least}
-use Rattle.sheet.specs.Sheet.{Sheet, taskCount, linkCount, workOf, storeOf, sourceOf, targetOf, bytesOf}
-use Rattle.sheet.specs.Times.{linkTime}
+use Rattle.sheet.specs.Sheet.{Sheet, taskCount, linkCount, workOf, storeOf, sourceOf, targetOf, costOf, bytesOf}
+use Rattle.sheet.specs.Hops.{linkTime}
 use Rattle.graph.specs.Graph.{level}
-use Rattle.planner.specs.Schedule.{Schedule, finishOf, placed, stands, put}
+use Rattle.planner.specs.Schedule.{Schedule, placeOf, finishOf, placed, stands, put}
 
 module _ (s : Sheet) where
   -- link l leads to t from a placed task; from one that is not placed; it leads elsewhere, or from a placed task
@@ -29,9 +29,13 @@ module _ (s : Sheet) where
   unfoldable pub partlyReady : Schedule → ℕ → Bool
   partlyReady σ t = both (not (placed σ t)) (both (any (linkCount s) (comes σ t)) (any (linkCount s) (lacks σ t)))
 
-  -- when the message of l is there: its source's finish and the time that it takes
+  -- C-20 of document 02: "A and partly ready arrivals count one hop": when the message of l is there, its source's finish and its cost
   abbrev pub reachBy : Schedule → ℕ → ℕ
-  reachBy σ l = finishOf σ (sourceOf s l) + linkTime s l
+  reachBy σ l = finishOf σ (sourceOf s l) + costOf s l
+
+  -- .. and on k, by the time that it takes from where its source stands
+  abbrev pub reachOn : Schedule → ℕ → ℕ → ℕ
+  reachOn σ k l = finishOf σ (sourceOf s l) + linkTime s l (placeOf σ (sourceOf s l)) k
 
   unfoldable pub arrivalBy : Schedule → ℕ → ℕ → ℕ
   arrivalBy σ t l = pick (comes σ t l) (reachBy σ l) 0
@@ -74,9 +78,9 @@ module _ (s : Sheet) where
   unfoldable pub endOf : Schedule → ℕ → ℕ
   endOf σ k = greatest (taskCount s) (endBy σ k)
 
-  -- "finish + (0 if on k, else cost)"
+  -- "finish + (0 if on k, else cost)", on a cube the cost of each hop
   unfoldable pub startBy : Schedule → ℕ → ℕ → ℕ → ℕ
-  startBy σ t k l = pick (comes σ t l) (finishOf σ (sourceOf s l) + pick (stands σ (sourceOf s l) k) 0 (linkTime s l)) 0
+  startBy σ t k l = pick (comes σ t l) (finishOf σ (sourceOf s l) + pick (stands σ (sourceOf s l) k) 0 (linkTime s l (placeOf σ (sourceOf s l)) k)) 0
 
   -- the start of a partly ready t on k, whose end is e, by its placed predecessors
   unfoldable pub startFrom : Schedule → ℕ → ℕ → ℕ → ℕ
@@ -91,7 +95,7 @@ module _ (s : Sheet) where
 
   -- "A task's start on a processor is found by doing its receives in rising link number from that processor's end time, then waiting for its local predecessors"
   unfoldable pub startOn : Schedule → ℕ → ℕ → ℕ
-  startOn σ t k = max (unpacked (elsewhere σ t k) (reachBy σ) (endOf σ k) (linkCount s)) (greatest (linkCount s) (nearBy σ t k))
+  startOn σ t k = max (unpacked (elsewhere σ t k) (reachOn σ k) (endOf σ k) (linkCount s)) (greatest (linkCount s) (nearBy σ t k))
 
   -- the store of u, if it stands on k; the bytes of link l, if it leads to k from another processor
   unfoldable pub storeBy : Schedule → ℕ → ℕ → ℕ
@@ -142,6 +146,10 @@ module _ (s : Sheet) where
 
   unfoldable pub barred : Schedule → ℕ → ℕ → Bool
   barred σ t k = barredFor σ t k (firstPartlyReady σ)
+
+  -- k is open: it holds a task
+  unfoldable pub isOpen : Schedule → ℕ → Bool
+  isOpen σ k = any (taskCount s) (λ u. stands σ u k)
 
   unfoldable pub followsBy : ℕ → ℕ → ℕ → Bool
   followsBy u t l = both (eqb (sourceOf s l) t) (eqb (targetOf s l) u)

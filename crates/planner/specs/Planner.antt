@@ -4,14 +4,14 @@ use mathlib.Core.Bool.{Bool, true, not}
 use mathlib.Core.Option.{Option, none, some}
 use mathlib.Core.List.{List, [], _∷_, _++_}
 use lib.Dec.{ltb, leb, eqb}
-use Rattle.folds.specs.Folds.{pick, both, greatest, first, leading, least, listed, gather, orElse}
+use Rattle.folds.specs.Folds.{pick, bit, both, sum, greatest, first, leading, least, listed, gather, orElse, isSome}
 use Rattle.folds.specs.Answers.{Answer, value, refused, andThen}
 use Rattle.sheet.specs.Sheet.{Sheet, taskCount, linkCount, workOf, sourceOf, targetOf}
 use Rattle.graph.specs.Graph.{readSheet}
 use Rattle.bundle.specs.Bundle.{Command, run, send, receive, Bundle}
 use Rattle.bundle.specs.Writing.{bundleBytes}
 use Rattle.planner.specs.Schedule.{Schedule, empty, finishOf, stands, put}
-use Rattle.planner.specs.Placing.{readyArrival, firstReady, endOf, startOn, fits, holdsPredecessor, barred, spent}
+use Rattle.planner.specs.Placing.{readyArrival, firstReady, endOf, startOn, fits, holdsPredecessor, barred, isOpen, spent}
 
 -- The guard is a parameter, so that the trial sheets can say what it changes.
 module _ (s : Sheet) (guard : Schedule → ℕ → ℕ → Bool) where
@@ -25,30 +25,33 @@ module _ (s : Sheet) (guard : Schedule → ℕ → ℕ → Bool) where
 
   -- 2. "Idle: open k that fit, with end at most A, where each successor of each task on k is placed or is a successor of t. Latest end, then lowest number"
   unfoldable pub mayTake : Schedule → ℕ → ℕ → Bool
-  mayTake σ t k = both (fits s σ t k) (both (leb (endOf s σ k) (readyArrival s σ t)) (spent s σ t k))
+  mayTake σ t k = both (both (isOpen s σ k) (fits s σ t k)) (both (leb (endOf s σ k) (readyArrival s σ t)) (spent s σ t k))
 
   unfoldable pub idle : Schedule → ℕ → Option ℕ
   idle σ t = leading (σ .opened) (mayTake σ t) (λ a b. ltb (endOf s σ b) (endOf s σ a))
 
-  -- step 3 would open a processor: "if one is left and t fits it alone"
-  unfoldable pub opens : Schedule → ℕ → Bool
-  opens σ t = both (ltb (σ .opened) (s .processors)) (fits s σ t (σ .opened))
+  -- 3. "Open the next processor, if one is left and t fits it alone", and C-20 of document 02: "Step 3 opens, among unopened processors that fit, the one
+  -- with least start, then the lowest number"
+  unfoldable pub mayOpen : Schedule → ℕ → ℕ → Bool
+  mayOpen σ t k = both (not (isOpen s σ k)) (fits s σ t k)
+
+  unfoldable pub another : Schedule → ℕ → Option ℕ
+  another σ t = least (s .processors) (mayOpen σ t) (startOn s σ t)
 
   -- C-17 of document 02: "Where step 3 would open a processor, the lowest numbered open one that fits, isn't barred and starts the task not later than A is
   -- taken instead"
   unfoldable pub mayShare : Schedule → ℕ → ℕ → Bool
-  mayShare σ t k = both (fits s σ t k) (both (not (guard σ t k)) (leb (startOn s σ t k) (readyArrival s σ t)))
+  mayShare σ t k = both (both (isOpen s σ k) (fits s σ t k)) (both (not (guard σ t k)) (leb (startOn s σ t k) (readyArrival s σ t)))
 
   unfoldable pub share : Schedule → ℕ → Option ℕ
-  share σ t = pick (opens σ t) (first (σ .opened) (mayShare σ t)) none
-
-  -- 3. "Open the next processor, if one is left and t fits it alone"
-  unfoldable pub another : Schedule → ℕ → Option ℕ
-  another σ t = pick (opens σ t) (some (σ .opened)) none
+  share σ t = pick (isSome (another σ t)) (first (σ .opened) (mayShare σ t)) none
 
   -- 4. "Last resort: open k that fit. Least start, then lowest number"
+  unfoldable pub mayCrowd : Schedule → ℕ → ℕ → Bool
+  mayCrowd σ t k = both (isOpen s σ k) (fits s σ t k)
+
   unfoldable pub lastResort : Schedule → ℕ → Option ℕ
-  lastResort σ t = least (σ .opened) (fits s σ t) (startOn s σ t)
+  lastResort σ t = least (σ .opened) (mayCrowd σ t) (startOn s σ t)
 
   abbrev pub placedFrom : Schedule → ℕ → ℕ → ℕ → Schedule
   placedFrom σ t k start = put σ t k start (start + workOf s t)
@@ -109,10 +112,15 @@ module _ (s : Sheet) where
   unfoldable pub programme : Schedule → ℕ → List Command
   programme σ k = blocks σ k (σ .order)
 
+  -- "`PLAN` counts processors that run a task"
+  unfoldable pub running : Schedule → ℕ
+  running σ = sum (s .processors) (λ k. bit (isOpen s σ k))
+
   -- "The claim is the latest finish"
   unfoldable pub claimOf : Schedule → ℕ
   claimOf σ = greatest (taskCount s) (finishOf σ)
 
+  -- "Numbers skipped below the highest one used are written as empty programmes": where no task stands, no block is
   unfoldable pub bundleOf : Schedule → Bundle
   bundleOf σ = record { programmes = listed (σ .opened) (programme σ); claim = claimOf σ }
 

@@ -13,9 +13,9 @@ use Rattle.folds.specs.Folds.{listed}
 use Rattle.folds.proofs.Tests.{equal-or}
 use Rattle.folds.proofs.Loops.{listed-one}
 use Rattle.folds.proofs.Lists.{listed-cong}
-use Rattle.workspace.specs.Area.{fixed, ClearIs, limitAt, linkCountAt, linksAt, pairsAt, processorsAt, sizesAt, taskCountAt, tasksAt, unpackingAt}
+use Rattle.workspace.specs.Area.{fixed, ClearIs, limitAt, linkCountAt, linksAt, pairsAt, processorsAt, sizesAt, taskCountAt, tasksAt, unpackingAt, cubeAt}
 use Rattle.sheet.specs.Sheet.{Task, Link}
-use Rattle.sheet.specs.Tables.{taskOfWord, linkOfWords, taskIn, linkIn, sheetIn, bitAt, pairIn, taskWords, linkWords, pairWords, unpackingWords, Blanked}
+use Rattle.sheet.specs.Tables.{taskOfWord, linkOfWords, taskIn, linkIn, sheetIn, bitAt, pairIn, taskWords, linkWords, pairWords, unpackingWords, cubeWords, Blanked}
 use Rattle.sheet.proofs.Bits.{bit-set, bit-other, bit-room, bit-le}
 
 -- a bit that is not set leaves room for it
@@ -75,7 +75,25 @@ link-packed a b c d h k =
     let r : (a + 256 * b + 65536 * c) / 65536 ≡ c = omega arith in
     λ x. record { source = p x; target = q x; cost = r x; bytes = d }
 
--- another time for unpacking: the words elsewhere, and the sheet
+-- a word of the board is another: the tables
+module _ (w v : List ℕ) (at : ℕ) (board : at < tasksAt) (away : (i : ℕ) → i ≢ at → getD v i 0 ≡ getD w i 0) where
+  pub board-task : (t : ℕ) → taskIn v t ≡ taskIn w t
+  board-task t = ap taskOfWord (away (tasksAt + t) (λ q. omega arith))
+
+  pub board-link : (l : ℕ) → linkIn v l ≡ linkIn w l
+  board-link l = ap₂ linkOfWords (away (linksAt + l) (λ q. omega arith)) (away (sizesAt + l) (λ q. omega arith))
+
+  board-tasks : taskCountAt ≢ at → listed (getD v taskCountAt 0) (taskIn v) ≡ listed (getD w taskCountAt 0) (taskIn w)
+  board-tasks d = ap (λ (k : ℕ). listed k (taskIn v)) (away taskCountAt d) ∙ listed-cong (getD w taskCountAt 0) _ (taskIn w) (λ t k. board-task t)
+
+  board-links : linkCountAt ≢ at → listed (getD v linkCountAt 0) (linkIn v) ≡ listed (getD w linkCountAt 0) (linkIn w)
+  board-links d = ap (λ (k : ℕ). listed k (linkIn v)) (away linkCountAt d) ∙ listed-cong (getD w linkCountAt 0) _ (linkIn w) (λ l k. board-link l)
+
+-- whether word cubeAt says that the board is a cube
+wired : {x y : ℕ} → x ≡ y → eqb x 1 ≡ eqb y 1
+wired e = ap (λ (z : ℕ). eqb z 1) e
+
+-- another time for unpacking
 module _ (w : List ℕ) (u : ℕ) (long : fixed ≤ length w) where
   pub unpacking-away : (i : ℕ) → i ≢ unpackingAt → getD (unpackingWords w u) i 0 ≡ getD w i 0
   unfolding unpackingWords
@@ -89,24 +107,42 @@ module _ (w : List ℕ) (u : ℕ) (long : fixed ≤ length w) where
   unfolding unpackingWords
   unpacking-long = length-set w unpackingAt u
 
-  pub unpacking-tasks : (t : ℕ) → taskIn (unpackingWords w u) t ≡ taskIn w t
-  unpacking-tasks t = ap taskOfWord (unpacking-away (tasksAt + t) (λ q. omega arith))
-
-  pub unpacking-links : (l : ℕ) → linkIn (unpackingWords w u) l ≡ linkIn w l
-  unpacking-links l = ap₂ linkOfWords (unpacking-away (linksAt + l) (λ q. omega arith)) (unpacking-away (sizesAt + l) (λ q. omega arith))
-
-  pub sheet-unpacking : sheetIn (unpackingWords w u) ≡ record { processors = sheetIn w .processors; limit = sheetIn w .limit; unpacking = u; tasks = sheetIn w .tasks; links = sheetIn w .links }
+  pub sheet-unpacking : sheetIn (unpackingWords w u) ≡ record { processors = sheetIn w .processors; limit = sheetIn w .limit; unpacking = u; cube = sheetIn w .cube; tasks = sheetIn w .tasks; links = sheetIn w .links }
   unfolding sheetIn
   sheet-unpacking =
-      let tasks : listed (getD (unpackingWords w u) taskCountAt 0) (taskIn (unpackingWords w u)) ≡ listed (getD w taskCountAt 0) (taskIn w) =
-      ap (λ (k : ℕ). listed k (taskIn (unpackingWords w u))) (unpacking-away taskCountAt (λ q. omega arith))
-      ∙ listed-cong (getD w taskCountAt 0) _ (taskIn w) (λ t k. unpacking-tasks t) in
-      let links : listed (getD (unpackingWords w u) linkCountAt 0) (linkIn (unpackingWords w u)) ≡ listed (getD w linkCountAt 0) (linkIn w) =
-      ap (λ (k : ℕ). listed k (linkIn (unpackingWords w u))) (unpacking-away linkCountAt (λ q. omega arith))
-      ∙ listed-cong (getD w linkCountAt 0) _ (linkIn w) (λ l k. unpacking-links l) in
-      let p : getD (unpackingWords w u) processorsAt 0 ≡ getD w processorsAt 0 = unpacking-away processorsAt (λ q. omega arith) in
-      let l : getD (unpackingWords w u) limitAt 0 ≡ getD w limitAt 0 = unpacking-away limitAt (λ q. omega arith) in
-      λ x. record { processors = p x; limit = l x; unpacking = unpacking-here x; tasks = tasks x; links = links x }
+      let away = unpacking-away in
+      let tasks = board-tasks w (unpackingWords w u) unpackingAt (omega arith) away (λ q. omega arith) in
+      let links = board-links w (unpackingWords w u) unpackingAt (omega arith) away (λ q. omega arith) in
+      let p : getD (unpackingWords w u) processorsAt 0 ≡ getD w processorsAt 0 = away processorsAt (λ q. omega arith) in
+      let l : getD (unpackingWords w u) limitAt 0 ≡ getD w limitAt 0 = away limitAt (λ q. omega arith) in
+      let c = wired (away cubeAt (λ q. omega arith)) in
+      λ x. record { processors = p x; limit = l x; unpacking = unpacking-here x; cube = c x; tasks = tasks x; links = links x }
+
+-- a cube
+module _ (w : List ℕ) (long : fixed ≤ length w) where
+  pub cube-away : (i : ℕ) → i ≢ cubeAt → getD (cubeWords w) i 0 ≡ getD w i 0
+  unfolding cubeWords
+  cube-away i h = getD-set-other w cubeAt i 1 0 h
+
+  cube-here : getD (cubeWords w) cubeAt 0 ≡ 1
+  unfolding cubeWords
+  cube-here = getD-set-same w cubeAt 1 0 (omega arith)
+
+  pub cube-long : length (cubeWords w) ≡ length w
+  unfolding cubeWords
+  cube-long = length-set w cubeAt 1
+
+  pub sheet-cube : sheetIn (cubeWords w) ≡ record { processors = sheetIn w .processors; limit = sheetIn w .limit; unpacking = sheetIn w .unpacking; cube = true; tasks = sheetIn w .tasks; links = sheetIn w .links }
+  unfolding sheetIn
+  sheet-cube =
+      let away = cube-away in
+      let tasks = board-tasks w (cubeWords w) cubeAt (omega arith) away (λ q. omega arith) in
+      let links = board-links w (cubeWords w) cubeAt (omega arith) away (λ q. omega arith) in
+      let p : getD (cubeWords w) processorsAt 0 ≡ getD w processorsAt 0 = away processorsAt (λ q. omega arith) in
+      let l : getD (cubeWords w) limitAt 0 ≡ getD w limitAt 0 = away limitAt (λ q. omega arith) in
+      let u : getD (cubeWords w) unpackingAt 0 ≡ getD w unpackingAt 0 = away unpackingAt (λ q. omega arith) in
+      let c = wired cube-here in
+      λ x. record { processors = p x; limit = l x; unpacking = u x; cube = c x; tasks = tasks x; links = links x }
 
 -- one task more: the words elsewhere, and the sheet
 module _ (w : List ℕ) (n work store : ℕ) (long : fixed ≤ length w) (n-small : n < 256) where
@@ -137,7 +173,7 @@ module _ (w : List ℕ) (n work store : ℕ) (long : fixed ≤ length w) (n-smal
   task-links l = ap₂ linkOfWords (task-away (linksAt + l) (λ q. omega arith) (λ q. omega arith)) (task-away (sizesAt + l) (λ q. omega arith) (λ q. omega arith))
 
   pub sheet-task : getD w 0 0 ≡ n → work < 65536
-      → sheetIn (taskWords w n work store) ≡ record { processors = sheetIn w .processors; limit = sheetIn w .limit; unpacking = sheetIn w .unpacking; tasks = sheetIn w .tasks ++ record { work = work; store = store } ∷ []; links = sheetIn w .links }
+      → sheetIn (taskWords w n work store) ≡ record { processors = sheetIn w .processors; limit = sheetIn w .limit; unpacking = sheetIn w .unpacking; cube = sheetIn w .cube; tasks = sheetIn w .tasks ++ record { work = work; store = store } ∷ []; links = sheetIn w .links }
   unfolding sheetIn
   sheet-task e h =
       let tasks : listed (getD (taskWords w n work store) 0 0) (taskIn (taskWords w n work store)) ≡ listed (getD w 0 0) (taskIn w) ++ record { work = work; store = store } ∷ [] =
@@ -150,7 +186,8 @@ module _ (w : List ℕ) (n work store : ℕ) (long : fixed ≤ length w) (n-smal
       let p : getD (taskWords w n work store) 2 0 ≡ getD w 2 0 = task-away 2 (λ q. omega arith) (λ q. omega arith) in
       let q : getD (taskWords w n work store) 3 0 ≡ getD w 3 0 = task-away 3 (λ q. omega arith) (λ q. omega arith) in
       let u : getD (taskWords w n work store) unpackingAt 0 ≡ getD w unpackingAt 0 = task-away unpackingAt (λ q. omega arith) (λ q. omega arith) in
-      λ x. record { processors = p x; limit = q x; unpacking = u x; tasks = tasks x; links = links x }
+      let c = wired (task-away cubeAt (λ q. omega arith) (λ q. omega arith)) in
+      λ x. record { processors = p x; limit = q x; unpacking = u x; cube = c x; tasks = tasks x; links = links x }
 
 -- one link more: the words elsewhere, and the sheet
 module _ (w : List ℕ) (m a b c d : ℕ) (long : fixed ≤ length w) (m-small : m < 1024) where
@@ -187,7 +224,7 @@ module _ (w : List ℕ) (m a b c d : ℕ) (long : fixed ≤ length w) (m-small :
   link-tasks t h = ap taskOfWord (link-away (tasksAt + t) (λ q. omega arith) (λ q. omega arith) (λ q. omega arith))
 
   pub sheet-link : getD w 1 0 ≡ m → getD w 0 0 ≤ 256 → a < 256 → b < 256
-      → sheetIn (linkWords w m a b c d) ≡ record { processors = sheetIn w .processors; limit = sheetIn w .limit; unpacking = sheetIn w .unpacking; tasks = sheetIn w .tasks; links = sheetIn w .links ++ record { source = a; target = b; cost = c; bytes = d } ∷ [] }
+      → sheetIn (linkWords w m a b c d) ≡ record { processors = sheetIn w .processors; limit = sheetIn w .limit; unpacking = sheetIn w .unpacking; cube = sheetIn w .cube; tasks = sheetIn w .tasks; links = sheetIn w .links ++ record { source = a; target = b; cost = c; bytes = d } ∷ [] }
   unfolding sheetIn
   sheet-link e few h k =
       let links : listed (getD (linkWords w m a b c d) 1 0) (linkIn (linkWords w m a b c d)) ≡ listed (getD w 1 0) (linkIn w) ++ record { source = a; target = b; cost = c; bytes = d } ∷ [] =
@@ -200,7 +237,8 @@ module _ (w : List ℕ) (m a b c d : ℕ) (long : fixed ≤ length w) (m-small :
       let p : getD (linkWords w m a b c d) 2 0 ≡ getD w 2 0 = link-away 2 (λ q. omega arith) (λ q. omega arith) (λ q. omega arith) in
       let q : getD (linkWords w m a b c d) 3 0 ≡ getD w 3 0 = link-away 3 (λ q. omega arith) (λ q. omega arith) (λ q. omega arith) in
       let u : getD (linkWords w m a b c d) unpackingAt 0 ≡ getD w unpackingAt 0 = link-away unpackingAt (λ q. omega arith) (λ q. omega arith) (λ q. omega arith) in
-      λ x. record { processors = p x; limit = q x; unpacking = u x; tasks = tasks x; links = links x }
+      let y = wired (link-away cubeAt (λ q. omega arith) (λ q. omega arith) (λ q. omega arith)) in
+      λ x. record { processors = p x; limit = q x; unpacking = u x; cube = y x; tasks = tasks x; links = links x }
 
 -- pair words that were cleared
 pub blanked : {e : ℕ} {w v : List ℕ} → ClearIs w v pairsAt e → Blanked e w v

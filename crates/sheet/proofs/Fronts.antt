@@ -10,33 +10,42 @@ use lib.ListN.{length}
 use lib.Dec.{eqb}
 use Rattle.folds.specs.Folds.{pick}
 use Rattle.numbers.specs.Number.{numberBytes}
-use Rattle.sheet.specs.Sizes.{boardSize, unpackingSize, frontBy}
+use Rattle.sheet.specs.Sizes.{boardSize, unpackingSize, cubeSize, frontBy}
 use Rattle.sheet.specs.Writing.{boardBytes}
 
-pub front-none : (u : ℕ) → u ≡ 0 → frontBy u ≡ boardSize
+-- without a cube, and with one
+pub front-none : (u : ℕ) → u ≡ 0 → frontBy u false ≡ boardSize
 unfolding frontBy
 front-none u h = rw (eq-eqb u 0 h)
 
-pub front-some : (u : ℕ) → u ≢ 0 → frontBy u ≡ boardSize + unpackingSize
+pub front-some : (u : ℕ) → u ≢ 0 → frontBy u false ≡ boardSize + unpackingSize
 unfolding frontBy
 front-some u h = rw (ne-eqb u 0 h)
 
-pub front-most : (u : ℕ) → frontBy u ≤ boardSize + unpackingSize
+pub front-cube : (u : ℕ) (c : Bool) → frontBy u c ≡ frontBy u false + pick c cubeSize 0
 unfolding frontBy
-front-most u = by (eqb u 0)
-  where
-    by : (t : Bool) → boardSize + pick t 0 unpackingSize ≤ boardSize + unpackingSize
-    by true = omega arith
-    by false = omega arith
+front-cube u c = omega arith
 
-pub front-least : (u : ℕ) → boardSize ≤ frontBy u
+pub front-most : (u : ℕ) (c : Bool) → frontBy u c ≤ boardSize + unpackingSize + cubeSize
 unfolding frontBy
-front-least u = omega arith
-
-pub board-length : (p l u : ℕ) → length (boardBytes p l u) ≡ frontBy u
-unfolding frontBy
-board-length p l u = by (eqb u 0)
+front-most u c = by (eqb u 0) c
   where
-    by : (t : Bool) → length (0x4D ∷ p ∷ (numberBytes 4 l ++ pick t [] (0x55 ∷ numberBytes 2 u))) ≡ boardSize + pick t 0 unpackingSize
-    by true = refl
-    by false = refl
+    by : (t c : Bool) → boardSize + pick t 0 unpackingSize + pick c cubeSize 0 ≤ boardSize + unpackingSize + cubeSize
+    by true true = omega arith
+    by true false = omega arith
+    by false true = omega arith
+    by false false = omega arith
+
+pub front-least : (u : ℕ) (c : Bool) → boardSize ≤ frontBy u c
+unfolding frontBy
+front-least u c = omega arith
+
+pub board-length : (p l u : ℕ) (c : Bool) → length (boardBytes p l u c) ≡ frontBy u c
+unfolding frontBy
+board-length p l u c = by (eqb u 0) c
+  where
+    by : (t c : Bool) → length (0x4D ∷ p ∷ (numberBytes 4 l ++ (pick t [] (0x55 ∷ numberBytes 2 u) ++ pick c (0x48 ∷ []) []))) ≡ boardSize + pick t 0 unpackingSize + pick c cubeSize 0
+    by true true = refl
+    by true false = refl
+    by false true = refl
+    by false false = refl

@@ -1,6 +1,6 @@
 -- Links that join two tasks, of a sheet with one link more; and the tables that are being filled, kept right by each command.
 use Prim.Native.Nat.{ℕ, _+_, _*_, _/_, _%_, _≤_, _<_}
-use mathlib.Core.Bool.{Bool, false}
+use mathlib.Core.Bool.{Bool, true, false}
 use mathlib.Core.Path.{_≡_, refl, ap, ap₂, sym, _∙_, subst}
 use mathlib.Core.Logic.{_≢_, ⊎-elim}
 use mathlib.Core.List.{List, [], _∷_, _++_}
@@ -14,13 +14,13 @@ use Rattle.folds.specs.Folds.{both, either, any, listed}
 use Rattle.folds.proofs.Tests.{equal-or, both-false, either-true, either-false}
 use Rattle.folds.proofs.Loops.{any-one, any-zero, listed-zero}
 use Rattle.folds.proofs.Laws.{any-cong}
-use Rattle.workspace.specs.Area.{fixed, linkCountAt, pairsAt, processorsAt, taskCountAt, unpackingAt}
+use Rattle.workspace.specs.Area.{fixed, linkCountAt, pairsAt, processorsAt, taskCountAt, tasksAt, unpackingAt, cubeAt}
 use Rattle.sheet.specs.Sheet.{Sheet, Task, Link, noLink, linkCount, sourceOf, targetOf}
 use Rattle.sheet.specs.Format.{joins, joinsBy}
-use Rattle.sheet.specs.Tables.{taskIn, linkIn, sheetIn, Loaded, bitAt, pairIn, Filling, taskWords, linkWords, pairWords, boardWords, unpackingWords, Blanked, LoadedOf}
+use Rattle.sheet.specs.Tables.{taskIn, linkIn, sheetIn, Loaded, bitAt, pairIn, Filling, taskWords, linkWords, pairWords, boardWords, unpackingWords, cubeWords, Blanked, LoadedOf}
 use Rattle.sheet.proofs.Rows.{links-in, task-frame, link-frame, sheet-frame, loaded-frame}
 use Rattle.sheet.proofs.Bits.{bit-none}
-use Rattle.sheet.proofs.Fills.{pair-away, pair-long, pair-same, pair-other, task-away, task-long, task-count, task-old, task-new, task-links, link-away, link-long, link-count, link-old, link-new, link-tasks, sheet-link, unpacking-away, unpacking-here, unpacking-long, unpacking-tasks, unpacking-links, sheet-unpacking}
+use Rattle.sheet.proofs.Fills.{pair-away, pair-long, pair-same, pair-other, task-away, task-long, task-count, task-old, task-new, task-links, link-away, link-long, link-count, link-old, link-new, link-tasks, sheet-link, board-task, board-link, unpacking-away, unpacking-here, unpacking-long, sheet-unpacking, cube-away, cube-long, sheet-cube}
 
 joins-more : (ls : List Link) (x : Link) (a b : ℕ)
     → any (length (ls ++ x ∷ [])) (λ l. both (eqb (getD (ls ++ x ∷ []) l noLink .source) a) (eqb (getD (ls ++ x ∷ []) l noLink .target) b))
@@ -115,12 +115,12 @@ module _ (w : List ℕ) (m a b c d : ℕ) (f : Filling w) (e : getD w 1 0 ≡ m)
       }
 
   -- the sheet then
-  pub link-sheet : sheetIn (linkWords v m a b c d) ≡ record { processors = sheetIn w .processors; limit = sheetIn w .limit; unpacking = sheetIn w .unpacking; tasks = sheetIn w .tasks; links = sheetIn w .links ++ record { source = a; target = b; cost = c; bytes = d } ∷ [] }
+  pub link-sheet : sheetIn (linkWords v m a b c d) ≡ record { processors = sheetIn w .processors; limit = sheetIn w .limit; unpacking = sheetIn w .unpacking; cube = sheetIn w .cube; tasks = sheetIn w .tasks; links = sheetIn w .links ++ record { source = a; target = b; cost = c; bytes = d } ∷ [] }
   link-sheet =
       let h = f .loaded in
       let same : sheetIn v ≡ sheetIn w = sheet-frame w v (λ i l. low i (omega arith)) (h .tasks) (h .links) in
       sheet-link v m a b c d (omega (arith, v-long, h .long)) m-small (low 1 (omega arith) ∙ e) (omega (arith, low 0 (omega arith), h .tasks)) (small .0) (small .1)
-      ∙ ap (λ (s : Sheet). record { processors = s .processors; limit = s .limit; unpacking = s .unpacking; tasks = s .tasks; links = s .links ++ record { source = a; target = b; cost = c; bytes = d } ∷ [] }) same
+      ∙ ap (λ (s : Sheet). record { processors = s .processors; limit = s .limit; unpacking = s .unpacking; cube = s .cube; tasks = s .tasks; links = s .links ++ record { source = a; target = b; cost = c; bytes = d } ∷ [] }) same
 
   pub filling-link : joins (sheetIn w) a b ≡ false → Filling (linkWords v m a b c d)
   filling-link single =
@@ -158,7 +158,7 @@ module _ (w : List ℕ) (p l : ℕ) (long : fixed ≤ length w) (few : p ≤ 16)
   unfolding boardWords
   board-long = simp length-set
 
-  board-words : (getD (boardWords w p l) 0 0 ≡ 0) × (getD (boardWords w p l) 1 0 ≡ 0) × (getD (boardWords w p l) 2 0 ≡ p) × (getD (boardWords w p l) 3 0 ≡ l) × (getD (boardWords w p l) 4 0 ≡ 0)
+  board-words : (getD (boardWords w p l) 0 0 ≡ 0) × (getD (boardWords w p l) 1 0 ≡ 0) × (getD (boardWords w p l) 2 0 ≡ p) × (getD (boardWords w p l) 3 0 ≡ l) × (getD (boardWords w p l) 4 0 ≡ 0) × (getD (boardWords w p l) 5 0 ≡ 0)
   unfolding boardWords
   board-words =
       let d01 : _≢_ {A = ℕ} 0 1 = λ q. omega arith in
@@ -171,12 +171,18 @@ module _ (w : List ℕ) (p l : ℕ) (long : fixed ≤ length w) (few : p ≤ 16)
       let d14 : _≢_ {A = ℕ} 1 4 = λ q. omega arith in
       let d24 : _≢_ {A = ℕ} 2 4 = λ q. omega arith in
       let d34 : _≢_ {A = ℕ} 3 4 = λ q. omega arith in
+      let d05 : _≢_ {A = ℕ} 0 5 = λ q. omega arith in
+      let d15 : _≢_ {A = ℕ} 1 5 = λ q. omega arith in
+      let d25 : _≢_ {A = ℕ} 2 5 = λ q. omega arith in
+      let d35 : _≢_ {A = ℕ} 3 5 = λ q. omega arith in
+      let d45 : _≢_ {A = ℕ} 4 5 = λ q. omega arith in
       let l0 : 0 < length w = omega arith in
       let l1 : 1 < length (set w 0 0) = simp length-set (omega arith) in
       let l2 : 2 < length (set (set w 0 0) 1 0) = simp length-set (omega arith) in
       let l3 : 3 < length (set (set (set w 0 0) 1 0) 2 p) = simp length-set (omega arith) in
       let l4 : 4 < length (set (set (set (set w 0 0) 1 0) 2 p) 3 l) = simp length-set (omega arith) in
-      (simp (getD-set-other, getD-set-same), simp (getD-set-other, getD-set-same), simp (getD-set-other, getD-set-same), simp (getD-set-other, getD-set-same), simp getD-set-same)
+      let l5 : 5 < length (set (set (set (set (set w 0 0) 1 0) 2 p) 3 l) 4 0) = simp length-set (omega arith) in
+      (simp (getD-set-other, getD-set-same), simp (getD-set-other, getD-set-same), simp (getD-set-other, getD-set-same), simp (getD-set-other, getD-set-same), simp (getD-set-other, getD-set-same), simp getD-set-same)
 
   board-loaded : Loaded (boardWords w p l)
   board-loaded =
@@ -196,31 +202,30 @@ module _ (w : List ℕ) (p l : ℕ) (long : fixed ≤ length w) (few : p ≤ 16)
         sizes = λ t h. absurd (omega arith);
       }
 
-  board-sheet : sheetIn (boardWords w p l) ≡ record { processors = p; limit = l; unpacking = 0; tasks = []; links = [] }
+  board-sheet : sheetIn (boardWords w p l) ≡ record { processors = p; limit = l; unpacking = 0; cube = false; tasks = []; links = [] }
   unfolding sheetIn
   board-sheet =
       let e = board-words in
       let tasks : listed (getD (boardWords w p l) 0 0) (taskIn (boardWords w p l)) ≡ [] = ap (λ (n : ℕ). listed n (taskIn (boardWords w p l))) (e .0) ∙ listed-zero _ in
       let links : listed (getD (boardWords w p l) 1 0) (linkIn (boardWords w p l)) ≡ [] = ap (λ (n : ℕ). listed n (linkIn (boardWords w p l))) (e .1) ∙ listed-zero _ in
-      λ x. record { processors = e .2 x; limit = e .3 x; unpacking = e .4 x; tasks = tasks x; links = links x }
+      λ x. record { processors = e .2 x; limit = e .3 x; unpacking = e .4 x; cube = eqb (e .5 x) 1; tasks = tasks x; links = links x }
 
-  pub board-loaded-of : LoadedOf (record { processors = p; limit = l; unpacking = 0; tasks = []; links = [] }) w (boardWords w p l)
+  pub board-loaded-of : LoadedOf (record { processors = p; limit = l; unpacking = 0; cube = false; tasks = []; links = [] }) w (boardWords w p l)
   board-loaded-of = record { long = board-long; loaded = board-loaded; sheet = board-sheet }
 
--- another time for unpacking
-pub unpacking-loaded : (w : List ℕ) (u : ℕ) → Loaded w → u < 65536 → Loaded (unpackingWords w u)
-unpacking-loaded w u h small =
-    let away = unpacking-away w u (h .long) in
-    let n : getD (unpackingWords w u) taskCountAt 0 ≡ getD w taskCountAt 0 = away taskCountAt (λ q. omega arith) in
-    let m : getD (unpackingWords w u) linkCountAt 0 ≡ getD w linkCountAt 0 = away linkCountAt (λ q. omega arith) in
-    let task = unpacking-tasks w u (h .long) in
-    let link = unpacking-links w u (h .long) in
+-- a word of the board behind the limit is another
+board-loaded-else : (w v : List ℕ) (at : ℕ) → unpackingAt ≤ at → at < tasksAt → ((i : ℕ) → i ≢ at → getD v i 0 ≡ getD w i 0) → length v ≡ length w → getD v unpackingAt 0 < 65536 → Loaded w → Loaded v
+board-loaded-else w v at low board away long unpacks h =
+    let n : getD v taskCountAt 0 ≡ getD w taskCountAt 0 = away taskCountAt (λ q. omega arith) in
+    let m : getD v linkCountAt 0 ≡ getD w linkCountAt 0 = away linkCountAt (λ q. omega arith) in
+    let task = board-task w v at board away in
+    let link = board-link w v at board away in
     record {
-      long = omega (arith, unpacking-long w u (h .long), h .long);
+      long = omega (arith, h .long);
       tasks = omega (arith, h .tasks);
       links = omega (arith, h .links);
       processors = omega (arith, away processorsAt (λ q. omega arith), h .processors);
-      unpacks = omega (arith, unpacking-here w u (h .long));
+      unpacks = unpacks;
       stores = λ t k. omega (arith, ap (λ (x : Task). x .store) (task t), h .stores t (omega arith));
       source = λ l k. omega (arith, ap (λ (x : Link). x .source) (link l), h .source l (omega arith));
       target = λ l k. omega (arith, ap (λ (x : Link). x .target) (link l), h .target l (omega arith));
@@ -228,15 +233,38 @@ unpacking-loaded w u h small =
       sizes = λ l k. omega (arith, ap (λ (x : Link). x .bytes) (link l), h .sizes l (omega arith));
     }
 
+-- another time for unpacking
+pub unpacking-loaded : (w : List ℕ) (u : ℕ) → Loaded w → u < 65536 → Loaded (unpackingWords w u)
+unpacking-loaded w u h small =
+    board-loaded-else w (unpackingWords w u) unpackingAt (omega arith) (omega arith) (unpacking-away w u (h .long)) (unpacking-long w u (h .long))
+    (omega (arith, unpacking-here w u (h .long))) h
+
 pub unpacking-loaded-of : {s : Sheet} {w v : List ℕ} (u : ℕ) → LoadedOf s w v → u < 65536
-    → LoadedOf (record { processors = s .processors; limit = s .limit; unpacking = u; tasks = s .tasks; links = s .links }) w (unpackingWords v u)
+    → LoadedOf (record { processors = s .processors; limit = s .limit; unpacking = u; cube = s .cube; tasks = s .tasks; links = s .links }) w (unpackingWords v u)
 unpacking-loaded-of {s} {w} {v} u h small =
     record {
       long = unpacking-long v u (h .loaded .long) ∙ h .long;
       loaded = unpacking-loaded v u (h .loaded) small;
       sheet =
           sheet-unpacking v u (h .loaded .long)
-          ∙ ap (λ (x : Sheet). record { processors = x .processors; limit = x .limit; unpacking = u; tasks = x .tasks; links = x .links }) (h .sheet);
+          ∙ ap (λ (x : Sheet). record { processors = x .processors; limit = x .limit; unpacking = u; cube = x .cube; tasks = x .tasks; links = x .links }) (h .sheet);
+    }
+
+-- a cube
+pub cube-loaded : (w : List ℕ) → Loaded w → Loaded (cubeWords w)
+cube-loaded w h =
+    board-loaded-else w (cubeWords w) cubeAt (omega arith) (omega arith) (cube-away w (h .long)) (cube-long w (h .long))
+    (omega (arith, cube-away w (h .long) unpackingAt (λ q. omega arith), h .unpacks)) h
+
+pub cube-loaded-of : {s : Sheet} {w v : List ℕ} → LoadedOf s w v
+    → LoadedOf (record { processors = s .processors; limit = s .limit; unpacking = s .unpacking; cube = true; tasks = s .tasks; links = s .links }) w (cubeWords v)
+cube-loaded-of {s} {w} {v} h =
+    record {
+      long = cube-long v (h .loaded .long) ∙ h .long;
+      loaded = cube-loaded v (h .loaded);
+      sheet =
+          sheet-cube v (h .loaded .long)
+          ∙ ap (λ (x : Sheet). record { processors = x .processors; limit = x .limit; unpacking = x .unpacking; cube = true; tasks = x .tasks; links = x .links }) (h .sheet);
     }
 
 -- without links, the rows of the tasks are blank

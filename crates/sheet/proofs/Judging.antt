@@ -20,7 +20,7 @@ use Rattle.commands.proofs.Going.{judge-at, comes}
 use Rattle.workspace.specs.Area.{linkCountAt, taskCountAt}
 use Rattle.sheet.specs.Sheet.{Sheet, taskCount, linkCount}
 use Rattle.sheet.specs.Sizes.{unpackingSize, taskSize, linkSize}
-use Rattle.sheet.specs.Format.{Kind, board, unpack, task, link, end, bare, kindOf, width, Progress, fresh, inTurn, full, outOfRange, loose, doubled, fault, sheetFormat}
+use Rattle.sheet.specs.Format.{Kind, board, unpack, wire, task, link, end, unwired, bare, kindOf, width, Progress, fresh, inTurn, full, outOfRange, loose, doubled, fault, sheetFormat}
 use Rattle.sheet.specs.Faults.{begun, taskFault, linkFault}
 use Rattle.sheet.specs.Tables.{sheetIn, pairIn, Filling}
 use Rattle.sheet.proofs.Rows.{tasks-in, links-in}
@@ -30,13 +30,17 @@ pub judge-known : (p : Progress) (b : List ℕ) (at v : ℕ) → at < length b �
 judge-known p b at v h e = judge-at sheetFormat p b at h ∙ ap (λ (x : ℕ). judgeKind sheetFormat p (kindOf x) (drop (at + 1) b)) e
 
 pub judge-strange : (p : Progress) (b : List ℕ) (at : ℕ) → at < length b
-    → getD b at 0 ≢ 0x4D → getD b at 0 ≢ 0x55 → getD b at 0 ≢ 0x54 → getD b at 0 ≢ 0x45 → getD b at 0 ≢ 0x51 → judge sheetFormat p (drop at b) ≡ refuse 2
-judge-strange p b at h m u t l e = judge-at sheetFormat p b at h ∙ simp (ne-eqb _ _ m, ne-eqb _ _ u, ne-eqb _ _ t, ne-eqb _ _ l, ne-eqb _ _ e)
+    → getD b at 0 ≢ 0x4D → getD b at 0 ≢ 0x55 → getD b at 0 ≢ 0x48 → getD b at 0 ≢ 0x54 → getD b at 0 ≢ 0x45 → getD b at 0 ≢ 0x51 → judge sheetFormat p (drop at b) ≡ refuse 2
+judge-strange p b at h m u c t l e = judge-at sheetFormat p b at h ∙ simp (ne-eqb _ _ m, ne-eqb _ _ u, ne-eqb _ _ c, ne-eqb _ _ t, ne-eqb _ _ l, ne-eqb _ _ e)
 
 -- 3 and 1, and then what the numbers say
 pub fault-unpack : (s : Sheet) (ops : List ℕ) → fault (begun s) unpack ops ≡ pick (not (bare s)) (some 3) (pick (ltb (length ops) 2) (some 1) (pick (eqb (numberAt 2 ops 0) 0) (some 6) none))
 unfolding fault
 fault-unpack s ops = refl
+
+pub fault-wire : (s : Sheet) (ops : List ℕ) → fault (begun s) wire ops ≡ pick (not (unwired s)) (some 3) none
+unfolding fault
+fault-wire s ops = simp (le-ltb (length ops) 0 zero-le)
 
 pub fault-task : (s : Sheet) (ops : List ℕ) → fault (begun s) task ops ≡ pick (not (eqb (linkCount s) 0)) (some 3) (pick (ltb (length ops) 4) (some 1) (taskFault (taskCount s) (numberAt 2 ops 0)))
 unfolding fault taskFault
@@ -93,35 +97,45 @@ sound p k ops e =
 pub sound-of : (p : Progress) (d : List ℕ) (k : Kind) → judge sheetFormat p d ≡ go k → Sound p k (drop 1 d)
 sound-of p d k j = sound p k _ (comes sheetFormat p d k j .clear)
 
--- each way out of judging an unpacking time, a task and a link
-module _ (w : List ℕ) where
-  module _ (u n m : ℕ) (e : (u ≡ sheetIn w .unpacking) × (n ≡ getD w taskCountAt 0) × (m ≡ getD w linkCountAt 0)) where
-    bare-in : (t : Bool) → both (eqb u 0) (both (eqb n 0) (eqb m 0)) ≡ t → bare (sheetIn w) ≡ t
-    bare-in t h = rw (tasks-in w ∙ sym (e .1), links-in w ∙ sym (e .2), ← e .0) h
+-- whether nothing but an unpacking time stands behind the board, by the tables
+pub unwired-in : (w : List ℕ) (c : Bool) (n m : ℕ) → c ≡ sheetIn w .cube → n ≡ getD w taskCountAt 0 → m ≡ getD w linkCountAt 0
+    → unwired (sheetIn w) ≡ both (not c) (both (eqb n 0) (eqb m 0))
+unwired-in w c n m p q r = rw (tasks-in w ∙ sym q, links-in w ∙ sym r, ← p)
 
-    pub unpack-turn : (ops : List ℕ) → both (eqb u 0) (both (eqb n 0) (eqb m 0)) ≡ false → fault (begun (sheetIn w)) unpack ops ≡ some 3
-    unpack-turn ops h = fault-unpack (sheetIn w) ops ∙ rw (bare-in false h)
+-- each way out of judging an unpacking time and a cube
+module _ (s : Sheet) where
+  pub wire-turn : (ops : List ℕ) → unwired s ≡ false → fault (begun s) wire ops ≡ some 3
+  wire-turn ops h = fault-wire s ops ∙ rw h
 
-    module _ (b : List ℕ) (at : ℕ) (first : (u ≡ 0) × (n ≡ 0) × (m ≡ 0)) where
-      bare-here : bare (sheetIn w) ≡ true
-      bare-here = bare-in true (simp (eq-eqb u 0 (first .0), eq-eqb n 0 (first .1), eq-eqb m 0 (first .2)))
+  pub wire-clear : (ops : List ℕ) → unwired s ≡ true → fault (begun s) wire ops ≡ none
+  wire-clear ops h = fault-wire s ops ∙ rw h
 
-      pub unpack-cut : at < length b → length b - at < unpackingSize → fault (begun (sheetIn w)) unpack (drop (at + 1) b) ≡ some 1
-      unpack-cut l h = fault-unpack (sheetIn w) (drop (at + 1) b) ∙ rw (bare-here, length-drop (at + 1) b, lt-ltb (length b - (at + 1)) 2 (omega arith))
+  pub unpack-again : (ops : List ℕ) → s .unpacking ≢ 0 → fault (begun s) unpack ops ≡ some 3
+  unpack-again ops h = fault-unpack s ops ∙ rw (ne-eqb (s .unpacking) 0 h)
+
+  module _ (first : s .unpacking ≡ 0) where
+    pub unpack-turn : (ops : List ℕ) → unwired s ≡ false → fault (begun s) unpack ops ≡ some 3
+    unpack-turn ops h = fault-unpack s ops ∙ rw (eq-eqb (s .unpacking) 0 first, h)
+
+    module _ (b : List ℕ) (at : ℕ) (bare-board : unwired s ≡ true) where
+      pub unpack-cut : at < length b → length b - at < unpackingSize → fault (begun s) unpack (drop (at + 1) b) ≡ some 1
+      unpack-cut l h = fault-unpack s (drop (at + 1) b) ∙ rw (eq-eqb (s .unpacking) 0 first, bare-board, length-drop (at + 1) b, lt-ltb (length b - (at + 1)) 2 (omega arith))
 
       unpack-number : (time : ℕ) → unpackingSize ≤ length b - at → time ≡ numberAt 2 b (at + 1)
-          → fault (begun (sheetIn w)) unpack (drop (at + 1) b) ≡ pick (eqb time 0) (some 6) none
+          → fault (begun s) unpack (drop (at + 1) b) ≡ pick (eqb time 0) (some 6) none
       unpack-number time h q =
           let same : numberAt 2 (drop (at + 1) b) 0 ≡ time = numberAt-drop 2 (at + 1) b 0 ∙ ap (numberAt 2 b) (add-zero (at + 1)) ∙ sym q in
-          fault-unpack (sheetIn w) (drop (at + 1) b)
-          ∙ rw (bare-here, length-drop (at + 1) b, le-ltb (length b - (at + 1)) 2 (omega arith), same)
+          fault-unpack s (drop (at + 1) b)
+          ∙ rw (eq-eqb (s .unpacking) 0 first, bare-board, length-drop (at + 1) b, le-ltb (length b - (at + 1)) 2 (omega arith), same)
 
-      pub unpack-zero : (time : ℕ) → unpackingSize ≤ length b - at → time ≡ numberAt 2 b (at + 1) → time ≡ 0 → fault (begun (sheetIn w)) unpack (drop (at + 1) b) ≡ some 6
+      pub unpack-zero : (time : ℕ) → unpackingSize ≤ length b - at → time ≡ numberAt 2 b (at + 1) → time ≡ 0 → fault (begun s) unpack (drop (at + 1) b) ≡ some 6
       unpack-zero time h q z = unpack-number time h q ∙ rw (eq-eqb time 0 z)
 
-      pub unpack-clear : (time : ℕ) → unpackingSize ≤ length b - at → time ≡ numberAt 2 b (at + 1) → time ≢ 0 → fault (begun (sheetIn w)) unpack (drop (at + 1) b) ≡ none
+      pub unpack-clear : (time : ℕ) → unpackingSize ≤ length b - at → time ≡ numberAt 2 b (at + 1) → time ≢ 0 → fault (begun s) unpack (drop (at + 1) b) ≡ none
       unpack-clear time h q z = unpack-number time h q ∙ rw (ne-eqb time 0 z)
 
+-- .. a task and a link
+module _ (w : List ℕ) where
   pub task-turn : (m : ℕ) (ops : List ℕ) → m ≡ getD w linkCountAt 0 → m ≢ 0 → fault (begun (sheetIn w)) task ops ≡ some 3
   task-turn m ops e h = fault-task (sheetIn w) ops ∙ rw (ne-eqb (linkCount (sheetIn w)) 0 (λ q. h (e ∙ sym (links-in w) ∙ q)))
 

@@ -4,6 +4,7 @@ pub mod Bits
 pub mod Fills
 pub mod Joins
 pub mod Judging
+pub mod Hopping
 pub mod Rounds
 pub mod Numbers
 pub mod Values

@@ -1,13 +1,13 @@
 -- A sheet that is read: it has exactly the bytes that it was read from, and its numbers are as the reader asks.
 use Prim.Native.Nat.{ℕ, zero, suc, _+_, _*_, _<_, _≤_}
 use mathlib.Core.Path.{_≡_, refl, sym, ap, ap₂, subst, _∙_}
-use mathlib.Core.Bool.{Bool, true, false, false≢true, true≢false}
+use mathlib.Core.Bool.{Bool, true, false, not, false≢true, true≢false}
 use mathlib.Core.Option.{none, some}
 use mathlib.Core.Logic.{_⊎_, inl, inr}
 use mathlib.Core.List.{List, [], _∷_, _++_, append-assoc, append-nil}
 use native.Mathlib.Omega.{arith}
 use native.Mathlib.Decide.{decLt}
-use borrow.Author.Tests.{eqb-true, eqb-false, eq-eqb, lt-ltb, leb-true, leb-false, not-false}
+use borrow.Author.Tests.{eqb-true, eqb-false, eq-eqb, lt-ltb, leb-true, leb-false, not-false, not-true}
 use lib.ListN.{length, getD, take, drop, length-drop, length-append, take-append-drop, List·getD-append}
 use lib.Seq.{drop-drop, drop-cons, getD-at}
 use lib.Dec.{eqb, leb}
@@ -22,7 +22,7 @@ use Rattle.commands.specs.Reading.{Going}
 use Rattle.commands.proofs.Going.{starts, goes, refuses, ends, comes}
 use Rattle.commands.proofs.Bytes.{by-byte}
 use Rattle.sheet.specs.Sheet.{Sheet, Task, Link, noTask, noLink, taskCount, linkCount, workOf, storeOf, sourceOf, targetOf, costOf, bytesOf}
-use Rattle.sheet.specs.Format.{Kind, board, unpack, task, link, end, kindOf, Progress, fresh, withCommand, taskFrom, linkFrom, ended, joins, joinsBy, sheetFormat, readForm}
+use Rattle.sheet.specs.Format.{Kind, board, unpack, wire, task, link, end, kindOf, Progress, fresh, withCommand, taskFrom, linkFrom, unwired, ended, joins, joinsBy, sheetFormat, readForm}
 use Rattle.sheet.specs.Writing.{unpackingBytes, boardBytes, taskBytes, linkBytes, sheetBytes}
 use Rattle.sheet.specs.Tables.{Ranged}
 use Rattle.sheet.specs.Faults.{begun}
@@ -44,12 +44,13 @@ ended-value s t e [] h = (refl, value-same h)
 abbrev pub byteOf : Kind → ℕ
 byteOf board = 0x4D
 byteOf unpack = 0x55
+byteOf wire = 0x48
 byteOf task = 0x54
 byteOf link = 0x45
 byteOf end = 0x51
 
 kind-byte : (c : ℕ) (k : Kind) → kindOf c ≡ some k → c ≡ byteOf k
-kind-byte c k = by-byte byteOf c board k _ (by-byte byteOf c unpack k _ (by-byte byteOf c task k _ (by-byte byteOf c link k _ (by-byte byteOf c end k none not-some))))
+kind-byte c k = by-byte byteOf c board k _ (by-byte byteOf c unpack k _ (by-byte byteOf c wire k _ (by-byte byteOf c task k _ (by-byte byteOf c link k _ (by-byte byteOf c end k none not-some)))))
 
 -- a command that comes next, by its first byte and the rest
 pub first-byte : (p : Progress) (d : List ℕ) (k : Kind) → judge sheetFormat p d ≡ go k → d ≡ byteOf k ∷ drop 1 d
@@ -60,6 +61,7 @@ first-byte p d k j =
 -- what every command behind the board carries on holds of the sheet that is read
 module _ (Held : Sheet → List ℕ → Type 0)
     (more-unpack : (s : Sheet) (d : List ℕ) → judge sheetFormat (begun s) d ≡ go unpack → Held s d → Held (withCommand s unpack (drop 1 d)) (drop 3 d))
+    (more-wire : (s : Sheet) (d : List ℕ) → judge sheetFormat (begun s) d ≡ go wire → Held s d → Held (withCommand s wire (drop 1 d)) (drop 1 d))
     (more-task : (s : Sheet) (d : List ℕ) → judge sheetFormat (begun s) d ≡ go task → Held s d → Held (withCommand s task (drop 1 d)) (drop 5 d))
     (more-link : (s : Sheet) (d : List ℕ) → judge sheetFormat (begun s) d ≡ go link → Held s d → Held (withCommand s link (drop 1 d)) (drop 7 d))
     (t : Sheet) where
@@ -70,6 +72,8 @@ module _ (Held : Sheet → List ℕ → Type 0)
   by-outcome s e d h g rec (go board) j = absurd (false≢true (sound-of (begun s) d board j .turn))
   by-outcome s e d h g rec (go unpack) j =
       rec _ _ _ (simp length-drop (omega (arith, comes sheetFormat (begun s) d unpack j .more))) (more-unpack s d j h) (goes sheetFormat g unpack refl j)
+  by-outcome s e d h g rec (go wire) j =
+      rec _ _ _ (simp length-drop (omega (arith, comes sheetFormat (begun s) d wire j .more))) (more-wire s d j h) (goes sheetFormat g wire refl j)
   by-outcome s e d h g rec (go task) j =
       rec _ _ _ (simp length-drop (omega (arith, comes sheetFormat (begun s) d task j .more))) (more-task s d j h) (goes sheetFormat g task refl j)
   by-outcome s e d h g rec (go link) j =
@@ -85,7 +89,7 @@ module _ (Held : Sheet → List ℕ → Type 0)
       by-outcome s e d h g (λ s′ e′ d′ l′ h′ g′. carried n s′ e′ d′ (omega arith) h′ g′) (judge sheetFormat (begun s) d) refl
 
   from-first : (b : List ℕ) → readForm b ≡ value t
-      → (judge sheetFormat fresh b ≡ go board → Held (record { processors = getD (drop 1 b) 0 0; limit = numberAt 4 (drop 1 b) 1; unpacking = 0; tasks = []; links = [] }) (drop 6 b))
+      → (judge sheetFormat fresh b ≡ go board → Held (record { processors = getD (drop 1 b) 0 0; limit = numberAt 4 (drop 1 b) 1; unpacking = 0; cube = false; tasks = []; links = [] }) (drop 6 b))
       → (o : Outcome Kind) → judge sheetFormat fresh b ≡ o → Held t (0x51 ∷ [])
   unfolding readForm
   from-first b h begins o j = by-first o j (subst (λ (a : Answer Sheet). Going sheetFormat a fresh 0 b) h (starts sheetFormat fresh b))
@@ -94,12 +98,13 @@ module _ (Held : Sheet → List ℕ → Type 0)
       by-first (refuse r) j g = not-value (sym (refuses sheetFormat g r j))
       by-first (go board) j g = carried (suc (length (drop 6 b))) _ _ _ (omega arith) (begins j) (goes sheetFormat g board refl j)
       by-first (go unpack) j g = absurd (false≢true (sound-of fresh b unpack j .turn))
+      by-first (go wire) j g = absurd (false≢true (sound-of fresh b wire j .turn))
       by-first (go task) j g = absurd (false≢true (sound-of fresh b task j .turn))
       by-first (go link) j g = absurd (false≢true (sound-of fresh b link j .turn))
       by-first (go end) j g = absurd (false≢true (sound-of fresh b end j .turn))
 
   read-holds : (b : List ℕ) → readForm b ≡ value t
-      → (judge sheetFormat fresh b ≡ go board → Held (record { processors = getD (drop 1 b) 0 0; limit = numberAt 4 (drop 1 b) 1; unpacking = 0; tasks = []; links = [] }) (drop 6 b))
+      → (judge sheetFormat fresh b ≡ go board → Held (record { processors = getD (drop 1 b) 0 0; limit = numberAt 4 (drop 1 b) 1; unpacking = 0; cube = false; tasks = []; links = [] }) (drop 6 b))
       → Held t (0x51 ∷ [])
   read-holds b h begins = from-first b h begins (judge sheetFormat fresh b) refl
 
@@ -112,7 +117,7 @@ cut-number : (w m : ℕ) (b more : List ℕ) → m + w ≤ length b → Bytes b 
 cut-number w m b more h s e = cut w m b ∙ ap₂ (λ (x y : List ℕ). x ++ y) (sym (bytes-of-number w b m h s)) e
 
 -- the operands of a command, as its bytes
-board-operands : (b : List ℕ) → 5 ≤ length b → Bytes b → 0x4D ∷ b ≡ boardBytes (getD b 0 0) (numberAt 4 b 1) 0 ++ drop 5 b
+board-operands : (b : List ℕ) → 5 ≤ length b → Bytes b → 0x4D ∷ b ≡ boardBytes (getD b 0 0) (numberAt 4 b 1) 0 false ++ drop 5 b
 board-operands b h s = ap (λ (l : List ℕ). 0x4D ∷ l) (drop-cons b 0 0 (omega arith) ∙ ap (λ (l : List ℕ). getD b 0 0 ∷ l) (cut-number 4 1 b (drop 5 b) (omega arith) s refl))
 
 task-operands : (b : List ℕ) → 4 ≤ length b → Bytes b → 0x54 ∷ b ≡ taskBytes (taskFrom b ∷ []) ++ drop 4 b
@@ -135,24 +140,32 @@ link-bytes-append (l ∷ ls) us = ap (λ (x : List ℕ). linkBytes (l ∷ []) ++
 
 -- a sheet's bytes but for the end
 abbrev front : Sheet → List ℕ
-front s = boardBytes (s .processors) (s .limit) (s .unpacking) ++ (taskBytes (s .tasks) ++ linkBytes (s .links))
+front s = boardBytes (s .processors) (s .limit) (s .unpacking) (s .cube) ++ (taskBytes (s .tasks) ++ linkBytes (s .links))
 
 none-of : {X : Type 0} (xs : List X) → length xs ≡ 0 → xs ≡ []
 none-of [] e = refl
 none-of (x ∷ xs) e = absurd (omega arith)
 
--- where 55 comes nothing stands behind the board
-record Bare (s : Sheet) : Type 0 where
-  unpacking : s .unpacking ≡ 0
+-- where 48 comes neither it nor a task nor a link stands behind the board, and where 55 comes nothing does
+record Unwired (s : Sheet) : Type 0 where
+  cube : s .cube ≡ false
   tasks : s .tasks ≡ []
   links : s .links ≡ []
 
-bare-here : (s : Sheet) (d : List ℕ) → judge sheetFormat (begun s) d ≡ go unpack → Bare s
+unwired-by : (s : Sheet) → unwired s ≡ true → Unwired s
 unfolding taskCount linkCount
+unwired-by s h =
+    let a = both-parts (not (s .cube)) _ h in
+    let b = both-parts (eqb (taskCount s) 0) (eqb (linkCount s) 0) (a .1) in
+    record { cube = not-true (s .cube) (a .0); tasks = none-of (s .tasks) (eqb-true _ 0 (b .0)); links = none-of (s .links) (eqb-true _ 0 (b .1)) }
+
+bare-here : (s : Sheet) (d : List ℕ) → judge sheetFormat (begun s) d ≡ go unpack → (s .unpacking ≡ 0) × Unwired s
 bare-here s d j =
     let a = both-parts (eqb (s .unpacking) 0) _ (sound-of (begun s) d unpack j .turn) in
-    let b = both-parts (eqb (taskCount s) 0) (eqb (linkCount s) 0) (a .1) in
-    record { unpacking = eqb-true _ 0 (a .0); tasks = none-of (s .tasks) (eqb-true _ 0 (b .0)); links = none-of (s .links) (eqb-true _ 0 (b .1)) }
+    (eqb-true _ 0 (a .0), unwired-by s (a .1))
+
+unwired-here : (s : Sheet) (d : List ℕ) → judge sheetFormat (begun s) d ≡ go wire → Unwired s
+unwired-here s d j = unwired-by s (sound-of (begun s) d wire j .turn)
 
 -- .. and its value is not 0
 some-time : (s : Sheet) (d : List ℕ) → judge sheetFormat (begun s) d ≡ go unpack → eqb (numberAt 2 (drop 1 d) 0) 0 ≡ false
@@ -167,8 +180,11 @@ regroup b t u d = simp (append-nil, append-assoc)
 regroup-links : (b t k u d : List ℕ) → (b ++ (t ++ k)) ++ (u ++ d) ≡ (b ++ (t ++ (k ++ u))) ++ d
 regroup-links b t k u d = simp append-assoc
 
-regroup-board : (b u d : List ℕ) → ((b ++ []) ++ ([] ++ [])) ++ (u ++ d) ≡ ((b ++ u) ++ ([] ++ [])) ++ d
+regroup-board : (b u d : List ℕ) → ((b ++ ([] ++ [])) ++ ([] ++ [])) ++ (u ++ d) ≡ ((b ++ (u ++ [])) ++ ([] ++ [])) ++ d
 regroup-board b u d = simp (append-nil, append-assoc)
+
+regroup-wire : (b u d : List ℕ) → ((b ++ (u ++ [])) ++ ([] ++ [])) ++ (0x48 ∷ d) ≡ ((b ++ (u ++ (0x48 ∷ []))) ++ ([] ++ [])) ++ d
+regroup-wire b u d = simp (append-nil, append-assoc)
 
 module _ (b₀ : List ℕ) where
   -- the bytes are those of the sheet so far, and then the rest
@@ -180,18 +196,29 @@ module _ (b₀ : List ℕ) where
   unfolding linkCount
   no-links s d j = none-of (s .links) (eqb-true (linkCount s) 0 (sound-of (begun s) d task j .turn))
 
-  unpack-front : (s : Sheet) (u : ℕ) (d : List ℕ) → Bare s
-      → front s ++ (unpackingBytes u ++ d) ≡ front (record { processors = s .processors; limit = s .limit; unpacking = u; tasks = s .tasks; links = s .links }) ++ d
+  unpack-front : (s : Sheet) (u : ℕ) (d : List ℕ) → (s .unpacking ≡ 0) × Unwired s
+      → front s ++ (unpackingBytes u ++ d) ≡ front (record { processors = s .processors; limit = s .limit; unpacking = u; cube = s .cube; tasks = s .tasks; links = s .links }) ++ d
   unpack-front s u d e =
-      ap (λ (v : ℕ). (boardBytes (s .processors) (s .limit) v ++ (taskBytes (s .tasks) ++ linkBytes (s .links))) ++ (unpackingBytes u ++ d)) (e .unpacking)
-      ∙ ap₂ (λ (ts : List Task) (ls : List Link). (boardBytes (s .processors) (s .limit) 0 ++ (taskBytes ts ++ linkBytes ls)) ++ (unpackingBytes u ++ d)) (e .tasks) (e .links)
+      let board : ℕ → Bool → List ℕ = boardBytes (s .processors) (s .limit) in
+      ap₂ (λ (v : ℕ) (c : Bool). (board v c ++ (taskBytes (s .tasks) ++ linkBytes (s .links))) ++ (unpackingBytes u ++ d)) (e .0) (e .1 .cube)
+      ∙ ap₂ (λ (ts : List Task) (ls : List Link). (board 0 false ++ (taskBytes ts ++ linkBytes ls)) ++ (unpackingBytes u ++ d)) (e .1 .tasks) (e .1 .links)
       ∙ regroup-board (0x4D ∷ s .processors ∷ numberBytes 4 (s .limit)) (unpackingBytes u) d
-      ∙ sym (ap₂ (λ (ts : List Task) (ls : List Link). (boardBytes (s .processors) (s .limit) u ++ (taskBytes ts ++ linkBytes ls)) ++ d) (e .tasks) (e .links))
+      ∙ sym (ap₂ (λ (ts : List Task) (ls : List Link). (board u false ++ (taskBytes ts ++ linkBytes ls)) ++ d) (e .1 .tasks) (e .1 .links))
+      ∙ sym (ap (λ (c : Bool). (board u c ++ (taskBytes (s .tasks) ++ linkBytes (s .links))) ++ d) (e .1 .cube))
+
+  wire-front : (s : Sheet) (d : List ℕ) → Unwired s
+      → front s ++ (0x48 ∷ d) ≡ front (record { processors = s .processors; limit = s .limit; unpacking = s .unpacking; cube = true; tasks = s .tasks; links = s .links }) ++ d
+  wire-front s d e =
+      let board : Bool → List ℕ = boardBytes (s .processors) (s .limit) (s .unpacking) in
+      ap (λ (c : Bool). (board c ++ (taskBytes (s .tasks) ++ linkBytes (s .links))) ++ (0x48 ∷ d)) (e .cube)
+      ∙ ap₂ (λ (ts : List Task) (ls : List Link). (board false ++ (taskBytes ts ++ linkBytes ls)) ++ (0x48 ∷ d)) (e .tasks) (e .links)
+      ∙ regroup-wire (0x4D ∷ s .processors ∷ numberBytes 4 (s .limit)) (unpackingBytes (s .unpacking)) d
+      ∙ sym (ap₂ (λ (ts : List Task) (ls : List Link). (board true ++ (taskBytes ts ++ linkBytes ls)) ++ d) (e .tasks) (e .links))
 
   task-front : (s : Sheet) (t : Task) (d : List ℕ) → s .links ≡ []
-      → front s ++ (taskBytes (t ∷ []) ++ d) ≡ front (record { processors = s .processors; limit = s .limit; unpacking = s .unpacking; tasks = s .tasks ++ t ∷ []; links = s .links }) ++ d
+      → front s ++ (taskBytes (t ∷ []) ++ d) ≡ front (record { processors = s .processors; limit = s .limit; unpacking = s .unpacking; cube = s .cube; tasks = s .tasks ++ t ∷ []; links = s .links }) ++ d
   task-front s t d e =
-      let b : List ℕ = boardBytes (s .processors) (s .limit) (s .unpacking) in
+      let b : List ℕ = boardBytes (s .processors) (s .limit) (s .unpacking) (s .cube) in
       let u : List ℕ = taskBytes (t ∷ []) in
       ap (λ (ls : List Link). b ++ (taskBytes (s .tasks) ++ linkBytes ls) ++ (u ++ d)) e
       ∙ regroup b (taskBytes (s .tasks)) u d
@@ -199,9 +226,9 @@ module _ (b₀ : List ℕ) where
       ∙ ap (λ (ls : List Link). b ++ (taskBytes (s .tasks ++ t ∷ []) ++ linkBytes ls) ++ d) (sym e)
 
   link-front : (s : Sheet) (l : Link) (d : List ℕ)
-      → front s ++ (linkBytes (l ∷ []) ++ d) ≡ front (record { processors = s .processors; limit = s .limit; unpacking = s .unpacking; tasks = s .tasks; links = s .links ++ l ∷ [] }) ++ d
+      → front s ++ (linkBytes (l ∷ []) ++ d) ≡ front (record { processors = s .processors; limit = s .limit; unpacking = s .unpacking; cube = s .cube; tasks = s .tasks; links = s .links ++ l ∷ [] }) ++ d
   link-front s l d =
-      let b : List ℕ = boardBytes (s .processors) (s .limit) (s .unpacking) in
+      let b : List ℕ = boardBytes (s .processors) (s .limit) (s .unpacking) (s .cube) in
       regroup-links b (taskBytes (s .tasks)) (linkBytes (s .links)) (linkBytes (l ∷ [])) d
       ∙ ap (λ (x : List ℕ). (b ++ (taskBytes (s .tasks) ++ x)) ++ d) (sym (link-bytes-append (s .links) (l ∷ [])))
 
@@ -211,6 +238,10 @@ module _ (b₀ : List ℕ) where
       let bytes : d ≡ unpackingBytes (numberAt 2 ops 0) ++ drop 3 d =
       first-byte (begun s) d unpack j ∙ unpack-operands ops (sound-of (begun s) d unpack j .room) (drop-bytes 1 d (h .small)) (some-time s d j) ∙ ap (λ (l : List ℕ). unpackingBytes (numberAt 2 ops 0) ++ l) (drop-drop 2 1 d) in
       record { same = h .same ∙ ap (λ (l : List ℕ). front s ++ l) bytes ∙ unpack-front s (numberAt 2 ops 0) (drop 3 d) (bare-here s d j); small = drop-bytes 3 d (h .small) }
+
+  pass-wire : (s : Sheet) (d : List ℕ) → judge sheetFormat (begun s) d ≡ go wire → Passed s d → Passed (withCommand s wire (drop 1 d)) (drop 1 d)
+  pass-wire s d j h =
+      record { same = h .same ∙ ap (λ (l : List ℕ). front s ++ l) (first-byte (begun s) d wire j) ∙ wire-front s (drop 1 d) (unwired-here s d j); small = drop-bytes 1 d (h .small) }
 
   pass-task : (s : Sheet) (d : List ℕ) → judge sheetFormat (begun s) d ≡ go task → Passed s d → Passed (withCommand s task (drop 1 d)) (drop 5 d)
   pass-task s d j h =
@@ -226,14 +257,14 @@ module _ (b₀ : List ℕ) where
       first-byte (begun s) d link j ∙ link-operands ops (sound-of (begun s) d link j .room) (drop-bytes 1 d (h .small)) ∙ ap (λ (l : List ℕ). linkBytes (linkFrom ops ∷ []) ++ l) (drop-drop 6 1 d) in
       record { same = h .same ∙ ap (λ (l : List ℕ). front s ++ l) bytes ∙ link-front s (linkFrom ops) (drop 7 d); small = drop-bytes 7 d (h .small) }
 
-  pass-board : Bytes b₀ → judge sheetFormat fresh b₀ ≡ go board → Passed (record { processors = getD (drop 1 b₀) 0 0; limit = numberAt 4 (drop 1 b₀) 1; unpacking = 0; tasks = []; links = [] }) (drop 6 b₀)
+  pass-board : Bytes b₀ → judge sheetFormat fresh b₀ ≡ go board → Passed (record { processors = getD (drop 1 b₀) 0 0; limit = numberAt 4 (drop 1 b₀) 1; unpacking = 0; cube = false; tasks = []; links = [] }) (drop 6 b₀)
   pass-board small j =
       let ops : List ℕ = drop 1 b₀ in
       record {
         same =
             first-byte fresh b₀ board j
             ∙ board-operands ops (sound-of fresh b₀ board j .room) (drop-bytes 1 b₀ small)
-            ∙ ap (λ (l : List ℕ). boardBytes (getD ops 0 0) (numberAt 4 ops 1) 0 ++ l) (drop-drop 5 1 b₀);
+            ∙ ap (λ (l : List ℕ). boardBytes (getD ops 0 0) (numberAt 4 ops 1) 0 false ++ l) (drop-drop 5 1 b₀);
         small = drop-bytes 6 b₀ small;
       }
 
@@ -241,7 +272,7 @@ module _ (b₀ : List ℕ) where
 pub bytes-again : (b : List ℕ) (s : Sheet) → ((k : ℕ) → getD b k 0 < 256) → readForm b ≡ value s → sheetBytes s ≡ b
 unfolding sheetBytes
 bytes-again b s small h =
-    let r = read-holds (Passed b) (pass-unpack b) (pass-task b) (pass-link b) s b h (pass-board b small) in
+    let r = read-holds (Passed b) (pass-unpack b) (pass-wire b) (pass-task b) (pass-link b) s b h (pass-board b small) in
     sym (r .same ∙ simp append-assoc)
 
 -- what the reader asks of a sheet, and all that it asks
@@ -290,8 +321,9 @@ each-more Q [] x d h q (suc i) l = absurd (omega arith)
 each-more Q (y ∷ xs) x d h q zero l = h 0 (omega arith)
 each-more Q (y ∷ xs) x d h q (suc i) l = each-more Q xs x d (λ j m. h (suc j) (omega arith)) q i (omega arith)
 
-shape-unpack : (s : Sheet) (d : List ℕ) → judge sheetFormat (begun s) d ≡ go unpack → Shaped s → Shaped (withCommand s unpack (drop 1 d))
-shape-unpack s d j h =
+-- 55 and 48 change nothing of it
+shape-again : (s : Sheet) (u : ℕ) (c : Bool) → Shaped s → Shaped (record { processors = s .processors; limit = s .limit; unpacking = u; cube = c; tasks = s .tasks; links = s .links })
+shape-again s u c h =
     record {
       few-tasks = h .few-tasks;
       few-links = h .few-links;
@@ -357,7 +389,7 @@ shape-link s d j h =
             let q′ : getD ls i noLink .target ≡ x .target = ap (λ (y : Link). y .target) (sym (at-i (omega arith))) ∙ q ∙ ap (λ (y : Link). y .target) at-j in
             true≢false (sym (parts-both _ _ (eq-eqb _ _ p′) (eq-eqb _ _ q′)) ∙ new i (omega arith))
 
-shape-board : (b : List ℕ) → judge sheetFormat fresh b ≡ go board → Shaped (record { processors = getD (drop 1 b) 0 0; limit = numberAt 4 (drop 1 b) 1; unpacking = 0; tasks = []; links = [] })
+shape-board : (b : List ℕ) → judge sheetFormat fresh b ≡ go board → Shaped (record { processors = getD (drop 1 b) 0 0; limit = numberAt 4 (drop 1 b) 1; unpacking = 0; cube = false; tasks = []; links = [] })
 shape-board b j =
     let inside = both-parts (leb 1 (getD (drop 1 b) 0 0)) (leb (getD (drop 1 b) 0 0) 16) (not-false _ (sound-of fresh b board j .range)) in
     record {
@@ -372,7 +404,7 @@ shape-board b j =
 
 -- whatever the bytes are, a sheet that is read has the shape that its faults ask
 pub read-shaped : (b : List ℕ) (s : Sheet) → readForm b ≡ value s → Shaped s
-read-shaped b s h = read-holds (λ s d. Shaped s) shape-unpack shape-task shape-link s b h (shape-board b)
+read-shaped b s h = read-holds (λ s d. Shaped s) (λ s d j h. shape-again s _ _ h) (λ s d j h. shape-again s _ _ h) shape-task shape-link s b h (shape-board b)
 
 size-unpack : (s : Sheet) (d : List ℕ) → judge sheetFormat (begun s) d ≡ go unpack → Sized s d → Sized (withCommand s unpack (drop 1 d)) (drop 3 d)
 size-unpack s d j h =
@@ -383,6 +415,9 @@ size-unpack s d j h =
       tasks = h .tasks;
       links = h .links;
     }
+
+size-wire : (s : Sheet) (d : List ℕ) → judge sheetFormat (begun s) d ≡ go wire → Sized s d → Sized (withCommand s wire (drop 1 d)) (drop 1 d)
+size-wire s d j h = record { small = drop-bytes 1 d (h .small); limit = h .limit; unpacks = h .unpacks; tasks = h .tasks; links = h .links }
 
 size-task : (s : Sheet) (d : List ℕ) → judge sheetFormat (begun s) d ≡ go task → Sized s d → Sized (withCommand s task (drop 1 d)) (drop 5 d)
 size-task s d j h =
@@ -406,7 +441,7 @@ size-link s d j h =
       links = each-more LinkFits (s .links) (linkFrom (drop 1 d)) noLink (h .links) record { cost = number-lt 2 (drop 1 d) 2 small; bytes = number-lt 2 (drop 1 d) 4 small };
     }
 
-size-board : (b : List ℕ) → Bytes b → Sized (record { processors = getD (drop 1 b) 0 0; limit = numberAt 4 (drop 1 b) 1; unpacking = 0; tasks = []; links = [] }) (drop 6 b)
+size-board : (b : List ℕ) → Bytes b → Sized (record { processors = getD (drop 1 b) 0 0; limit = numberAt 4 (drop 1 b) 1; unpacking = 0; cube = false; tasks = []; links = [] }) (drop 6 b)
 size-board b small =
     record {
       small = drop-bytes 6 b small;
@@ -455,5 +490,5 @@ proper s h limit unpacks tasks links =
 pub read-ranged : (b : List ℕ) (s : Sheet) → ((k : ℕ) → getD b k 0 < 256) → readForm b ≡ value s → Proper s
 unfolding taskCount linkCount
 read-ranged b s small h =
-    let r = read-holds Sized size-unpack size-task size-link s b h (λ j. size-board b small) in
+    let r = read-holds Sized size-unpack size-wire size-task size-link s b h (λ j. size-board b small) in
     proper s (read-shaped b s h) (r .limit) (r .unpacks) (r .tasks) (r .links)

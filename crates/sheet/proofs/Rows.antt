@@ -4,7 +4,8 @@ use mathlib.Core.Path.{_≡_, ap, ap₂, sym, _∙_}
 use mathlib.Core.List.{List}
 use native.Mathlib.Omega.{arith}
 use lib.ListN.{length, getD}
-use Rattle.workspace.specs.Area.{linksAt, pairsAt, sizesAt, tasksAt, unpackingAt}
+use lib.Dec.{eqb}
+use Rattle.workspace.specs.Area.{linksAt, pairsAt, sizesAt, tasksAt, unpackingAt, cubeAt}
 use Rattle.folds.specs.Folds.{listed}
 use Rattle.folds.proofs.Lists.{length-listed, getD-listed, listed-cong}
 use Rattle.sheet.specs.Sheet.{Task, Link, noTask, noLink, taskCount, linkCount, workOf, storeOf, sourceOf, targetOf, costOf, bytesOf}
@@ -108,7 +109,7 @@ module _ (w w′ : List ℕ) (same : (i : ℕ) → i < pairsAt → getD w′ i 0
       let links : listed (getD w′ 1 0) (linkIn w′) ≡ listed (getD w 1 0) (linkIn w) =
       ap (λ (n : ℕ). listed n (linkIn w′)) (same 1 (omega arith)) ∙
       listed-cong (getD w 1 0) (linkIn w′) (linkIn w) (λ i h. link-frame i (omega arith)) in
-      λ x. record { processors = same 2 (omega arith) x; limit = same 3 (omega arith) x; unpacking = same unpackingAt (omega arith) x; tasks = tasks x; links = links x }
+      λ x. record { processors = same 2 (omega arith) x; limit = same 3 (omega arith) x; unpacking = same unpackingAt (omega arith) x; cube = eqb (same cubeAt (omega arith) x) 1; tasks = tasks x; links = links x }
 
   pub loaded-frame : Loaded w → length w′ ≡ length w → Loaded w′
   loaded-frame h e =

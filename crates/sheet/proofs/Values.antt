@@ -2,6 +2,7 @@
 use Prim.Native.Nat.{ℕ, zero, suc, _+_, _*_, _/_, _%_, _≤_, _<_}
 use native.Mathlib.Omega.{arith}
 use mathlib.Core.Path.{_≡_, refl, sym, ap, ap₂, _∙_}
+use mathlib.Core.Bool.{Bool}
 use mathlib.Core.List.{List, [], _∷_, _++_, append-assoc, append-nil}
 use lib.ListN.{length, getD, take, drop}
 use lib.Seq.{take-all, take-add, drop-cons, ext-getD}
@@ -84,22 +85,22 @@ link-values-length [] = refl
 link-values-length (l ∷ ls) = omega (arith, link-values-length ls)
 
 -- the sheet of a sheet's values
-pub sheet-again : (s : Sheet) → sheetOfValues (s .processors) (s .limit) (s .unpacking) (taskValues (s .tasks)) (linkValues (s .links)) ≡ s
+pub sheet-again : (s : Sheet) → sheetOfValues (s .processors) (s .limit) (s .unpacking) (s .cube) (taskValues (s .tasks)) (linkValues (s .links)) ≡ s
 unfolding sheetOfValues
 sheet-again s =
-    ap₂ {C = Sheet} (λ (ts : List Task) (ls : List Link). record { processors = s .processors; limit = s .limit; unpacking = s .unpacking; tasks = ts; links = ls })
+    ap₂ {C = Sheet} (λ (ts : List Task) (ls : List Link). record { processors = s .processors; limit = s .limit; unpacking = s .unpacking; cube = s .cube; tasks = ts; links = ls })
     (listed-all (s .tasks) (taskValue (taskValues (s .tasks))) noTask (length (taskValues (s .tasks)) / 2) (omega (arith, task-values-length (s .tasks))) (task-at (s .tasks)))
     (listed-all (s .links) (linkValue (linkValues (s .links))) noLink (length (linkValues (s .links)) / 4) (omega (arith, link-values-length (s .links))) (link-at (s .links)))
 
 -- the values of the sheet of values
-module _ (p l u : ℕ) (tv lv : List ℕ) where
-  pub task-values-again : length tv % 2 ≡ 0 → taskValues (sheetOfValues p l u tv lv .tasks) ≡ tv
+module _ (p l u : ℕ) (c : Bool) (tv lv : List ℕ) where
+  pub task-values-again : length tv % 2 ≡ 0 → taskValues (sheetOfValues p l u c tv lv .tasks) ≡ tv
   unfolding sheetOfValues
   task-values-again e =
       values-listed 2 (λ (t : Task). t .work ∷ t .store ∷ []) taskValues refl (λ t ts. refl) tv (taskValue tv) (length tv / 2) (λ i h. task-row tv i (omega arith))
       ∙ take-all (2 * (length tv / 2)) tv (omega arith)
 
-  pub link-values-again : length lv % 4 ≡ 0 → linkValues (sheetOfValues p l u tv lv .links) ≡ lv
+  pub link-values-again : length lv % 4 ≡ 0 → linkValues (sheetOfValues p l u c tv lv .links) ≡ lv
   unfolding sheetOfValues
   link-values-again e =
       values-listed 4 (λ (x : Link). x .source ∷ x .target ∷ x .cost ∷ x .bytes ∷ []) linkValues refl (λ x xs. refl) lv (linkValue lv) (length lv / 4) (λ i h. link-row lv i (omega arith))

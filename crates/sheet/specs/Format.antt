@@ -11,18 +11,20 @@ use Rattle.numbers.specs.Number.{numberAt}
 use Rattle.commands.specs.Commands.{Format, readAll}
 use Rattle.sheet.specs.Sheet.{Sheet, Task, Link, noSheet, taskCount, linkCount, sourceOf, targetOf}
 
--- "one 4D (processors u8; store limit M u32)"; C-14 of document 02: "a new sheet command 55 with a u16 may stand directly after 4D"; "then tasks 54 (work u16; store u16); then links 45 (from u8, to u8, cost u16, bytes u16); then 51, the end"
+-- "one 4D (processors u8; store limit M u32)"; C-14 of document 02: "a new sheet command 55 with a u16 may stand directly after 4D"; C-20: "a sheet command 48, without operands, directly after 4D or the 55 if there is one"; "then tasks 54 (work u16; store u16); then links 45 (from u8, to u8, cost u16, bytes u16); then 51, the end"
 pub data Kind : Type 0 where
-  board unpack task link end : Kind
+  board unpack wire task link end : Kind
 
 abbrev pub kindOf : ℕ → Option Kind
 kindOf c =
     pick (eqb c 0x4D) (some board)
-    (pick (eqb c 0x55) (some unpack) (pick (eqb c 0x54) (some task) (pick (eqb c 0x45) (some link) (pick (eqb c 0x51) (some end) none))))
+    (pick (eqb c 0x55) (some unpack)
+    (pick (eqb c 0x48) (some wire) (pick (eqb c 0x54) (some task) (pick (eqb c 0x45) (some link) (pick (eqb c 0x51) (some end) none)))))
 
 abbrev pub width : Kind → ℕ
 width board = 5
 width unpack = 2
+width wire = 0
 width task = 4
 width link = 6
 width end = 0
@@ -42,14 +44,18 @@ pub record Progress : Type 0 where
 abbrev pub fresh : Progress
 fresh = record { begun = false; sheet = noSheet }
 
--- nothing stands behind the board command
-abbrev pub bare : Sheet → Bool
-bare s = both (eqb (s .unpacking) 0) (both (eqb (taskCount s) 0) (eqb (linkCount s) 0))
+-- neither 48 nor a task nor a link stands behind the board command, and nothing at all does
+abbrev pub unwired : Sheet → Bool
+unwired s = both (not (s .cube)) (both (eqb (taskCount s) 0) (eqb (linkCount s) 0))
 
--- 3: the order of kinds; of 55 "a wrong position gives 3"
+abbrev pub bare : Sheet → Bool
+bare s = both (eqb (s .unpacking) 0) (unwired s)
+
+-- 3: the order of kinds; of 55 "a wrong position gives 3", and of 48 "elsewhere it gives 3"
 abbrev pub inTurn : Progress → Kind → Bool
 inTurn p board = not (p .begun)
 inTurn p unpack = both (p .begun) (bare (p .sheet))
+inTurn p wire = both (p .begun) (unwired (p .sheet))
 inTurn p task = both (p .begun) (eqb (linkCount (p .sheet)) 0)
 inTurn p link = p .begun
 inTurn p end = p .begun
@@ -58,6 +64,7 @@ inTurn p end = p .begun
 abbrev pub full : Sheet → Kind → Bool
 full s board = false
 full s unpack = false
+full s wire = false
 full s task = leb 256 (taskCount s)
 full s link = leb 1024 (linkCount s)
 full s end = false
@@ -66,6 +73,7 @@ full s end = false
 abbrev pub outOfRange : Kind → List ℕ → Bool
 outOfRange board b = not (both (leb 1 (getD b 0 0)) (leb (getD b 0 0) 16))
 outOfRange unpack b = eqb (numberAt 2 b 0) 0
+outOfRange wire b = false
 outOfRange task b = eqb (taskFrom b .work) 0
 outOfRange link b = false
 outOfRange end b = false
@@ -74,6 +82,7 @@ outOfRange end b = false
 abbrev pub loose : Sheet → Kind → List ℕ → Bool
 loose s board b = false
 loose s unpack b = false
+loose s wire b = false
 loose s task b = false
 loose s link b = either (leb (taskCount s) (linkFrom b .source)) (leb (taskCount s) (linkFrom b .target))
 loose s end b = false
@@ -89,6 +98,7 @@ joins s a b = any (linkCount s) (joinsBy s a b)
 abbrev pub doubled : Sheet → Kind → List ℕ → Bool
 doubled s board b = false
 doubled s unpack b = false
+doubled s wire b = false
 doubled s task b = false
 doubled s link b = joins s (linkFrom b .source) (linkFrom b .target)
 doubled s end b = false
@@ -103,10 +113,11 @@ fault p k b =
 
 -- the sheet with one command more
 abbrev pub withCommand : Sheet → Kind → List ℕ → Sheet
-withCommand s board b = record { processors = getD b 0 0; limit = numberAt 4 b 1; unpacking = 0; tasks = []; links = [] }
-withCommand s unpack b = record { processors = s .processors; limit = s .limit; unpacking = numberAt 2 b 0; tasks = s .tasks; links = s .links }
-withCommand s task b = record { processors = s .processors; limit = s .limit; unpacking = s .unpacking; tasks = s .tasks ++ taskFrom b ∷ []; links = s .links }
-withCommand s link b = record { processors = s .processors; limit = s .limit; unpacking = s .unpacking; tasks = s .tasks; links = s .links ++ linkFrom b ∷ [] }
+withCommand s board b = record { processors = getD b 0 0; limit = numberAt 4 b 1; unpacking = 0; cube = false; tasks = []; links = [] }
+withCommand s unpack b = record { processors = s .processors; limit = s .limit; unpacking = numberAt 2 b 0; cube = s .cube; tasks = s .tasks; links = s .links }
+withCommand s wire b = record { processors = s .processors; limit = s .limit; unpacking = s .unpacking; cube = true; tasks = s .tasks; links = s .links }
+withCommand s task b = record { processors = s .processors; limit = s .limit; unpacking = s .unpacking; cube = s .cube; tasks = s .tasks ++ taskFrom b ∷ []; links = s .links }
+withCommand s link b = record { processors = s .processors; limit = s .limit; unpacking = s .unpacking; cube = s .cube; tasks = s .tasks; links = s .links ++ linkFrom b ∷ [] }
 withCommand s end b = s
 
 abbrev pub after : Progress → Kind → List ℕ → Progress
@@ -115,6 +126,7 @@ after p k b = record { begun = true; sheet = withCommand (p .sheet) k b }
 abbrev pub closes : Kind → Bool
 closes board = false
 closes unpack = false
+closes wire = false
 closes task = false
 closes link = false
 closes end = true

@@ -5,4 +5,4 @@ pub mod Format
 pub mod Writing
 pub mod Tables
 pub mod Faults
-pub mod Times
+pub mod Hops

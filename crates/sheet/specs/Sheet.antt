@@ -1,5 +1,6 @@
--- A task sheet: the board's processors, its store limit and the time that unpacking a message takes, the tasks, and the links between them.
+-- A task sheet: the board's processors, its store limit, the time that unpacking a message takes and whether it is wired as a cube, the tasks, and the links between them.
 use Prim.Native.Nat.{ℕ}
+use mathlib.Core.Bool.{Bool, false}
 use mathlib.Core.List.{List, []}
 use lib.ListN.{length, getD}
 
@@ -17,6 +18,7 @@ pub record Sheet : Type 0 where
   pub processors : ℕ
   pub limit : ℕ
   pub unpacking : ℕ
+  pub cube : Bool
   pub tasks : List Task
   pub links : List Link
 
@@ -27,7 +29,7 @@ abbrev pub noLink : Link
 noLink = record { source = 0; target = 0; cost = 0; bytes = 0 }
 
 abbrev pub noSheet : Sheet
-noSheet = record { processors = 0; limit = 0; unpacking = 0; tasks = []; links = [] }
+noSheet = record { processors = 0; limit = 0; unpacking = 0; cube = false; tasks = []; links = [] }
 
 unfoldable pub taskCount : Sheet → ℕ
 taskCount s = length (s .tasks)

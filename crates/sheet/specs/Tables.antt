@@ -6,7 +6,7 @@ use mathlib.Core.List.{List}
 use lib.ListN.{length, getD, set}
 use lib.Dec.{eqb}
 use Rattle.folds.specs.Folds.{listed}
-use Rattle.workspace.specs.Area.{fixed, limitAt, linkCountAt, linksAt, pairsAt, processorsAt, sizesAt, taskCountAt, tasksAt, unpackingAt}
+use Rattle.workspace.specs.Area.{fixed, limitAt, linkCountAt, linksAt, pairsAt, processorsAt, sizesAt, taskCountAt, tasksAt, unpackingAt, cubeAt}
 use Rattle.sheet.specs.Sheet.{Sheet, Task, Link, taskCount, linkCount, workOf, storeOf, sourceOf, targetOf, costOf, bytesOf}
 use Rattle.sheet.specs.Format.{joins}
 
@@ -25,7 +25,7 @@ linkIn w l = linkOfWords (getD w (linksAt + l) 0) (getD w (sizesAt + l) 0)
 
 unfoldable pub sheetIn : List ℕ → Sheet
 sheetIn w =
-    record { processors = getD w processorsAt 0; limit = getD w limitAt 0; unpacking = getD w unpackingAt 0; tasks = listed (getD w taskCountAt 0) (taskIn w); links = listed (getD w linkCountAt 0) (linkIn w) }
+    record { processors = getD w processorsAt 0; limit = getD w limitAt 0; unpacking = getD w unpackingAt 0; cube = eqb (getD w cubeAt 0) 1; tasks = listed (getD w taskCountAt 0) (taskIn w); links = listed (getD w linkCountAt 0) (linkIn w) }
 
 -- the tables hold a sheet whose numbers are in their ranges (a work always is) and whose links name its tasks
 pub record Loaded (w : List ℕ) : Type 0 where
@@ -79,11 +79,14 @@ pairWords w a b = set w (pairsAt + (8 * a + b / 32)) (getD w (pairsAt + (8 * a +
 
 -- the words of a sheet without tasks
 unfoldable pub boardWords : List ℕ → ℕ → ℕ → List ℕ
-boardWords w processors limit = set (set (set (set (set w taskCountAt 0) linkCountAt 0) processorsAt processors) limitAt limit) unpackingAt 0
+boardWords w processors limit = set (set (set (set (set (set w taskCountAt 0) linkCountAt 0) processorsAt processors) limitAt limit) unpackingAt 0) cubeAt 0
 
--- the words with this time for unpacking
+-- the words with this time for unpacking, and those of a cube
 unfoldable pub unpackingWords : List ℕ → ℕ → List ℕ
 unpackingWords w unpacking = set w unpackingAt unpacking
+
+unfoldable pub cubeWords : List ℕ → List ℕ
+cubeWords w = set w cubeAt 1
 
 -- the pair words below word n are 0, and the words before them as they were
 pub record Blanked (n : ℕ) (w last : List ℕ) : Type 0 where

@@ -1,12 +1,14 @@
 // The tables of a sheet in the work area: accessors that speak of the sheet, and the stores that add a task or a link.
 ghost use mathlib.Core.Path.{_≡_};
+ghost use mathlib.Core.Bool.{false};
 ghost use mathlib.Core.List.{[]};
 ghost use Prim.Native.Nat.{_+_, _<_, _≤_};
 ghost use lib.ListN.{length};
 ghost use Rattle.workspace.specs.Area.{fixed};
 ghost use Rattle.sheet.specs.Sheet.{taskCount, linkCount, workOf, storeOf, sourceOf, targetOf, costOf, bytesOf};
-ghost use Rattle.sheet.specs.Sizes.{boardSize, unpackingSize, frontOf};
-ghost use Rattle.sheet.specs.Tables.{sheetIn, Loaded, LoadedOf, taskWords, linkWords, unpackingWords};
+ghost use Rattle.sheet.specs.Sizes.{boardSize, unpackingSize, cubeSize, frontOf};
+ghost use Rattle.sheet.specs.Tables.{sheetIn, Loaded, LoadedOf, taskWords, linkWords, unpackingWords, cubeWords};
+use workspace::CUBE;
 use workspace::LIMIT;
 use workspace::LINK_COUNT;
 use workspace::LINKS;
@@ -51,12 +53,19 @@ pub fn unpacking(w: &[u32]) -> usize
     workspace::word(w, UNPACKING)
 }
 
+pub fn cube(w: &[u32]) -> bool
+    requires { ⌜ Loaded (now w) ⌝ }
+    ensures { λ r. ⌜ r ≡ sheetIn (now (w .entry)) .cube ⌝ }
+{
+    workspace::word(w, CUBE) == 1
+}
+
 // Where the tasks begin in the sheet's bytes.
 pub fn front(w: &[u32]) -> usize
     requires { ⌜ Loaded (now w) ⌝ }
-    ensures { λ r. ⌜ (r ≡ frontOf (sheetIn (now (w .entry)))) × (r ≤ boardSize + unpackingSize) ⌝ }
+    ensures { λ r. ⌜ (r ≡ frontOf (sheetIn (now (w .entry)))) × (r ≤ boardSize + unpackingSize + cubeSize) ⌝ }
 {
-    crate::front(unpacking(w))
+    crate::front(unpacking(w), cube(w))
 }
 
 pub fn work(w: &[u32], t: usize) -> usize
@@ -107,16 +116,17 @@ pub fn size(w: &[u32], l: usize) -> usize
     workspace::word(w, SIZES + l)
 }
 
-// A sheet without tasks, and without a time for unpacking.
+// A sheet without tasks, without a time for unpacking, and not a cube.
 pub fn put_board(w: &mut [u32], processors: u8, limit: u32)
     requires { ⌜ (fixed ≤ length (now w)) × (processors ≤ 16) ⌝ }
-    ensures { λ _. ⌜ LoadedOf (record { processors = processors; limit = limit; unpacking = 0; tasks = []; links = [] }) (now (w .entry)) (now (w .exit)) ⌝ }
+    ensures { λ _. ⌜ LoadedOf (record { processors = processors; limit = limit; unpacking = 0; cube = false; tasks = []; links = [] }) (now (w .entry)) (now (w .exit)) ⌝ }
 {
     w[TASK_COUNT] = 0;
     w[LINK_COUNT] = 0;
     w[PROCESSORS] = processors as u32;
     w[LIMIT] = limit;
     w[UNPACKING] = 0;
+    w[CUBE] = 0;
 }
 
 // The time for unpacking.
@@ -125,6 +135,14 @@ pub fn put_unpacking(w: &mut [u32], unpacking: u16)
     ensures { λ _. ⌜ now (w .exit) ≡ unpackingWords (now (w .entry)) unpacking ⌝ }
 {
     w[UNPACKING] = unpacking as u32;
+}
+
+// The board is a cube.
+pub fn put_cube(w: &mut [u32])
+    requires { ⌜ fixed ≤ length (now w) ⌝ }
+    ensures { λ _. ⌜ now (w .exit) ≡ cubeWords (now (w .entry)) ⌝ }
+{
+    w[CUBE] = 1;
 }
 
 // Task n, behind those before it.

@@ -4,7 +4,7 @@ use mathlib.Core.Path.{_≡_, refl, sym, ap, subst, _∙_}
 use mathlib.Core.Bool.{Bool, true, false, not}
 use mathlib.Core.Option.{none, some}
 use mathlib.Core.Logic.{_≢_, _⊎_, inl, inr}
-use mathlib.Core.List.{List, [], _∷_, _++_}
+use mathlib.Core.List.{List, [], _∷_, _++_, append-assoc}
 use native.Mathlib.Omega.{arith}
 use native.Mathlib.Decide.{ℕ-discrete}
 use borrow.Author.Tests.{eq-eqb, ne-eqb, le-ltb, lt-leb, le-leb}
@@ -22,18 +22,18 @@ use Rattle.commands.proofs.Going.{starts, goes, refuses, going-is, going-on}
 use Rattle.workspace.specs.Area.{linkCountAt, taskCountAt}
 use Rattle.sheet.specs.Sheet.{Sheet, Task, Link, taskCount, linkCount}
 use Rattle.sheet.specs.Sizes.{boardSize, unpackingSize, taskSize, linkSize, frontBy}
-use Rattle.sheet.specs.Format.{board, unpack, task, link, end, fresh, fault, sheetFormat, readForm}
-use Rattle.sheet.specs.Writing.{unpackingBytes, boardBytes, taskBytes, linkBytes, taskValue, linkValue, linkValueBytes, taskValueBytes, valueBytes}
-use Rattle.sheet.specs.Tables.{sheetIn, pairIn, Loaded, Filling, LoadedOf, taskWords, linkWords, pairWords, unpackingWords}
+use Rattle.sheet.specs.Format.{board, unpack, wire, task, link, end, fresh, fault, sheetFormat, readForm}
+use Rattle.sheet.specs.Writing.{unpackingBytes, cubeBytes, boardBytes, taskBytes, linkBytes, taskValue, linkValue, linkValueBytes, taskValueBytes, valueBytes}
+use Rattle.sheet.specs.Tables.{sheetIn, pairIn, Loaded, Filling, LoadedOf, taskWords, linkWords, pairWords, unpackingWords, cubeWords}
 use Rattle.sheet.specs.Faults.{begun, taskFault, linkFault}
 use Rattle.sheet_reader.specs.Answers.{ReadIs, valuesClosed}
 use Rattle.sheet_reader.specs.Scanning.{Scanning, readOn}
 use Rattle.sheet_reader.specs.declared.Reading.{Reading}
 use Rattle.sheet_reader.specs.declared.Reading.the-variants.{Read, Refused}
 use Rattle.sheet.proofs.Rows.{tasks-in, links-in}
-use Rattle.sheet.proofs.Judging.{fault-unpack, fault-task, fault-link, fault-end}
-use Rattle.sheet.proofs.Fronts.{front-none, front-some}
-use Rattle.sheet.proofs.Joins.{unpacking-loaded-of}
+use Rattle.sheet.proofs.Judging.{fault-unpack, wire-clear, fault-task, fault-link, fault-end}
+use Rattle.sheet.proofs.Fronts.{front-none, front-some, front-cube}
+use Rattle.sheet.proofs.Joins.{unpacking-loaded-of, cube-loaded-of}
 use Rattle.sheet_reader.proofs.Scans.{read-refused, task-few, link-few, source-small, target-small, link-single, link-filling, scan-task, scan-link, scan-refuse, scan-whole}
 
 pub scan-at : {a : Answer Sheet} {d w₀ w : List ℕ} {n m e : ℕ} (e′ : ℕ) → Scanning a d w₀ w n m e → e ≡ e′ → Scanning a d w₀ w n m e′
@@ -228,71 +228,92 @@ module _ (v u : List ℕ) {a : Answer Sheet} {w₀ w : List ℕ} {i e : ℕ} (s 
   tasks-done z = going-is sheetFormat (subst (λ (t : Bool). Scanning a (pick t (linkValueBytes u) (0x54 ∷ [])) w₀ w i 0 e) (eq-eqb (length v % 2) 0 z) tasks-over .going)
 
 -- the board command of the values
-pub opening : (p l u : ℕ) (X : List ℕ) → judge sheetFormat fresh (boardBytes p l u ++ X) ≡ verdict sheetFormat board (pick (not (both (leb 1 p) (leb p 16))) (some 6) none)
+pub opening : (p l u : ℕ) (c : Bool) (X : List ℕ) → judge sheetFormat fresh (boardBytes p l u c ++ X) ≡ verdict sheetFormat board (pick (not (both (leb 1 p) (leb p 16))) (some 6) none)
 unfolding judge fault
-opening p l u X =
-    let ops : List ℕ = p ∷ (numberBytes 4 l ++ (unpackingBytes u ++ X)) in
+opening p l u c X =
+    let ops : List ℕ = p ∷ (numberBytes 4 l ++ ((unpackingBytes u ++ cubeBytes c) ++ X)) in
     rw (le-ltb (length ops) 5 (omega arith))
 
 -- a sheet by its parts
-abbrev pub made : ℕ → ℕ → ℕ → List Task → List Link → Sheet
-made p l u ts ls = record { processors = p; limit = l; unpacking = u; tasks = ts; links = ls }
+abbrev pub made : ℕ → ℕ → ℕ → Bool → List Task → List Link → Sheet
+made p l u c ts ls = record { processors = p; limit = l; unpacking = u; cube = c; tasks = ts; links = ls }
 
 -- the unpacking time directly behind the board
-unpack-opens : (p l u : ℕ) (X : List ℕ) → u ≢ 0 → u < 65536 → judge sheetFormat (begun (made p l 0 [] [])) (0x55 ∷ (numberBytes 2 u ++ X)) ≡ go unpack
+unpack-opens : (p l u : ℕ) (X : List ℕ) → u ≢ 0 → u < 65536 → judge sheetFormat (begun (made p l 0 false [] [])) (0x55 ∷ (numberBytes 2 u ++ X)) ≡ go unpack
 unfolding judge taskCount linkCount
 unpack-opens p l u X some-time small =
     let ops : List ℕ = numberBytes 2 u ++ X in
-    let f : fault (begun (made p l 0 [] [])) unpack ops ≡ none =
-    fault-unpack (made p l 0 [] []) ops ∙ rw (le-ltb (length ops) 2 (omega arith), number-of-bytes 2 u X small, ne-eqb u 0 some-time) in
+    let f : fault (begun (made p l 0 false [] [])) unpack ops ≡ none =
+    fault-unpack (made p l 0 false [] []) ops ∙ rw (le-ltb (length ops) 2 (omega arith), number-of-bytes 2 u X small, ne-eqb u 0 some-time) in
     ap (verdict sheetFormat unpack) f
 
 -- .. is read, or is not there and is 0
-unpacking-on : (a : Answer Sheet) (p l u : ℕ) (X : List ℕ) → u < 65536 → Going sheetFormat a (begun (made p l 0 [] [])) boardSize (unpackingBytes u ++ X)
-    → Going sheetFormat a (begun (made p l u [] [])) (frontBy u) X
+unpacking-on : (a : Answer Sheet) (p l u : ℕ) (X : List ℕ) → u < 65536 → Going sheetFormat a (begun (made p l 0 false [] [])) boardSize (unpackingBytes u ++ X)
+    → Going sheetFormat a (begun (made p l u false [] [])) (frontBy u false) X
 unpacking-on a p l u X small g = by (ℕ-discrete u 0)
   where
-    bytes : (t : Bool) → eqb u 0 ≡ t → Going sheetFormat a (begun (made p l 0 [] [])) boardSize (pick t [] (0x55 ∷ numberBytes 2 u) ++ X)
-    bytes t e = subst (λ (t : Bool). Going sheetFormat a (begun (made p l 0 [] [])) boardSize (pick t [] (0x55 ∷ numberBytes 2 u) ++ X)) e g
+    bytes : (t : Bool) → eqb u 0 ≡ t → Going sheetFormat a (begun (made p l 0 false [] [])) boardSize (pick t [] (0x55 ∷ numberBytes 2 u) ++ X)
+    bytes t e = subst (λ (t : Bool). Going sheetFormat a (begun (made p l 0 false [] [])) boardSize (pick t [] (0x55 ∷ numberBytes 2 u) ++ X)) e g
 
-    by : Dec (u ≡ 0) → Going sheetFormat a (begun (made p l u [] [])) (frontBy u) X
+    by : Dec (u ≡ 0) → Going sheetFormat a (begun (made p l u false [] [])) (frontBy u false) X
     by (yes z) =
-        rw (front-none u z) (subst (λ (x : ℕ). Going sheetFormat a (begun (made p l x [] [])) boardSize X) (sym z) (bytes true (eq-eqb u 0 z)))
+        rw (front-none u z) (subst (λ (x : ℕ). Going sheetFormat a (begun (made p l x false [] [])) boardSize X) (sym z) (bytes true (eq-eqb u 0 z)))
     by (no z) =
-        rw (front-some u z) (subst (λ (x : ℕ). Going sheetFormat a (begun (made p l x [] [])) (boardSize + unpackingSize) X) (number-of-bytes 2 u X small)
+        rw (front-some u z) (subst (λ (x : ℕ). Going sheetFormat a (begun (made p l x false [] [])) (boardSize + unpackingSize) X) (number-of-bytes 2 u X small)
         (goes sheetFormat (bytes false (ne-eqb u 0 z)) unpack refl (unpack-opens p l u X z small)))
 
+-- the cube behind them is read, or is not there
+cube-opens : (p l u : ℕ) (X : List ℕ) → judge sheetFormat (begun (made p l u false [] [])) (0x48 ∷ X) ≡ go wire
+unfolding judge taskCount linkCount
+cube-opens p l u X = ap (verdict sheetFormat wire) (wire-clear (made p l u false [] []) X refl)
+
+cube-on : (a : Answer Sheet) (p l u : ℕ) (c : Bool) (X : List ℕ) → Going sheetFormat a (begun (made p l u false [] [])) (frontBy u false) (cubeBytes c ++ X)
+    → Going sheetFormat a (begun (made p l u c [] [])) (frontBy u c) X
+cube-on a p l u false X g = g
+cube-on a p l u true X g = rw (front-cube u true) (goes sheetFormat g wire refl (cube-opens p l u X))
+
 -- behind the board reading goes on with the tasks
-pub board-on : (a : Answer Sheet) (p l u : ℕ) (X : List ℕ) → Going sheetFormat a fresh 0 (boardBytes p l u ++ X) → judge sheetFormat fresh (boardBytes p l u ++ X) ≡ go board
-    → l < 4294967296 → u < 65536 → Going sheetFormat a (begun (made p l u [] [])) (frontBy u) X
-board-on a p l u X g j h k =
-    let Y : List ℕ = unpackingBytes u ++ X in
+pub board-on : (a : Answer Sheet) (p l u : ℕ) (c : Bool) (X : List ℕ) → Going sheetFormat a fresh 0 (boardBytes p l u c ++ X) → judge sheetFormat fresh (boardBytes p l u c ++ X) ≡ go board
+    → l < 4294967296 → u < 65536 → Going sheetFormat a (begun (made p l u c [] [])) (frontBy u c) X
+board-on a p l u c X g j h k =
+    let Y : List ℕ = (unpackingBytes u ++ cubeBytes c) ++ X in
     let limit : numberAt 4 (p ∷ (numberBytes 4 l ++ Y)) 1 ≡ l = numberAt-cons 4 p (numberBytes 4 l ++ Y) 0 ∙ number-of-bytes 4 l Y h in
-    unpacking-on a p l u X k (subst (λ (x : ℕ). Going sheetFormat a (begun (made p x 0 [] [])) boardSize Y) limit (goes sheetFormat g board refl j))
+    cube-on a p l u c X
+    (unpacking-on a p l u (cubeBytes c ++ X) k
+    (subst (Going sheetFormat a (begun (made p l 0 false [] [])) boardSize) (append-assoc (unpackingBytes u) (cubeBytes c) X)
+    (subst (λ (x : ℕ). Going sheetFormat a (begun (made p x 0 false [] [])) boardSize Y) limit (goes sheetFormat g board refl j))))
 
 -- the board's words, and then its unpacking time
-pub board-timed : {p l : ℕ} {w v v′ : List ℕ} (u : ℕ) → LoadedOf (made p l 0 [] []) w v → v′ ≡ unpackingWords v u → u < 65536 → LoadedOf (made p l u [] []) w v′
-board-timed {p} {l} {w} u h e small = subst (LoadedOf (made p l u [] []) w) (sym e) (unpacking-loaded-of u h small)
+pub board-timed : {p l : ℕ} {w v v′ : List ℕ} (u : ℕ) → LoadedOf (made p l 0 false [] []) w v → v′ ≡ unpackingWords v u → u < 65536 → LoadedOf (made p l u false [] []) w v′
+board-timed {p} {l} {w} u h e small = subst (LoadedOf (made p l u false [] []) w) (sym e) (unpacking-loaded-of u h small)
 
-pub board-refused : (p l x : ℕ) (v u w : List ℕ) → (p < 1) ⊎ (16 < p) → ReadIs (readForm (valueBytes p l x v u)) w w (Refused 6 0)
+-- .. and then its cube, or none
+module _ {p l u : ℕ} {w v : List ℕ} (c : Bool) where
+  pub board-wired : {v′ : List ℕ} → c ≡ true → LoadedOf (made p l u false [] []) w v → v′ ≡ cubeWords v → LoadedOf (made p l u c [] []) w v′
+  board-wired {v′} e h q = subst (λ (t : Bool). LoadedOf (made p l u t [] []) w v′) (sym e) (subst (LoadedOf (made p l u true [] []) w) (sym q) (cube-loaded-of h))
+
+  pub board-unwired : c ≡ false → LoadedOf (made p l u false [] []) w v → LoadedOf (made p l u c [] []) w v
+  board-unwired e h = subst (λ (t : Bool). LoadedOf (made p l u t [] []) w v) (sym e) h
+
+pub board-refused : (p l x : ℕ) (c : Bool) (v u w : List ℕ) → (p < 1) ⊎ (16 < p) → ReadIs (readForm (valueBytes p l x c v u)) w w (Refused 6 0)
 unfolding readForm valueBytes
-board-refused p l x v u w h =
+board-refused p l x c v u w h =
     read-refused _ w w 6 0 refl
-    (refuses sheetFormat (starts sheetFormat fresh (boardBytes p l x ++ taskValueBytes v u)) 6 (opening p l x (taskValueBytes v u) ∙ ap (λ (t : Bool). verdict sheetFormat board (pick (not t) (some 6) none)) (outside h)))
+    (refuses sheetFormat (starts sheetFormat fresh (boardBytes p l x c ++ taskValueBytes v u)) 6 (opening p l x c (taskValueBytes v u) ∙ ap (λ (t : Bool). verdict sheetFormat board (pick (not t) (some 6) none)) (outside h)))
   where
     outside : (p < 1) ⊎ (16 < p) → both (leb 1 p) (leb p 16) ≡ false
     outside (inl q) = rw (lt-leb 1 p q)
     outside (inr q) = rw (lt-leb p 16 q) (both-false (leb 1 p))
 
-pub board-read : (p l x : ℕ) (v u w w′ : List ℕ) → 1 ≤ p → p ≤ 16 → l < 4294967296 → x < 65536 → LoadedOf (made p l x [] []) w w′
-    → readForm (valueBytes p l x v u) ≡ readOn w′ (taskValueBytes v u) (frontBy x)
+pub board-read : (p l x : ℕ) (c : Bool) (v u w w′ : List ℕ) → 1 ≤ p → p ≤ 16 → l < 4294967296 → x < 65536 → LoadedOf (made p l x c [] []) w w′
+    → readForm (valueBytes p l x c v u) ≡ readOn w′ (taskValueBytes v u) (frontBy x c)
 unfolding readForm valueBytes readOn
-board-read p l x v u w w′ h k small time f =
+board-read p l x c v u w w′ h k small time f =
     let X : List ℕ = taskValueBytes v u in
-    let j : judge sheetFormat fresh (boardBytes p l x ++ X) ≡ go board = opening p l x X ∙ rw (le-leb 1 p h, le-leb p 16 k) in
+    let j : judge sheetFormat fresh (boardBytes p l x c ++ X) ≡ go board = opening p l x c X ∙ rw (le-leb 1 p h, le-leb p 16 k) in
     going-is sheetFormat
-    (subst (λ (s : Sheet). Going sheetFormat (readAll sheetFormat fresh (boardBytes p l x ++ X)) (begun s) (frontBy x) X) (sym (f .sheet))
-    (board-on _ p l x X (starts sheetFormat fresh (boardBytes p l x ++ X)) j small time))
+    (subst (λ (s : Sheet). Going sheetFormat (readAll sheetFormat fresh (boardBytes p l x c ++ X)) (begun s) (frontBy x c) X) (sym (f .sheet))
+    (board-on _ p l x c X (starts sheetFormat fresh (boardBytes p l x c ++ X)) j small time))
 
 -- an answer known by another name
 pub read-as : {a b : Answer Sheet} {w last : List ℕ} {r : Reading} → a ≡ b → ReadIs b w last r → ReadIs a w last r

@@ -1,40 +1,40 @@
 -- The state of a scan of bytes, and the ways on and out.
 use Prim.Native.Nat.{ℕ, _+_, _*_, _-_, _<_, _≤_}
 use mathlib.Core.Path.{_≡_, refl, sym, ap, ap₂, subst, _∙_}
-use mathlib.Core.Bool.{Bool, true, false, true≢false}
+use mathlib.Core.Bool.{Bool, true, false, not, true≢false}
 use mathlib.Core.Logic.{_≢_}
 use mathlib.Core.Option.{none}
 use mathlib.Core.List.{List, [], _∷_, _++_}
 use native.Mathlib.Omega.{arith}
 use native.Mathlib.Nat.{add-zero}
-use native.Mathlib.Decide.{decLt, ℕ-discrete}
+use native.Mathlib.Decide.{decLt}
 use borrow.Author.Tests.{leb-false, leb-true, not-false, eqb-true, eqb-false, eq-eqb, ne-eqb, lt-ltb, le-ltb}
 use lib.ListN.{length, getD, drop, length-drop}
 use lib.Seq.{getD-drop, drop-drop}
 use lib.Dec.{eqb, ltb, leb}
 use Rattle.folds.specs.Folds.{pick}
 use Rattle.folds.specs.Answers.{Answer, value, refused}
-use Rattle.folds.proofs.Tests.{not-value, either-none, both-parts, value-same}
+use Rattle.folds.proofs.Tests.{not-value, either-none, both-parts, both-false, value-same}
 use Rattle.numbers.specs.Number.{numberAt}
 use Rattle.numbers.proofs.Laws.{numberAt-drop, number-lt}
-use Rattle.commands.specs.Commands.{Outcome, refuse, go, judge, judgeKind, readAll}
+use Rattle.commands.specs.Commands.{Outcome, refuse, go, judge, judgeKind, verdict, readAll}
 use Rattle.commands.specs.Reading.{Going}
 use Rattle.commands.proofs.Going.{starts, goes, refuses, ends, comes}
-use Rattle.workspace.specs.Area.{fixed, linkCountAt, pairsAt, taskCountAt, unpackingAt}
+use Rattle.workspace.specs.Area.{fixed, linkCountAt, pairsAt, taskCountAt}
 use Rattle.sheet.specs.Sheet.{Sheet, Task, Link, taskCount, linkCount}
-use Rattle.sheet.specs.Sizes.{boardSize, unpackingSize, taskSize, linkSize}
-use Rattle.sheet.specs.Format.{Kind, board, unpack, task, link, end, kindOf, width, Progress, fresh, closes, withCommand, taskFrom, linkFrom, ended, joins, sheetFormat, readForm}
-use Rattle.sheet.specs.Tables.{sheetIn, pairIn, Loaded, Filling, LoadedOf, Blanked, taskWords, linkWords, pairWords, unpackingWords}
+use Rattle.sheet.specs.Sizes.{boardSize, unpackingSize, cubeSize, taskSize, linkSize}
+use Rattle.sheet.specs.Format.{Kind, board, unpack, wire, task, link, end, unwired, kindOf, width, Progress, fresh, closes, fault, withCommand, taskFrom, linkFrom, ended, joins, sheetFormat, readForm}
+use Rattle.sheet.specs.Tables.{sheetIn, pairIn, Loaded, Filling, LoadedOf, Blanked, taskWords, linkWords, pairWords, unpackingWords, cubeWords}
 use Rattle.sheet.specs.Faults.{begun}
-use Rattle.sheet_reader.specs.Answers.{outcomeOf, isUnpacking, isTask, isLink, readingOf, openingOf, closedOf, ReadIs}
-use Rattle.sheet_reader.specs.Scanning.{Absent, Scanning, Walking, Linking, addedWords}
+use Rattle.sheet_reader.specs.Answers.{outcomeOf, isUnpacking, isCube, isTask, isLink, readingOf, openingOf, closedOf, ReadIs}
+use Rattle.sheet_reader.specs.Scanning.{Absent, BoardRead, Scanning, Walking, Linking, addedWords}
 use Rattle.sheet_reader.specs.declared.bytes.Next.{Next}
 use Rattle.sheet_reader.specs.declared.Reading.{Reading}
 use Rattle.sheet_reader.specs.declared.Reading.the-variants.{Read, Refused}
 use Rattle.sheet.proofs.Rows.{tasks-in, links-in}
-use Rattle.sheet.proofs.Fills.{task-long, task-count, task-away, sheet-task, link-long, link-count, link-away, pair-long, pair-away, unpacking-away, unpacking-here, unpacking-long, sheet-unpacking}
-use Rattle.sheet.proofs.Joins.{unpacking-loaded, task-loaded, filling-link, link-sheet, blank-sheet, blank-filling}
-use Rattle.sheet.proofs.Judging.{judge-known, sound-of}
+use Rattle.sheet.proofs.Fills.{task-long, task-count, task-away, sheet-task, link-long, link-count, link-away, pair-long, pair-away, unpacking-away, unpacking-long, sheet-unpacking, cube-away, cube-long, sheet-cube}
+use Rattle.sheet.proofs.Joins.{unpacking-loaded, cube-loaded, task-loaded, filling-link, link-sheet, blank-sheet, blank-filling}
+use Rattle.sheet.proofs.Judging.{judge-known, sound-of, wire-clear, wire-turn}
 use Rattle.sheet.proofs.Rounds.{byteOf, first-byte}
 
 -- how an answer ends up as a reading
@@ -51,19 +51,30 @@ read-value a w last long l h =
       held = λ s q. value-same (sym h ∙ q);
     }
 
--- an unpacking time, a task or a link comes
+-- an unpacking time, a cube, a task or a link comes
 pub unpacking-comes : (o : Outcome Kind) → isUnpacking o ≡ true → o ≡ go unpack
 unpacking-comes (refuse r) e = absurd (true≢false (sym e))
 unpacking-comes (go board) e = absurd (true≢false (sym e))
 unpacking-comes (go unpack) e = refl
+unpacking-comes (go wire) e = absurd (true≢false (sym e))
 unpacking-comes (go task) e = absurd (true≢false (sym e))
 unpacking-comes (go link) e = absurd (true≢false (sym e))
 unpacking-comes (go end) e = absurd (true≢false (sym e))
+
+pub cube-comes : (o : Outcome Kind) → isCube o ≡ true → o ≡ go wire
+cube-comes (refuse r) e = absurd (true≢false (sym e))
+cube-comes (go board) e = absurd (true≢false (sym e))
+cube-comes (go unpack) e = absurd (true≢false (sym e))
+cube-comes (go wire) e = refl
+cube-comes (go task) e = absurd (true≢false (sym e))
+cube-comes (go link) e = absurd (true≢false (sym e))
+cube-comes (go end) e = absurd (true≢false (sym e))
 
 pub task-comes : (o : Outcome Kind) → isTask o ≡ true → o ≡ go task
 task-comes (refuse r) e = absurd (true≢false (sym e))
 task-comes (go board) e = absurd (true≢false (sym e))
 task-comes (go unpack) e = absurd (true≢false (sym e))
+task-comes (go wire) e = absurd (true≢false (sym e))
 task-comes (go task) e = refl
 task-comes (go link) e = absurd (true≢false (sym e))
 task-comes (go end) e = absurd (true≢false (sym e))
@@ -72,6 +83,7 @@ pub link-comes : (o : Outcome Kind) → isLink o ≡ true → o ≡ go link
 link-comes (refuse r) e = absurd (true≢false (sym e))
 link-comes (go board) e = absurd (true≢false (sym e))
 link-comes (go unpack) e = absurd (true≢false (sym e))
+link-comes (go wire) e = absurd (true≢false (sym e))
 link-comes (go task) e = absurd (true≢false (sym e))
 link-comes (go link) e = refl
 link-comes (go end) e = absurd (true≢false (sym e))
@@ -90,13 +102,21 @@ module _ (f : Outcome Kind → Bool) (p : Progress) (b : List ℕ) (at : ℕ) {c
   pub its-byte : (v : ℕ) {r n : Next} → at < length b → c ≡ v → outcomeOf r ≡ judgeKind sheetFormat p (kindOf v) (drop (at + 1) b) → r ≡ n → f (outcomeOf n) ≡ f (judge sheetFormat p (drop at b))
   its-byte v h q found is = ap f (sym (ap outcomeOf is) ∙ found ∙ sym (judge-known p b at v h (sym e ∙ q)))
 
-no-tasks : (p l u : ℕ) → taskCount (record { processors = p; limit = l; unpacking = u; tasks = []; links = [] }) ≡ 0
-unfolding taskCount
-no-tasks p l u = refl
+-- a cube stands at `at`
+pub cube-by : (s : Sheet) (b : List ℕ) (at : ℕ) → at < length b → getD b at 0 ≡ 0x48 → isCube (judge sheetFormat (begun s) (drop at b)) ≡ unwired s
+cube-by s b at h e = ap isCube (judge-known (begun s) b at 0x48 h e) ∙ by (unwired s) refl
+  where
+    by : (t : Bool) → unwired s ≡ t → isCube (verdict sheetFormat wire (fault (begun s) wire (drop (at + 1) b))) ≡ unwired s
+    by true q = ap (λ o. isCube (verdict sheetFormat wire o)) (wire-clear s (drop (at + 1) b) q) ∙ sym q
+    by false q = ap (λ o. isCube (verdict sheetFormat wire o)) (wire-turn s (drop (at + 1) b) q) ∙ sym q
 
-no-links : (p l u : ℕ) → linkCount (record { processors = p; limit = l; unpacking = u; tasks = []; links = [] }) ≡ 0
+no-tasks : (p l u : ℕ) (c : Bool) → taskCount (record { processors = p; limit = l; unpacking = u; cube = c; tasks = []; links = [] }) ≡ 0
+unfolding taskCount
+no-tasks p l u c = refl
+
+no-links : (p l u : ℕ) (c : Bool) → linkCount (record { processors = p; limit = l; unpacking = u; cube = c; tasks = []; links = [] }) ≡ 0
 unfolding linkCount
-no-links p l u = refl
+no-links p l u c = refl
 
 -- behind the end command: bytes, or the sheet
 ended-tail : (s : Sheet) (d : List ℕ) (e : ℕ) → 0 < length d → ended (begun s) e d ≡ refused 4 (e + 1)
@@ -139,7 +159,19 @@ module _ {a : Answer Sheet} {d w₀ w : List ℕ} {n m e : ℕ} (s : Scanning a 
       (away taskCountAt (λ r. omega arith) ∙ s .tasks)
       (away linkCountAt (λ r. omega arith) ∙ s .links)
       (sheet-unpacking w u long
-      ∙ ap (λ (x : ℕ). record { processors = sheetIn w .processors; limit = sheetIn w .limit; unpacking = x; tasks = sheetIn w .tasks; links = sheetIn w .links }) (q ∙ sym (numberAt-drop 2 1 d 0)))
+      ∙ ap (λ (x : ℕ). record { processors = sheetIn w .processors; limit = sheetIn w .limit; unpacking = x; cube = sheetIn w .cube; tasks = sheetIn w .tasks; links = sheetIn w .links }) (q ∙ sym (numberAt-drop 2 1 d 0)))
+
+  -- a cube
+  pub scan-cube : judge sheetFormat (begun (sheetIn w)) d ≡ go wire → Scanning a (drop cubeSize d) w₀ (cubeWords w) n m (e + cubeSize)
+  scan-cube j =
+      let long : fixed ≤ length w = s .loaded .long in
+      let away = cube-away w long in
+      goes-on wire (cubeWords w) n m refl j
+      (cube-loaded w (s .loaded))
+      (cube-long w long)
+      (away taskCountAt (λ r. omega arith) ∙ s .tasks)
+      (away linkCountAt (λ r. omega arith) ∙ s .links)
+      (sheet-cube w long)
 
   -- a task
   pub scan-task : (work store : ℕ) → judge sheetFormat (begun (sheetIn w)) d ≡ go task → work ≡ numberAt 2 d 1 → store ≡ numberAt 2 d 3 → work < 65536 → store < 65536
@@ -157,7 +189,7 @@ module _ {a : Answer Sheet} {d w₀ w : List ℕ} {n m e : ℕ} (s : Scanning a 
       (task-count w n work store long few)
       (task-away w n work store long few 1 (λ q. omega arith) (λ q. omega arith) ∙ s .links)
       (sheet-task w n work store long few (s .tasks) h₁
-      ∙ ap (λ (t : Task). record { processors = sheetIn w .processors; limit = sheetIn w .limit; unpacking = sheetIn w .unpacking; tasks = sheetIn w .tasks ++ t ∷ []; links = sheetIn w .links }) (sym from))
+      ∙ ap (λ (t : Task). record { processors = sheetIn w .processors; limit = sheetIn w .limit; unpacking = sheetIn w .unpacking; cube = sheetIn w .cube; tasks = sheetIn w .tasks ++ t ∷ []; links = sheetIn w .links }) (sym from))
 
   -- the ends of a link
   module _ (x y : ℕ) (j : judge sheetFormat (begun (sheetIn w)) d ≡ go link) (p : x ≡ getD d 1 0) (q : y ≡ getD d 2 0) where
@@ -205,7 +237,7 @@ module _ {a : Answer Sheet} {d w₀ w : List ℕ} {n m e : ℕ} (s : Scanning a 
         ∙ pair-away w x y long (small .0) (small .1) 0 (omega arith) ∙ s .tasks)
         (link-count (pairWords w x y) m x y c b v-fixed few)
         (link-sheet w m x y c b f (s .links) few source-small target-small h₁ h₂
-        ∙ ap (λ (l : Link). record { processors = sheetIn w .processors; limit = sheetIn w .limit; unpacking = sheetIn w .unpacking; tasks = sheetIn w .tasks; links = sheetIn w .links ++ l ∷ [] }) (sym from))
+        ∙ ap (λ (l : Link). record { processors = sheetIn w .processors; limit = sheetIn w .limit; unpacking = sheetIn w .unpacking; cube = sheetIn w .cube; tasks = sheetIn w .tasks; links = sheetIn w .links ++ l ∷ [] }) (sym from))
 
   pub scan-refuse : (r : ℕ) → judge sheetFormat (begun (sheetIn w)) d ≡ refuse r → ReadIs a w₀ w (Refused r e)
   scan-refuse r j = read-refused a w₀ w r e (s .long) (refuses sheetFormat (s .going) r j)
@@ -220,25 +252,29 @@ module _ {a : Answer Sheet} {d w₀ w : List ℕ} {n m e : ℕ} (s : Scanning a 
   pub scan-whole : judge sheetFormat (begun (sheetIn w)) d ≡ go end → length (drop 1 d) ≡ 0 → ReadIs a w₀ w Read
   scan-whole j h = read-value a w₀ w (s .long) (s .loaded) (scan-end j ∙ ended-whole (sheetIn w) (drop 1 d) e h)
 
--- an unpacking time comes only first
-unpack-first : (w d : List ℕ) → judge sheetFormat (begun (sheetIn w)) d ≡ go unpack → (getD w unpackingAt 0 ≡ 0) × (getD w taskCountAt 0 ≡ 0) × (getD w linkCountAt 0 ≡ 0)
-unfolding sheetIn
+-- an unpacking time comes only where there was none, and neither it nor a cube comes behind a cube, a task or a link
+unpack-first : (w d : List ℕ) → judge sheetFormat (begun (sheetIn w)) d ≡ go unpack → (sheetIn w .unpacking ≡ 0) × (unwired (sheetIn w) ≡ true)
 unpack-first w d j =
-    let p = both-parts (eqb (sheetIn w .unpacking) 0) _ (sound-of (begun (sheetIn w)) d unpack j .turn) in
-    let q = both-parts (eqb (taskCount (sheetIn w)) 0) (eqb (linkCount (sheetIn w)) 0) (p .1) in (
-      eqb-true _ 0 (p .0),
-      sym (tasks-in w) ∙ eqb-true _ 0 (q .0),
-      sym (links-in w) ∙ eqb-true _ 0 (q .1),
-    )
+    let p = both-parts (eqb (sheetIn w .unpacking) 0) (unwired (sheetIn w)) (sound-of (begun (sheetIn w)) d unpack j .turn) in
+    (eqb-true _ 0 (p .0), p .1)
 
--- .. and so not behind a task
-behind-task : (w d : List ℕ) (n : ℕ) → getD w taskCountAt 0 ≡ n + 1 → judge sheetFormat (begun (sheetIn w)) d ≢ go unpack
-behind-task w d n e j = omega (arith, unpack-first w d j .1)
+board-read : (b w : List ℕ) (at : ℕ) → unwired (sheetIn w) ≡ false → BoardRead b w at
+board-read b w at h =
+    record {
+      no-unpacking = λ j. true≢false (sym (unpack-first w (drop at b) j .1) ∙ h);
+      no-cube = λ j. true≢false (sym (sound-of (begun (sheetIn w)) (drop at b) wire j .turn) ∙ h);
+    }
 
--- .. or a link, and no task comes there
-unpack-link : (w d : List ℕ) (m : ℕ) → getD w linkCountAt 0 ≡ m + 1 → judge sheetFormat (begun (sheetIn w)) d ≢ go unpack
-unpack-link w d m e j = omega (arith, unpack-first w d j .2)
+wired-cube : (s : Sheet) → s .cube ≡ true → unwired s ≡ false
+wired-cube s e = rw e
 
+wired-task : (w : List ℕ) (n : ℕ) → getD w taskCountAt 0 ≡ n + 1 → unwired (sheetIn w) ≡ false
+wired-task w n e = rw (tasks-in w ∙ e, ne-eqb (n + 1) 0 (λ q. omega arith)) (both-false (not (sheetIn w .cube)))
+
+wired-link : (w : List ℕ) (m : ℕ) → getD w linkCountAt 0 ≡ m + 1 → unwired (sheetIn w) ≡ false
+wired-link w m e = rw (links-in w ∙ e, ne-eqb (m + 1) 0 (λ q. omega arith), both-false (eqb (taskCount (sheetIn w)) 0)) (both-false (not (sheetIn w .cube)))
+
+-- behind a link no task comes
 behind-link : (w d : List ℕ) (m : ℕ) → getD w linkCountAt 0 ≡ m + 1 → judge sheetFormat (begun (sheetIn w)) d ≢ go task
 behind-link w d m e j =
     let none : linkCount (sheetIn w) ≡ 0 = eqb-true (linkCount (sheetIn w)) 0 (sound-of _ d task j .turn) in
@@ -270,7 +306,18 @@ module _ {a : Answer Sheet} {b w₀ w : List ℕ} {n m at : ℕ} (s : Walking a 
               subst (λ (d : List ℕ). Scanning a d w₀ (unpackingWords w u) n m (at + unpackingSize)) (drop-drop unpackingSize at b)
               (scan-unpack (s .scanning) u j here (omega (arith, number-lt 2 b (at + 1) small)));
         },
-        λ k. time (sym (unpacking-here w u (s .scanning .loaded .long)) ∙ unpack-first (unpackingWords w u) (drop (at + unpackingSize) b) k .0),
+        λ k. time (sym (ap (λ (t : Sheet). t .unpacking) (sheet-unpacking w u (s .scanning .loaded .long))) ∙ unpack-first (unpackingWords w u) (drop (at + unpackingSize) b) k .0),
+      )
+
+  -- .. a cube
+  pub cube-added : (w′ : List ℕ) → judge sheetFormat (begun (sheetIn w)) (drop at b) ≡ go wire → w′ ≡ cubeWords w → Walking a b w₀ w′ n m (at + cubeSize) × BoardRead b w′ (at + cubeSize)
+  cube-added w′ j e =
+      subst (λ (v : List ℕ). Walking a b w₀ v n m (at + cubeSize) × BoardRead b v (at + cubeSize)) (sym e) (
+        record {
+          room = walk-room wire j;
+          scanning = subst (λ (d : List ℕ). Scanning a d w₀ (cubeWords w) n m (at + cubeSize)) (drop-drop cubeSize at b) (scan-cube (s .scanning) j);
+        },
+        board-read b (cubeWords w) (at + cubeSize) (wired-cube (sheetIn (cubeWords w)) (ap (λ (t : Sheet). t .cube) (sheet-cube w (s .scanning .loaded .long)))),
       )
 
   pub walk-task : judge sheetFormat (begun (sheetIn w)) (drop at b) ≡ go task → ((k : ℕ) → getD b k 0 < 256)
@@ -287,20 +334,23 @@ module _ {a : Answer Sheet} {b w₀ w : List ℕ} {n m at : ℕ} (s : Walking a 
 
   -- the same of the words that a callee left
   pub task-added : (w′ : List ℕ) → judge sheetFormat (begun (sheetIn w)) (drop at b) ≡ go task → ((k : ℕ) → getD b k 0 < 256)
-      → w′ ≡ taskWords w n (numberAt 2 b (at + 1)) (numberAt 2 b (at + 3)) → Walking a b w₀ w′ (n + 1) m (at + taskSize) × Absent unpack b w′ (at + taskSize)
+      → w′ ≡ taskWords w n (numberAt 2 b (at + 1)) (numberAt 2 b (at + 3)) → Walking a b w₀ w′ (n + 1) m (at + taskSize) × BoardRead b w′ (at + taskSize)
   task-added w′ j small e =
       let t = walk-task j small in
-      subst (λ (v : List ℕ). Walking a b w₀ v (n + 1) m (at + taskSize) × Absent unpack b v (at + taskSize)) (sym e) (t, behind-task _ (drop (at + taskSize) b) n (t .scanning .tasks))
+      subst (λ (v : List ℕ). Walking a b w₀ v (n + 1) m (at + taskSize) × BoardRead b v (at + taskSize)) (sym e) (t, board-read b _ (at + taskSize) (wired-task _ n (t .scanning .tasks)))
 
   -- no task comes, at an offset that is equal
-  pub tasks-end : (e : ℕ) → at ≡ e → Absent unpack b w at → isTask (judge sheetFormat (begun (sheetIn w)) (drop at b)) ≡ false
-      → Walking a b w₀ w n m e × Absent unpack b w e × Absent task b w e
-  tasks-end e h no-time q =
-      subst (λ (x : ℕ). Walking a b w₀ w n m x × Absent unpack b w x × Absent task b w x) h (s, no-time, λ j. true≢false (sym (ap isTask j) ∙ q))
+  pub tasks-end : (e : ℕ) → at ≡ e → BoardRead b w at → isTask (judge sheetFormat (begun (sheetIn w)) (drop at b)) ≡ false
+      → Walking a b w₀ w n m e × BoardRead b w e × Absent task b w e
+  tasks-end e h g q =
+      subst (λ (x : ℕ). Walking a b w₀ w n m x × BoardRead b w x × Absent task b w x) h (s, g, λ j. true≢false (sym (ap isTask j) ∙ q))
 
-  -- no unpacking time comes
+  -- no unpacking time comes, and no cube
   pub unpacking-none : isUnpacking (judge sheetFormat (begun (sheetIn w)) (drop at b)) ≡ false → Absent unpack b w at
   unpacking-none q j = true≢false (sym (ap isUnpacking j) ∙ q)
+
+  pub cube-none : isCube (judge sheetFormat (begun (sheetIn w)) (drop at b)) ≡ false → Absent wire b w at
+  cube-none q j = true≢false (sym (ap isCube j) ∙ q)
 
   -- from words that are as long
   pub walk-from : (v : List ℕ) → length w₀ ≡ length v → Walking a b v w n m at
@@ -337,7 +387,7 @@ scan-blank {a} {d} {e = e} s k same b =
       },
     )
 
-pub links-begin : {a : Answer Sheet} {b w₀ w w′ : List ℕ} {n at : ℕ} → Walking a b w₀ w n 0 at → Absent unpack b w at → Absent task b w at
+pub links-begin : {a : Answer Sheet} {b w₀ w w′ : List ℕ} {n at : ℕ} → Walking a b w₀ w n 0 at → BoardRead b w at → Absent task b w at
     → Blanked (pairsAt + 8 * n) w w′ → Linking a b w′ w′ n 0 at
 links-begin {a} {b} {n = n} {at = at} s g h k =
     let q = s .scanning in
@@ -346,7 +396,7 @@ links-begin {a} {b} {n = n} {at = at} s g h k =
     record {
       walking = walk-from (record { room = s .room; scanning = r .1 }) _ (sym (k .long ∙ q .long));
       filling = r .0;
-      no-unpacking = λ j. g (same ∙ j);
+      board = record { no-unpacking = λ j. g .no-unpacking (same ∙ j); no-cube = λ j. g .no-cube (same ∙ j) };
       no-task = λ j. h (same ∙ j);
     }
 
@@ -372,7 +422,7 @@ module _ {a : Answer Sheet} {b w₀ w : List ℕ} {n m at : ℕ} (s : Linking a 
       (record {
         walking = record { room = walk-room (s .walking) link j; scanning = subst (λ (d : List ℕ). Scanning a d w₀ (linkWords (pairWords w x y) m x y c z) n (m + 1) (at + linkSize)) (drop-drop linkSize at b) t };
         filling = link-filling (s .walking .scanning) x y j p q (s .filling) c z c-small z-small;
-        no-unpacking = unpack-link (linkWords (pairWords w x y) m x y c z) (drop (at + linkSize) b) m (t .links);
+        board = board-read b _ (at + linkSize) (wired-link _ m (t .links));
         no-task = behind-link (linkWords (pairWords w x y) m x y c z) (drop (at + linkSize) b) m (t .links);
       })
 
@@ -384,13 +434,13 @@ module _ {a : Answer Sheet} {b w₀ w : List ℕ} {n m at : ℕ} (s : Linking a 
       (s, λ j. true≢false (sym (ap isLink j) ∙ q))
 
   pub link-from : (v : List ℕ) → length w₀ ≡ length v → Linking a b v w n m at
-  link-from v e = record { walking = walk-from (s .walking) v e; filling = s .filling; no-unpacking = s .no-unpacking; no-task = s .no-task }
+  link-from v e = record { walking = walk-from (s .walking) v e; filling = s .filling; board = s .board; no-task = s .no-task }
 
 -- behind the board command
-pub bare-counts : {p l u : ℕ} {v w : List ℕ} → LoadedOf (record { processors = p; limit = l; unpacking = u; tasks = []; links = [] }) v w → (getD w taskCountAt 0 ≡ 0) × (getD w linkCountAt 0 ≡ 0)
-bare-counts {p} {l} {u} {v} {w} f = (sym (tasks-in w) ∙ ap taskCount (f .sheet) ∙ no-tasks p l u, sym (links-in w) ∙ ap linkCount (f .sheet) ∙ no-links p l u)
+pub bare-counts : {p l u : ℕ} {c : Bool} {v w : List ℕ} → LoadedOf (record { processors = p; limit = l; unpacking = u; cube = c; tasks = []; links = [] }) v w → (getD w taskCountAt 0 ≡ 0) × (getD w linkCountAt 0 ≡ 0)
+bare-counts {p} {l} {u} {c} {v} {w} f = (sym (tasks-in w) ∙ ap taskCount (f .sheet) ∙ no-tasks p l u c, sym (links-in w) ∙ ap linkCount (f .sheet) ∙ no-links p l u c)
 
-pub scan-board : {a : Answer Sheet} {d u : List ℕ} {e : ℕ} (v w : List ℕ) (p l : ℕ) → length w ≡ length v → LoadedOf (record { processors = p; limit = l; unpacking = 0; tasks = []; links = [] }) u w
+pub scan-board : {a : Answer Sheet} {d u : List ℕ} {e : ℕ} (v w : List ℕ) (p l : ℕ) → length w ≡ length v → LoadedOf (record { processors = p; limit = l; unpacking = 0; cube = false; tasks = []; links = [] }) u w
     → Going sheetFormat a (begun (sheetIn w)) e d → Scanning a d v w 0 0 e
 scan-board v w p l long f g =
     record {
@@ -416,14 +466,14 @@ open-room b j =
     (omega (arith, simp length-drop at (k .room), comes sheetFormat _ _ board j .more), omega (arith, leb-true (getD (drop 1 b) 0 0) 16 (inside .1), getD-drop 1 b 0 0))
 
 pub walk-starts : (b w : List ℕ) (p l : ℕ) → judge sheetFormat fresh b ≡ go board → p ≡ getD b 1 0 → l ≡ numberAt 4 b 2 → (v : List ℕ)
-    → LoadedOf (record { processors = p; limit = l; unpacking = 0; tasks = []; links = [] }) v w → Walking (readForm b) b w w 0 0 boardSize
+    → LoadedOf (record { processors = p; limit = l; unpacking = 0; cube = false; tasks = []; links = [] }) v w → Walking (readForm b) b w w 0 0 boardSize
 unfolding readForm
 walk-starts b w p l j e₁ e₂ v f =
     let room = open-room b j in
     let p′ : getD (drop 1 b) 0 0 ≡ p = getD-drop 1 b 0 0 ∙ sym e₁ in
     let l′ : numberAt 4 (drop 1 b) 1 ≡ l = numberAt-drop 4 1 b 1 ∙ sym e₂ in
-    let here : begun (record { processors = getD (drop 1 b) 0 0; limit = numberAt 4 (drop 1 b) 1; unpacking = 0; tasks = []; links = [] }) ≡ begun (sheetIn w) =
-    ap₂ (λ (x y : ℕ). begun (record { processors = x; limit = y; unpacking = 0; tasks = []; links = [] })) p′ l′ ∙ sym (ap begun (f .sheet)) in
+    let here : begun (record { processors = getD (drop 1 b) 0 0; limit = numberAt 4 (drop 1 b) 1; unpacking = 0; cube = false; tasks = []; links = [] }) ≡ begun (sheetIn w) =
+    ap₂ (λ (x y : ℕ). begun (record { processors = x; limit = y; unpacking = 0; cube = false; tasks = []; links = [] })) p′ l′ ∙ sym (ap begun (f .sheet)) in
     record {
       room = room .0;
       scanning = scan-board w w p l refl f (subst (λ (q : Progress). Going sheetFormat (readAll sheetFormat fresh b) q boardSize (drop boardSize b)) here (goes sheetFormat (starts sheetFormat fresh b) board refl j));

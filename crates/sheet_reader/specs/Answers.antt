@@ -10,33 +10,45 @@ use Rattle.folds.specs.Answers.{Answer, value, refused}
 use Rattle.commands.specs.Commands.{Outcome, refuse, go}
 use Rattle.sheet.specs.Sheet.{Sheet}
 use Rattle.sheet.specs.Sizes.{linkSize}
-use Rattle.sheet.specs.Format.{Kind, board, unpack, task, link, end}
+use Rattle.sheet.specs.Format.{Kind, board, unpack, wire, task, link, end}
 use Rattle.sheet.specs.Tables.{sheetIn, Loaded}
 use Rattle.sheet_reader.specs.declared.bytes.Next.{Next}
-use Rattle.sheet_reader.specs.declared.bytes.Next.the-variants.{Unpacking, Task, Link, End, No}
+use Rattle.sheet_reader.specs.declared.bytes.Next.the-variants.{Unpacking, Cube, Task, Link, End, No}
 use Rattle.sheet_reader.specs.declared.Reading.{Reading}
 use Rattle.sheet_reader.specs.declared.Reading.the-variants.{Read, Refused}
 
 abbrev pub outcomeOf : Next → Outcome Kind
 outcomeOf Unpacking = go unpack
+outcomeOf Cube = go wire
 outcomeOf Task = go task
 outcomeOf Link = go link
 outcomeOf End = go end
 outcomeOf (No r) = refuse r
 
--- whether an unpacking time comes, a task, a link
+-- whether an unpacking time comes, a cube, a task, a link
 abbrev pub isUnpacking : Outcome Kind → Bool
 isUnpacking (refuse r) = false
 isUnpacking (go board) = false
 isUnpacking (go unpack) = true
+isUnpacking (go wire) = false
 isUnpacking (go task) = false
 isUnpacking (go link) = false
 isUnpacking (go end) = false
+
+abbrev pub isCube : Outcome Kind → Bool
+isCube (refuse r) = false
+isCube (go board) = false
+isCube (go unpack) = false
+isCube (go wire) = true
+isCube (go task) = false
+isCube (go link) = false
+isCube (go end) = false
 
 abbrev pub isTask : Outcome Kind → Bool
 isTask (refuse r) = false
 isTask (go board) = false
 isTask (go unpack) = false
+isTask (go wire) = false
 isTask (go task) = true
 isTask (go link) = false
 isTask (go end) = false
@@ -45,6 +57,7 @@ abbrev pub isLink : Outcome Kind → Bool
 isLink (refuse r) = false
 isLink (go board) = false
 isLink (go unpack) = false
+isLink (go wire) = false
 isLink (go task) = false
 isLink (go link) = true
 isLink (go end) = false

@@ -10,13 +10,18 @@ use Rattle.numbers.specs.Number.{numberAt}
 use Rattle.commands.specs.Commands.{go, judge, readFrom}
 use Rattle.commands.specs.Reading.{Going}
 use Rattle.sheet.specs.Sheet.{Sheet}
-use Rattle.sheet.specs.Format.{Kind, unpack, task, sheetFormat}
+use Rattle.sheet.specs.Format.{Kind, unpack, wire, task, sheetFormat}
 use Rattle.sheet.specs.Tables.{sheetIn, Loaded, Filling, linkWords, pairWords}
 use Rattle.sheet.specs.Faults.{begun}
 
 -- at offset `at` no command of kind k comes that nothing refuses
 abbrev pub Absent : Kind → List ℕ → List ℕ → ℕ → Type 0
 Absent k b w at = judge sheetFormat (begun (sheetIn w)) (drop at b) ≢ go k
+
+-- nothing of the board is left at offset `at`: no unpacking time and no cube comes there that nothing refuses
+pub record BoardRead (b w : List ℕ) (at : ℕ) : Type 0 where
+  pub no-unpacking : Absent unpack b w at
+  pub no-cube : Absent wire b w at
 
 -- the sheet so far is in the words w, which have n tasks and m links; d is still to be read, from offset e on, and gives the answer a
 pub record Scanning (a : Answer Sheet) (d w₀ w : List ℕ) (n m e : ℕ) : Type 0 where
@@ -35,7 +40,7 @@ pub record Walking (a : Answer Sheet) (b w₀ w : List ℕ) (n m at : ℕ) : Typ
 pub record Linking (a : Answer Sheet) (b w₀ w : List ℕ) (n m at : ℕ) : Type 0 where
   pub walking : Walking a b w₀ w n m at
   pub filling : Filling w
-  pub no-unpacking : Absent unpack b w at
+  pub board : BoardRead b w at
   pub no-task : Absent task b w at
 
 -- the words with the link of the command at offset `at` put behind m others

@@ -8,13 +8,14 @@ ghost use Rattle.numbers.specs.Number.{numberAt};
 ghost use Rattle.commands.specs.Commands.{numbered, judge, judgeKind};
 ghost use Rattle.workspace.specs.Area.{fixed, linkCountAt, taskCountAt};
 ghost use Rattle.sheet.specs.Sizes.{boardSize, taskSize, linkSize};
-ghost use Rattle.sheet.specs.Format.{unpack, task, link, sheetFormat, fresh, readForm};
+ghost use Rattle.sheet.specs.Format.{unwired, unpack, wire, task, link, sheetFormat, fresh, readForm};
 ghost use Rattle.sheet.specs.Tables.{sheetIn, pairIn, Loaded, Filling, taskWords};
 ghost use Rattle.sheet.specs.Faults.{begun, taskFault, linkFault};
-ghost use Rattle.sheet_reader.specs.Answers.{outcomeOf, isUnpacking, isTask, isLink, openingOf, closedOf, ReadIs};
-ghost use Rattle.sheet_reader.specs.Scanning.{Absent, Walking, Linking, addedWords};
+ghost use Rattle.sheet_reader.specs.Answers.{outcomeOf, isUnpacking, isCube, isTask, isLink, openingOf, closedOf, ReadIs};
+ghost use Rattle.sheet_reader.specs.Scanning.{Absent, BoardRead, Walking, Linking, addedWords};
 use crate::Reading;
 use sheet::BOARD_SIZE;
+use sheet::CUBE_SIZE;
 use sheet::LINK_SIZE;
 use sheet::TASK_SIZE;
 use sheet::UNPACKING_SIZE;
@@ -24,6 +25,7 @@ use sheet::tables;
 // The next command behind the board command: its kind, or the number that refuses it.
 pub enum Next {
     Unpacking,
+    Cube,
     Task,
     Link,
     End,
@@ -64,6 +66,21 @@ pub fn link_fault(w: &[u32], tasks: usize, links: usize, source: usize, target: 
     0
 }
 
+// Whether the board has neither a cube nor a task nor a link behind it.
+fn unwired(w: &[u32], tasks: usize, links: usize) -> bool
+    requires { ⌜ Loaded (now w) ⌝ }
+    requires { ⌜ (tasks ≡ getD (now w) taskCountAt 0) × (links ≡ getD (now w) linkCountAt 0) ⌝ }
+    ensures { λ r. ⌜ r ≡ unwired (sheetIn (now (w .entry))) ⌝ }
+{
+    if tables::cube(w) {
+        return false;
+    }
+    if tasks != 0 {
+        return false;
+    }
+    links == 0
+}
+
 // The unpacking time at `at`, which is in turn only directly behind the board.
 fn unpacking_at(bytes: &[u8], at: usize, w: &[u32], tasks: usize, links: usize) -> Next
     requires { ⌜ Loaded (now w) ⌝ }
@@ -73,10 +90,7 @@ fn unpacking_at(bytes: &[u8], at: usize, w: &[u32], tasks: usize, links: usize) 
     if tables::unpacking(w) != 0 {
         return Next::No(3);
     }
-    if tasks != 0 {
-        return Next::No(3);
-    }
-    if links != 0 {
+    if !unwired(w, tasks, links) {
         return Next::No(3);
     }
     if bytes.len() - at < UNPACKING_SIZE {
@@ -86,6 +100,18 @@ fn unpacking_at(bytes: &[u8], at: usize, w: &[u32], tasks: usize, links: usize) 
         return Next::No(6);
     }
     Next::Unpacking
+}
+
+// A cube, which is in turn only behind the board and its unpacking time.
+fn cube_at(bytes: &[u8], at: usize, w: &[u32], tasks: usize, links: usize) -> Next
+    requires { ⌜ Loaded (now w) ⌝ }
+    requires { ⌜ (tasks ≡ getD (now w) taskCountAt 0) × (links ≡ getD (now w) linkCountAt 0) ⌝ }
+    ensures { λ r. ⌜ outcomeOf r ≡ judgeKind sheetFormat (begun (sheetIn (now (w .entry)))) (some wire) (drop (at + 1) (now (bytes .entry))) ⌝ }
+{
+    if unwired(w, tasks, links) {
+        return Next::Cube;
+    }
+    Next::No(3)
 }
 
 // The task command at `at`.
@@ -151,6 +177,9 @@ fn next_at(bytes: &[u8], at: usize, w: &[u32], tasks: usize, links: usize) -> Ne
     if c == 0x55 {
         return unpacking_at(bytes, at, w, tasks, links);
     }
+    if c == 0x48 {
+        return cube_at(bytes, at, w, tasks, links);
+    }
     if c == 0x4D {
         return Next::No(3);
     }
@@ -175,6 +204,9 @@ fn opening(bytes: &[u8]) -> u8
         return 3;
     }
     if c == 0x55 {
+        return 3;
+    }
+    if c == 0x48 {
         return 3;
     }
     if c != 0x4D {
@@ -246,11 +278,27 @@ fn is_unpacking(bytes: &[u8], at: usize, w: &[u32]) -> bool
     }
     match unpacking_at(bytes, at, w, 0, 0) {
         Next::Unpacking => true,
+        Next::Cube => false,
         Next::Task => false,
         Next::Link => false,
         Next::End => false,
         Next::No(r) => false,
     }
+}
+
+// Whether a cube stands at `at` that nothing refuses, where there is no task and no link yet.
+fn is_cube(bytes: &[u8], at: usize, w: &[u32]) -> bool
+    requires { ⌜ Loaded (now w) ⌝ }
+    requires { ⌜ (getD (now w) taskCountAt 0 ≡ 0) × (getD (now w) linkCountAt 0 ≡ 0) × (at ≤ length (now bytes)) ⌝ }
+    ensures { λ r. ⌜ r ≡ isCube (judge sheetFormat (begun (sheetIn (now (w .entry)))) (drop at (now (bytes .entry)))) ⌝ }
+{
+    if bytes.len() <= at {
+        return false;
+    }
+    if reader::get8(bytes, at) != 0x48 {
+        return false;
+    }
+    unwired(w, 0, 0)
 }
 
 // Whether a task stands at `at` that nothing refuses, where there is no link yet.
@@ -267,6 +315,7 @@ fn is_task(bytes: &[u8], at: usize, w: &[u32], tasks: usize) -> bool
     }
     match task_at(bytes, at, w, tasks, 0) {
         Next::Unpacking => false,
+        Next::Cube => false,
         Next::Task => true,
         Next::Link => false,
         Next::End => false,
@@ -288,6 +337,7 @@ fn is_link(bytes: &[u8], at: usize, w: &[u32], tasks: usize, links: usize) -> bo
     }
     match link_at(bytes, at, w, tasks, links) {
         Next::Unpacking => false,
+        Next::Cube => false,
         Next::Task => false,
         Next::Link => true,
         Next::End => false,
@@ -307,11 +357,24 @@ fn add_unpacking(bytes: &[u8], w: &mut [u32]) -> usize
     BOARD_SIZE
 }
 
+// Adds the unpacking time and the cube behind the board command, where they are; the answer is the offset behind them.
+fn add_board(bytes: &[u8], w: &mut [u32]) -> usize
+    requires { ⌜ Walking (readForm (now bytes)) (now bytes) (now w) (now w) 0 0 boardSize ⌝ }
+    ensures { λ r. ⌜ Walking (readForm (now (bytes .entry))) (now (bytes .entry)) (now (w .entry)) (now (w .exit)) 0 0 r × BoardRead (now (bytes .entry)) (now (w .exit)) r ⌝ }
+{
+    let at = add_unpacking(bytes, w);
+    if is_cube(bytes, at, w) {
+        tables::put_cube(w);
+        return at + CUBE_SIZE;
+    }
+    at
+}
+
 // Adds the tasks from `start` on, behind the board; the answer is how many there are. A loop for each kind of command tells the
 // usual commands from the rest by tests that go one way.
 fn add_tasks(bytes: &[u8], start: usize, w: &mut [u32]) -> usize
-    requires { ⌜ Walking (readForm (now bytes)) (now bytes) (now w) (now w) 0 0 start × Absent unpack (now bytes) (now w) start ⌝ }
-    ensures { λ r. ⌜ Walking (readForm (now (bytes .entry))) (now (bytes .entry)) (now (w .entry)) (now (w .exit)) r 0 (start + taskSize * r) × Absent unpack (now (bytes .entry)) (now (w .exit)) (start + taskSize * r) × Absent task (now (bytes .entry)) (now (w .exit)) (start + taskSize * r) ⌝ }
+    requires { ⌜ Walking (readForm (now bytes)) (now bytes) (now w) (now w) 0 0 start × BoardRead (now bytes) (now w) start ⌝ }
+    ensures { λ r. ⌜ Walking (readForm (now (bytes .entry))) (now (bytes .entry)) (now (w .entry)) (now (w .exit)) r 0 (start + taskSize * r) × BoardRead (now (bytes .entry)) (now (w .exit)) (start + taskSize * r) × Absent task (now (bytes .entry)) (now (w .exit)) (start + taskSize * r) ⌝ }
 {
     let mut at = start;
     let mut tasks = 0;
@@ -338,8 +401,8 @@ fn add_links(bytes: &[u8], start: usize, w: &mut [u32], tasks: usize) -> usize
     links
 }
 
-// What stands at `at`, behind the tasks and the links: the end, or what is refused. No unpacking time, task or link that nothing
-// refuses is left.
+// What stands at `at`, behind the tasks and the links: the end, or what is refused. Nothing of the board, and no task or link,
+// is left that nothing refuses.
 fn rest(bytes: &[u8], at: usize, w: &[u32], tasks: usize, links: usize) -> Reading
     requires { ⌜ Linking (readForm (now bytes)) (now bytes) (now w) (now w) tasks links at ⌝ }
     requires { ⌜ Absent link (now bytes) (now w) at ⌝ }
@@ -347,6 +410,7 @@ fn rest(bytes: &[u8], at: usize, w: &[u32], tasks: usize, links: usize) -> Readi
 {
     match next_at(bytes, at, w, tasks, links) {
         Next::Unpacking => Reading::Refused(3, at),
+        Next::Cube => Reading::Refused(3, at),
         Next::Task => Reading::Refused(3, at),
         Next::Link => Reading::Refused(8, at),
         Next::End => closing(bytes, at),
@@ -354,13 +418,13 @@ fn rest(bytes: &[u8], at: usize, w: &[u32], tasks: usize, links: usize) -> Readi
     }
 }
 
-// Reads command by command behind the board command: the unpacking time, the tasks, whose rows are then cleared for the pairs that
-// the links join, the links, and what is left.
+// Reads command by command behind the board command: what more there is of the board, the tasks, whose rows are then cleared for the
+// pairs that the links join, the links, and what is left.
 fn walk(bytes: &[u8], w: &mut [u32]) -> Reading
     requires { ⌜ Walking (readForm (now bytes)) (now bytes) (now w) (now w) 0 0 boardSize ⌝ }
     ensures { λ r. ⌜ ReadIs (readForm (now (bytes .entry))) (now (w .entry)) (now (w .exit)) r ⌝ }
 {
-    let start = add_unpacking(bytes, w);
+    let start = add_board(bytes, w);
     let tasks = add_tasks(bytes, start, w);
     pairs::blank(w, tasks);
     let at = start + TASK_SIZE * tasks;

@@ -2,13 +2,14 @@
 // link (source, target, cost, bytes).
 ghost use mathlib.Core.Path.{_≡_};
 ghost use mathlib.Core.Bool.{false};
+ghost use mathlib.Core.List.{[]};
 ghost use Prim.Native.Nat.{_+_, _*_, _/_, _≤_, _<_};
 ghost use lib.ListN.{length, getD};
 ghost use Rattle.workspace.specs.Area.{fixed, linkCountAt, taskCountAt};
-ghost use Rattle.sheet.specs.Sizes.{boardSize, unpackingSize, taskSize};
+ghost use Rattle.sheet.specs.Sizes.{boardSize, unpackingSize, cubeSize, taskSize};
 ghost use Rattle.sheet.specs.Format.{readForm};
-ghost use Rattle.sheet.specs.Writing.{valueBytes, taskValueBytes, linkValueBytes};
-ghost use Rattle.sheet.specs.Tables.{pairIn, Loaded, Filling, linkWords, pairWords};
+ghost use Rattle.sheet.specs.Writing.{cubeOf, valueBytes, taskValueBytes, linkValueBytes};
+ghost use Rattle.sheet.specs.Tables.{pairIn, Loaded, LoadedOf, Filling, linkWords, pairWords};
 ghost use Rattle.sheet_reader.specs.Answers.{ReadIs, valuesClosed};
 ghost use Rattle.sheet_reader.specs.Scanning.{readOn};
 use crate::Reading;
@@ -47,7 +48,7 @@ fn closing(links: &[u16], start: usize) -> Reading
 // The links' values, behind so many tasks: their commands begin at `start`.
 fn load_links(links: &[u16], start: usize, tasks: usize, w: &mut [u32]) -> Reading
     requires { ⌜ Filling (now w) ⌝ }
-    requires { ⌜ (tasks ≡ getD (now w) taskCountAt 0) × (getD (now w) linkCountAt 0 ≡ 0) × (start ≤ boardSize + unpackingSize + taskSize * tasks) ⌝ }
+    requires { ⌜ (tasks ≡ getD (now w) taskCountAt 0) × (getD (now w) linkCountAt 0 ≡ 0) × (start ≤ boardSize + unpackingSize + cubeSize + taskSize * tasks) ⌝ }
     ensures { λ r. ⌜ ReadIs (readOn (now (w .entry)) (linkValueBytes (now (links .entry))) start) (now (w .entry)) (now (w .exit)) r ⌝ }
 {
     let m = links.len() / 4;
@@ -67,7 +68,7 @@ fn load_links(links: &[u16], start: usize, tasks: usize, w: &mut [u32]) -> Readi
 // The tasks' values, whose commands begin at `start`, and then the links'.
 fn load_tasks(tasks: &[u16], links: &[u16], start: usize, w: &mut [u32]) -> Reading
     requires { ⌜ Loaded (now w) ⌝ }
-    requires { ⌜ (getD (now w) taskCountAt 0 ≡ 0) × (getD (now w) linkCountAt 0 ≡ 0) × (start ≤ boardSize + unpackingSize) ⌝ }
+    requires { ⌜ (getD (now w) taskCountAt 0 ≡ 0) × (getD (now w) linkCountAt 0 ≡ 0) × (start ≤ boardSize + unpackingSize + cubeSize) ⌝ }
     ensures { λ r. ⌜ ReadIs (readOn (now (w .entry)) (taskValueBytes (now (tasks .entry)) (now (links .entry))) start) (now (w .entry)) (now (w .exit)) r ⌝ }
 {
     let n = tasks.len() / 2;
@@ -88,17 +89,30 @@ fn load_tasks(tasks: &[u16], links: &[u16], start: usize, w: &mut [u32]) -> Read
     load_links(links, start + TASK_SIZE * n, n, w)
 }
 
+// The board's values in the tables.
+fn load_board(processors: u8, limit: u32, unpacking: u16, cube: bool, w: &mut [u32])
+    requires { ⌜ (fixed ≤ length (now w)) × (processors ≤ 16) ⌝ }
+    ensures { λ _. ⌜ LoadedOf (record { processors = processors; limit = limit; unpacking = unpacking; cube = cube; tasks = []; links = [] }) (now (w .entry)) (now (w .exit)) ⌝ }
+{
+    tables::put_board(w, processors, limit);
+    tables::put_unpacking(w, unpacking);
+    if cube {
+        tables::put_cube(w);
+    }
+}
+
 // A sheet's values in the tables, or the first of refusals 1 to 8 that the reader would give their bytes.
 pub fn load(
     processors: u8,
     limit: u32,
     unpacking: u16,
+    cube: u8,
     tasks: &[u16],
     links: &[u16],
     w: &mut [u32],
 ) -> Reading
     requires { ⌜ fixed ≤ length (now w) ⌝ }
-    ensures { λ r. ⌜ ReadIs (readForm (valueBytes processors limit unpacking (now (tasks .entry)) (now (links .entry)))) (now (w .entry)) (now (w .exit)) r ⌝ }
+    ensures { λ r. ⌜ ReadIs (readForm (valueBytes processors limit unpacking (cubeOf cube) (now (tasks .entry)) (now (links .entry)))) (now (w .entry)) (now (w .exit)) r ⌝ }
 {
     if processors < 1 {
         return Reading::Refused(6, 0);
@@ -106,7 +120,7 @@ pub fn load(
     if 16 < processors {
         return Reading::Refused(6, 0);
     }
-    tables::put_board(w, processors, limit);
-    tables::put_unpacking(w, unpacking);
-    load_tasks(tasks, links, sheet::front(unpacking as usize), w)
+    let wired = cube != 0;
+    load_board(processors, limit, unpacking, wired, w);
+    load_tasks(tasks, links, sheet::front(unpacking as usize, wired), w)
 }

@@ -1,6 +1,7 @@
 -- Records written one behind the other are their bytes.
-use Prim.Native.Nat.{ℕ, zero, suc, _+_, _*_, _/_, _%_, _≤_, zero-le}
+use Prim.Native.Nat.{ℕ, zero, suc, _+_, _*_, _/_, _%_, _≤_, _<_, zero-le}
 use mathlib.Core.Path.{_≡_, refl, sym, ap, ap₂, _∙_}
+use mathlib.Core.Bool.{Bool, true, false}
 use mathlib.Core.List.{List, [], _∷_, _++_, append-assoc, append-nil}
 use native.Mathlib.Nat.{suc-mul, zero-add, add-zero}
 use native.Mathlib.Omega.{arith}
@@ -9,12 +10,12 @@ use Rattle.numbers.specs.Number.{numberBytes, stored}
 use Rattle.numbers.proofs.Laws.{stored-then, stored-none, stored-one}
 use mathlib.Core.Logic.{_≢_}
 use borrow.Author.Tests.{eq-eqb, ne-eqb}
-use Rattle.folds.specs.Folds.{listed}
+use Rattle.folds.specs.Folds.{listed, pick}
 use Rattle.folds.proofs.Loops.{listed-zero, listed-one}
 use Rattle.sheet.specs.Sheet.{Task, Link}
-use Rattle.sheet.specs.Sizes.{boardSize, taskSize, linkSize, frontBy}
+use Rattle.sheet.specs.Sizes.{boardSize, cubeSize, taskSize, linkSize, frontBy}
 use Rattle.sheet.proofs.Fronts.{board-length}
-use Rattle.sheet.specs.Writing.{unpackingBytes, boardBytes, taskCommand, linkCommand, taskBytes, linkBytes, taskValue, linkValue, linkValueBytes, taskValueBytes, valueBytes, taskValues, linkValues}
+use Rattle.sheet.specs.Writing.{unpackingBytes, cubeBytes, boardBytes, taskCommand, linkCommand, taskBytes, linkBytes, taskValue, linkValue, linkValueBytes, taskValueBytes, valueBytes, taskValues, linkValues}
 
 -- records of one width: the bytes of one, and of a list of them
 module _ {X : Type 0} (size : ℕ) (one : X → List ℕ) (all : List X → List ℕ) (none : all [] ≡ [])
@@ -75,32 +76,48 @@ pub unpacking-stored : (b m r : List ℕ) (u : ℕ) → u ≢ 0 → boardSize �
     → r ≡ stored b boardSize (unpackingBytes u)
 unpacking-stored b m r u h l p q = rw (ne-eqb u 0 h) (stored-then b m r boardSize (boardSize + 1) (0x55 ∷ []) (numberBytes 2 u) p q refl l)
 
+-- no cube, or its command
+pub cube-none : (b : List ℕ) (at : ℕ) (c : Bool) → c ≡ false → b ≡ stored b at (cubeBytes c)
+cube-none b at c h = rw h (stored-nothing b at)
+
+module _ (b : List ℕ) (at : ℕ) (c : Bool) (h : c ≡ true) (room : at + pick c cubeSize 0 ≤ length b) where
+  pub cube-room : at < length b
+  cube-room = omega (arith, rw h at room)
+
+  pub cube-stored : set b at 0x48 ≡ stored b at (cubeBytes c)
+  cube-stored = rw h (stored-one b at 0x48 cube-room)
+
+-- how far the board reaches without a cube
+pub timed-length : (p l u : ℕ) → length (0x4D ∷ p ∷ (numberBytes 4 l ++ unpackingBytes u)) ≡ frontBy u false
+timed-length p l u = ap (λ (b : List ℕ). length (0x4D ∷ p ∷ (numberBytes 4 l ++ b))) (sym (append-nil (unpackingBytes u))) ∙ board-length p l u false
+
 -- the parts of a sheet, written one behind the other
-module _ (k c u : ℕ) (tv lv : List ℕ) (tasks-whole : length tv % 2 ≡ 0) (links-whole : length lv % 4 ≡ 0) where
+module _ (k c u : ℕ) (x : Bool) (tv lv : List ℕ) (tasks-whole : length tv % 2 ≡ 0) (links-whole : length lv % 4 ≡ 0) where
   abbrev taskPart : List ℕ
   taskPart = taskBytes (listed (length tv / 2) (taskValue tv))
 
   abbrev linkPart : List ℕ
   linkPart = linkBytes (listed (length lv / 4) (linkValue lv))
 
-  sheet-parts : boardBytes k c u ++ taskPart ++ linkPart ++ (0x51 ∷ []) ≡ valueBytes k c u tv lv
+  sheet-parts : boardBytes k c u x ++ taskPart ++ linkPart ++ (0x51 ∷ []) ≡ valueBytes k c u x tv lv
   unfolding valueBytes taskValueBytes linkValueBytes
-  sheet-parts = rw (eq-eqb (length tv % 2) 0 tasks-whole, eq-eqb (length lv % 4) 0 links-whole) (simp append-assoc)
+  sheet-parts = rw (eq-eqb (length tv % 2) 0 tasks-whole, eq-eqb (length lv % 4) 0 links-whole)
+      (append-assoc (boardBytes k c u x ++ taskPart) linkPart (0x51 ∷ []) ∙ append-assoc (boardBytes k c u x) taskPart (linkPart ++ (0x51 ∷ [])))
 
-  pub sheet-stored : (b m₁ m₂ m₃ : List ℕ) (start : ℕ) → start ≡ frontBy u → start + taskSize * (length tv / 2) + linkSize * (length lv / 4) + 1 ≤ length b
-      → m₁ ≡ stored b 0 (boardBytes k c u) → m₂ ≡ stored m₁ start taskPart → m₃ ≡ stored m₂ (start + taskSize * (length tv / 2)) linkPart
+  pub sheet-stored : (b m₁ m₂ m₃ : List ℕ) (start : ℕ) → start ≡ frontBy u x → start + taskSize * (length tv / 2) + linkSize * (length lv / 4) + 1 ≤ length b
+      → m₁ ≡ stored b 0 (boardBytes k c u x) → m₂ ≡ stored m₁ start taskPart → m₃ ≡ stored m₂ (start + taskSize * (length tv / 2)) linkPart
       → length m₃ ≡ length b
-      → set m₃ (start + taskSize * (length tv / 2) + linkSize * (length lv / 4)) 0x51 ≡ stored b 0 (valueBytes k c u tv lv)
+      → set m₃ (start + taskSize * (length tv / 2) + linkSize * (length lv / 4)) 0x51 ≡ stored b 0 (valueBytes k c u x tv lv)
   sheet-stored b m₁ m₂ m₃ start front fit p q r e =
       let at : ℕ = start + taskSize * (length tv / 2) in
-      let bl = board-length k c u in
+      let bl = board-length k c u x in
       let tl = tasks-length (taskValue tv) (length tv / 2) in
       let ll = links-length (linkValue lv) (length lv / 4) in
-      let p₂ = stored-then b m₁ m₂ 0 start (boardBytes k c u) taskPart p q (omega arith) zero-le in
-      let p₃ = stored-then b m₂ m₃ 0 at (boardBytes k c u ++ taskPart) linkPart p₂ r (omega (arith, length-append (boardBytes k c u) taskPart)) zero-le in
+      let p₂ = stored-then b m₁ m₂ 0 start (boardBytes k c u x) taskPart p q (omega arith) zero-le in
+      let p₃ = stored-then b m₂ m₃ 0 at (boardBytes k c u x ++ taskPart) linkPart p₂ r (omega (arith, length-append (boardBytes k c u x) taskPart)) zero-le in
       let last = stored-one m₃ (at + linkSize * (length lv / 4)) 0x51 (omega arith) in
-      stored-then b m₃ _ 0 (at + linkSize * (length lv / 4)) (boardBytes k c u ++ taskPart ++ linkPart) (0x51 ∷ []) p₃ last
-      (omega (arith, length-append (boardBytes k c u ++ taskPart) linkPart, length-append (boardBytes k c u) taskPart)) zero-le
+      stored-then b m₃ _ 0 (at + linkSize * (length lv / 4)) (boardBytes k c u x ++ taskPart ++ linkPart) (0x51 ∷ []) p₃ last
+      (omega (arith, length-append (boardBytes k c u x ++ taskPart) linkPart, length-append (boardBytes k c u x) taskPart)) zero-le
       ∙ ap (stored b 0) sheet-parts
 
 -- the same for values

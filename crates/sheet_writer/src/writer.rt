@@ -1,12 +1,13 @@
 // Writes a sheet's bytes from its values. Each part is handed what is left of the output.
 ghost use mathlib.Core.Path.{_≡_};
+ghost use mathlib.Core.Bool.{false};
 ghost use mathlib.Core.List.{_∷_, _++_};
 ghost use Prim.Native.Nat.{_+_, _*_, _/_, _%_, _≤_, _<_};
 ghost use lib.ListN.{length};
 ghost use Rattle.numbers.specs.Number.{numberBytes, stored};
-ghost use Rattle.folds.specs.Folds.{listed};
-ghost use Rattle.sheet.specs.Sizes.{boardSize, taskSize, linkSize, frontBy};
-ghost use Rattle.sheet.specs.Writing.{unpackingBytes, boardBytes, taskBytes, linkBytes, taskValue, linkValue, valueBytes, Narrow};
+ghost use Rattle.folds.specs.Folds.{listed, pick};
+ghost use Rattle.sheet.specs.Sizes.{boardSize, cubeSize, taskSize, linkSize, frontBy};
+ghost use Rattle.sheet.specs.Writing.{unpackingBytes, cubeBytes, boardBytes, taskBytes, linkBytes, taskValue, linkValue, valueBytes, Narrow};
 use sheet::BOARD_SIZE;
 use sheet::LINK_SIZE;
 use sheet::TASK_SIZE;
@@ -67,7 +68,7 @@ fn put_links(out: &mut [u8], links: &[u16])
 
 // The unpacking time behind the board command, where it is not 0.
 fn put_unpacking(out: &mut [u8], unpacking: u16)
-    requires { ⌜ frontBy unpacking ≤ length (now out) ⌝ }
+    requires { ⌜ frontBy unpacking false ≤ length (now out) ⌝ }
     ensures { λ _. ⌜ now (out .exit) ≡ stored (now (out .entry)) boardSize (unpackingBytes unpacking) ⌝ }
 {
     if unpacking == 0 {
@@ -77,14 +78,25 @@ fn put_unpacking(out: &mut [u8], unpacking: u16)
     numbers::put16(out, BOARD_SIZE + 1, unpacking);
 }
 
-pub fn put_board(out: &mut [u8], processors: u8, limit: u32, unpacking: u16)
-    requires { ⌜ frontBy unpacking ≤ length (now out) ⌝ }
-    ensures { λ _. ⌜ now (out .exit) ≡ stored (now (out .entry)) 0 (boardBytes processors limit unpacking) ⌝ }
+// The cube at `at`, where the board is one.
+fn put_cube(out: &mut [u8], at: usize, cube: bool)
+    requires { ⌜ at + pick cube cubeSize 0 ≤ length (now out) ⌝ }
+    ensures { λ _. ⌜ now (out .exit) ≡ stored (now (out .entry)) at (cubeBytes cube) ⌝ }
+{
+    if cube {
+        out[at] = 0x48;
+    }
+}
+
+pub fn put_board(out: &mut [u8], processors: u8, limit: u32, unpacking: u16, cube: bool)
+    requires { ⌜ frontBy unpacking cube ≤ length (now out) ⌝ }
+    ensures { λ _. ⌜ now (out .exit) ≡ stored (now (out .entry)) 0 (boardBytes processors limit unpacking cube) ⌝ }
 {
     out[0] = 0x4D;
     out[1] = processors;
     numbers::put32(out, 2, limit);
     put_unpacking(out, unpacking);
+    put_cube(out, sheet::front(unpacking as usize, false), cube);
 }
 
 // The whole sheet at the front of `out`.
@@ -93,15 +105,16 @@ pub fn put_sheet(
     processors: u8,
     limit: u32,
     unpacking: u16,
+    cube: bool,
     tasks: &[u16],
     links: &[u16],
 )
-    requires { ⌜ (frontBy unpacking + taskSize * (length (now tasks) / 2) + linkSize * (length (now links) / 4) + 1 ≤ length (now out)) × Narrow (now links) ⌝ }
+    requires { ⌜ (frontBy unpacking cube + taskSize * (length (now tasks) / 2) + linkSize * (length (now links) / 4) + 1 ≤ length (now out)) × Narrow (now links) ⌝ }
     requires { ⌜ (length (now tasks) % 2 ≡ 0) × (length (now links) % 4 ≡ 0) ⌝ }
-    ensures { λ _. ⌜ now (out .exit) ≡ stored (now (out .entry)) 0 (valueBytes processors limit unpacking (now (tasks .entry)) (now (links .entry))) ⌝ }
+    ensures { λ _. ⌜ now (out .exit) ≡ stored (now (out .entry)) 0 (valueBytes processors limit unpacking cube (now (tasks .entry)) (now (links .entry))) ⌝ }
 {
-    put_board(out, processors, limit, unpacking);
-    let start = sheet::front(unpacking as usize);
+    put_board(out, processors, limit, unpacking, cube);
+    let start = sheet::front(unpacking as usize, cube);
     put_tasks(&mut out[start..], tasks);
     let at = start + TASK_SIZE * (tasks.len() / 2);
     put_links(&mut out[at..], links);

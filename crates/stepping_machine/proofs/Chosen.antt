@@ -12,16 +12,16 @@ use lib.Seq.{getD-set-same, getD-set-other}
 use lib.Dec.{eqb}
 use borrow.Author.Tests.{eqb-true, not-false, eq-eqb}
 use Rattle.folds.specs.Folds.{pick}
-use Rattle.sheet.specs.Sheet.{Sheet, workOf, storeOf, costOf, bytesOf}
+use Rattle.sheet.specs.Sheet.{Sheet, workOf, storeOf, bytesOf}
 use Rattle.bundle.specs.Bundle.{Command, run, send, receive, Bundle, programmeOf}
 use Rattle.bundle.specs.Fits.{Known}
 use Rattle.admission.specs.Counting.{each, need as demands}
-use Rattle.machine.specs.Machine.{State, processorOf, stampOf, next, waits, takes, stated, moved, step, canStep, stampIn}
+use Rattle.machine.specs.Machine.{State, processorOf, stampOf, next, waits, takes, travels, stated, moved, step, canStep, stampIn}
 use Rattle.machine.specs.Runs.{chosen, left}
 use Rattle.machine.proofs.Steps.{move-step, left-moved, stamp-sent, stamp-other}
 use Rattle.machine.proofs.Kept.{goes, no-next, no-wait, none-of, step-is}
 use Rattle.stepping_machine.specs.Layout as lay
-use Rattle.stepping_machine.specs.Words.{Blank, nextIn, clockIn, storeIn, firstIn, stampedIn, kindIn, numberIn, amountIn, kindOf, numberOf, amountOf, wordOf, steppedWords, ranWords, sentWords, gotWords}
+use Rattle.stepping_machine.specs.Words.{Blank, nextIn, clockIn, storeIn, firstIn, stampedIn, kindIn, numberIn, amountIn, kindOf, numberOf, amountOf, wordBy, steppedWords, ranWords, sentWords, gotWords}
 use Rattle.stepping_machine.specs.Represents.{Represents, ChoiceIs}
 use Rattle.stepping_machine.proofs.Packing.{kind-small, amount-small, word-kind, word-number, word-amount}
 use Rattle.stepping_machine.proofs.Moves.{command-at, command-past, Moved, represents-moved, placed-moved, placed-stamp, length-stepped}
@@ -37,7 +37,7 @@ module _ (w : List ℕ) (k : ℕ) where
 -- what comes next in the programme, and what stands for it in the words
 data Coming (s : Sheet) (b : Bundle) (w : List ℕ) (σ : State) (k x : ℕ) : Type 0 where
   comes : (c : Command) → next b σ k ≡ some c → processorOf σ k .position < length (programmeOf b k) → Known s c
-      → kindIn x ≡ kindOf c → numberIn x ≡ numberOf c → amountIn x ≡ amountOf s c → Coming s b w σ k x
+      → kindIn x ≡ kindOf c → numberIn x ≡ numberOf c → amountIn x ≡ amountOf s b k c → Coming s b w σ k x
   over : next b σ k ≡ none → kindIn x ≡ 0 → Coming s b w σ k x
 
 module _ (w : List ℕ) (k : ℕ) (near : k < 16) (n : ℕ) (here : n ≡ nextIn w k) (x : ℕ) (there : x ≡ getD w n 0) where
@@ -50,13 +50,14 @@ module _ (w : List ℕ) (k : ℕ) (near : k < 16) (n : ℕ) (here : n ≡ nextIn
     coming =
         let d = h .programmed .decoded k near in
         let ranged = h .programmed .ranged in
+        let small = amount-small s b k ranged (h .programmed .few) near in
         let e : n ≡ firstIn w k + p = here ∙ h .next k near in
         elim (decLt p (length (programmeOf b k))) [
           | yes l ↦
               let c = getD (programmeOf b k) p (run 0) in
               let o = d .known p l in
-              let f : x ≡ wordOf s c = there ∙ ap (λ (i : ℕ). getD w i 0) e ∙ d .word p l in
-              comes c (command-at (programmeOf b k) p l) l o (word-kind s ranged c o x f) (word-number s ranged c o x f) (word-amount s ranged c o x f)
+              let f : x ≡ wordBy (amountOf s b k) c = there ∙ ap (λ (i : ℕ). getD w i 0) e ∙ d .word p l in
+              comes c (command-at (programmeOf b k) p l) l o (word-kind s ranged (amountOf s b k) small c o x f) (word-number s ranged (amountOf s b k) small c o x f) (word-amount s ranged (amountOf s b k) small c o x f)
           | no l ↦
               let q : p ≡ length (programmeOf b k) = omega (arith, h .inside k near) in
               let f : x ≡ 0 = there ∙ ap (λ (i : ℕ). getD w i 0) (e ∙ ap (λ (i : ℕ). firstIn w k + i) q) ∙ d .end in
@@ -132,12 +133,12 @@ module _ (w : List ℕ) (k : ℕ) (near : k < 16) (n : ℕ) (here : n ≡ nextIn
     sent-on z (comes (receive l) e j o f g a) = absurd (omega arith)
     sent-on z (comes (send l) e j o f g a) = rw (a, g) on
       where
-        on : (true ≡ canStep s b σ k) × Represents s b (sentWords w k (costOf s l) (lay.stamps + l)) (chosen σ (step s b σ k))
+        on : (true ≡ canStep s b σ k) × Represents s b (sentWords w k (travels s b k l) (lay.stamps + l)) (chosen σ (step s b σ k))
         on =
             let few = h .programmed .ranged .few-links in
             let long = h .programmed .long in
-            let far = costOf s l in
-            let short : far ≤ lay.most = amount-small s (h .programmed .ranged) (send l) o in
+            let far = travels s b k l in
+            let short : far ≤ lay.most = amount-small s b k (h .programmed .ranged) (h .programmed .few) near (send l) o in
             let r = h .room k near in
             let stamp = (clockIn w k + far + 1) % 4294967296 in
             let u = steppedWords w k 0 0 0 in

@@ -4,6 +4,7 @@ pub mod Moves
 pub mod Chosen
 pub mod Told
 pub mod Going
+pub mod Raising
 pub mod Loading
 pub mod Fresh
 pub mod Opening

@@ -13,6 +13,7 @@ use Rattle.folds.specs.Folds.{pick}
 use Rattle.folds.proofs.Tests.{below-suc}
 use Rattle.numbers.specs.Number.{numberAt}
 use Rattle.sheet.specs.Sheet.{Sheet, taskCount, linkCount, workOf, storeOf, costOf, bytesOf}
+use Rattle.sheet.specs.Sizes.{taskSize, linkSize}
 use Rattle.bundle.specs.Bundle.{Command, run, send, receive}
 use Rattle.bundle.specs.Fits.{Known as Declared}
 use Rattle.bundle.specs.Lies.{sizeOf, Stands, Lies}
@@ -25,10 +26,10 @@ use Rattle.admission.proofs.Walking.{drop-next, drop-short}
 use Rattle.admission.proofs.Noted.{stands-known}
 use Rattle.stepping_machine.specs.declared.decoding.Coded.{Coded}
 use Rattle.stepping_machine.specs.Layout as lay
-use Rattle.stepping_machine.specs.Words.{wordOf}
+use Rattle.stepping_machine.specs.Words.{plainAmount, wordBy}
 use Rattle.stepping_machine.specs.Represents.{Decoded}
 use Rattle.stepping_machine.specs.Loads.{Decodable, CodeIs, ProgrammeIs}
-use Rattle.stepping_machine.proofs.Packing.{word-fits}
+use Rattle.stepping_machine.proofs.Packing.{plain-small, word-fits}
 
 -- a number at an offset that is told
 pub number-there : (b : List ℕ) (i j x : ℕ) → x ≡ numberAt 2 b i → i ≡ j → x ≡ numberAt 2 b j
@@ -48,10 +49,10 @@ module _ (sheet bundle : List ℕ) (v : View) (o e : ℕ) (g : Decodable sheet b
       by (receive y) h = omega (arith, h .3)
 
   module _ (c : ℕ) (ec : c ≡ getD bundle o 0) where
-    pub task-inside : (t : ℕ) → c ≡ 0x52 → t ≡ getD bundle (o + 1) 0 → v .front + 5 * t + 5 ≤ length sheet
+    pub task-inside : (t : ℕ) → c ≡ 0x52 → t ≡ getD bundle (o + 1) 0 → v .front + taskSize * t + taskSize ≤ length sheet
     task-inside t z et = by (there .command) (there .stands)
       where
-        by : (d : Command) → Stands (v .tasks) (v .links) bundle o d → v .front + 5 * t + 5 ≤ length sheet
+        by : (d : Command) → Stands (v .tasks) (v .links) bundle o d → v .front + taskSize * t + taskSize ≤ length sheet
         by (run y) h = omega (arith, h .1, h .2, g .bounded .behind, g .inside)
         by (send y) h = absurd (omega (arith, h .0))
         by (receive y) h = absurd (omega (arith, h .0))
@@ -65,10 +66,10 @@ module _ (sheet bundle : List ℕ) (v : View) (o e : ℕ) (g : Decodable sheet b
           by (send y) h = h .3
           by (receive y) h = h .3
 
-      pub link-inside : (l : ℕ) → l ≡ numberAt 2 bundle (o + 1) → (v .middle + 7 * l + 7 ≤ length sheet) × ((c + 172) / 256 ≤ 1)
+      pub link-inside : (l : ℕ) → l ≡ numberAt 2 bundle (o + 1) → (v .middle + linkSize * l + linkSize ≤ length sheet) × ((c + 172) / 256 ≤ 1)
       link-inside l et = by (there .command) (there .stands)
         where
-          by : (x : Command) → Stands (v .tasks) (v .links) bundle o x → (v .middle + 7 * l + 7 ≤ length sheet) × ((c + 172) / 256 ≤ 1)
+          by : (x : Command) → Stands (v .tasks) (v .links) bundle o x → (v .middle + linkSize * l + linkSize ≤ length sheet) × ((c + 172) / 256 ≤ 1)
           by (run y) h = absurd (d (ec ∙ h .0))
           by (send y) h = (omega (arith, h .1, h .2, g .inside), omega (arith, h .0))
           by (receive y) h = (omega (arith, h .1, h .2, g .inside), omega (arith, h .0))
@@ -88,7 +89,7 @@ module _ (sheet bundle : List ℕ) (v : View) (o e : ℕ) (g : Decodable sheet b
 module _ (sheet bundle : List ℕ) (v : View) (o : ℕ) where
   pub coded-run : (c t a n : ℕ) (x : Coded) → c ≡ getD bundle o 0 → c ≡ 0x52 → t ≡ getD bundle (o + 1) 0 → a ≡ numberAt 2 sheet (workAt (v .front) t)
       → n ≡ numberAt 2 sheet (storeAt (v .front) t) → n < 65536 → x .word ≡ lay.kinds + lay.numbers * (lay.tasks + t) + a → x .size ≡ 2 → x .need ≡ n → CodeIs sheet bundle v o x
-  unfolding wordOf
+  unfolding wordBy
   coded-run c t a n x ec z et ea en fn ex es eq = record { some = omega arith; few = omega arith; small = omega arith; sized = long; is = by }
     where
       long : (t l : ℕ) (d : Command) → Stands t l bundle o d → x .size ≡ sizeOf d
@@ -96,7 +97,7 @@ module _ (sheet bundle : List ℕ) (v : View) (o : ℕ) where
       long t l (send y) h = absurd (omega (arith, h .0))
       long t l (receive y) h = absurd (omega (arith, h .0))
 
-      by : (s : Sheet) (d : Command) → Known s sheet v → Stands (taskCount s) (linkCount s) bundle o d → (x .word ≡ wordOf s d) × (x .need ≡ need s d)
+      by : (s : Sheet) (d : Command) → Known s sheet v → Stands (taskCount s) (linkCount s) bundle o d → (x .word ≡ wordBy (plainAmount s) d) × (x .need ≡ need s d)
       by s (run y) known h =
           let q : t ≡ y = et ∙ h .1 in
           let e : a ≡ workOf s y = ea ∙ ap (λ (i : ℕ). numberAt 2 sheet (workAt (v .front) i)) q ∙ known .fields .work y (h .2) in
@@ -108,7 +109,7 @@ module _ (sheet bundle : List ℕ) (v : View) (o : ℕ) where
   pub coded-message : (c l r a n : ℕ) (x : Coded) → c ≡ getD bundle o 0 → (c ≡ 0x52 → ⊥) → l ≡ numberAt 2 bundle (o + 1) → r ≡ (c + 172) / 256
       → a ≡ numberAt 2 sheet (costAt (v .middle) l + 2 * r) → a < 65536 → n ≡ pick (eqb r 1) a 0 → x .word ≡ 2 * lay.kinds + lay.kinds * r + lay.numbers * l + a → x .size ≡ 3 → x .need ≡ n
       → CodeIs sheet bundle v o x
-  unfolding wordOf
+  unfolding wordBy
   coded-message c l r a n x ec z et er ea fa en ex es eq = record { some = omega arith; few = omega arith; small = omega (arith, eq, few-need (eqb r 1)); sized = long; is = by }
     where
       few-pick : (b′ : Bool) → pick b′ a 0 ≤ a
@@ -123,7 +124,7 @@ module _ (sheet bundle : List ℕ) (v : View) (o : ℕ) where
       long t l (send y) h = es
       long t l (receive y) h = es
 
-      by : (s : Sheet) (d : Command) → Known s sheet v → Stands (taskCount s) (linkCount s) bundle o d → (x .word ≡ wordOf s d) × (x .need ≡ need s d)
+      by : (s : Sheet) (d : Command) → Known s sheet v → Stands (taskCount s) (linkCount s) bundle o d → (x .word ≡ wordBy (plainAmount s) d) × (x .need ≡ need s d)
       by s (run y) known h = absurd (z (ec ∙ h .0))
       by s (send y) known h =
           let q : l ≡ y = et ∙ h .1 in
@@ -134,7 +135,7 @@ module _ (sheet bundle : List ℕ) (v : View) (o : ℕ) where
       by s (receive y) known h =
           let q : l ≡ y = et ∙ h .1 in
           let n : r ≡ 1 = omega (arith, h .0) in
-          let j : costAt (v .middle) l + 2 * r ≡ v .middle + 5 + 7 * y = omega arith in
+          let j : costAt (v .middle) l + 2 * r ≡ v .middle + 5 + linkSize * y = omega arith in
           let e : a ≡ bytesOf s y = ea ∙ ap (numberAt 2 sheet) j ∙ known .fields .bytes y (h .2) in
           (omega arith, eq ∙ en ∙ rw (eq-eqb r 1 n) e)
 
@@ -152,7 +153,7 @@ pub record Part (s : Sheet) (bundle w : List ℕ) (e a from to sum : ℕ) (cs : 
   pub behind : to ≡ a + count
   pub few : count ≤ length cs
   pub known : (i : ℕ) → i < count → Declared s (getD cs i (run 0))
-  pub word : (i : ℕ) → i < count → getD w (a + i) 0 ≡ wordOf s (getD cs i (run 0))
+  pub word : (i : ℕ) → i < count → getD w (a + i) 0 ≡ wordBy (plainAmount s) (getD cs i (run 0))
   pub needed : sum ≡ weigh (need s) (take count cs)
 
 pub record Loading (sheet bundle u w : List ℕ) (v : View) (o e a from to sum : ℕ) : Type 0 where
@@ -205,8 +206,8 @@ module _ (sheet bundle u : List ℕ) (v : View) (o e a : ℕ) where
         let declared : Declared s c = stands-known s bundle from c (n .stands) in
         let inside : p .count < length cs = q .0 in
         let lw : to < length w = omega (arith, g .long, p .behind) in
-        let fits : d .word % 4294967296 ≡ wordOf s c = omega (arith, word-fits s (known .ranged) c declared (d .word) (y .0), y .0) in
-        let here : getD x to 0 ≡ wordOf s c = ap (λ (l : List ℕ). getD l to 0) ex ∙ getD-set-same w to (d .word % 4294967296) 0 lw ∙ fits in
+        let fits : d .word % 4294967296 ≡ wordBy (plainAmount s) c = omega (arith, word-fits s (known .ranged) (plainAmount s) (plain-small s (known .ranged)) c declared (d .word) (y .0), y .0) in
+        let here : getD x to 0 ≡ wordBy (plainAmount s) c = ap (λ (l : List ℕ). getD l to 0) ex ∙ getD-set-same w to (d .word % 4294967296) 0 lw ∙ fits in
         let behind : to ≡ a + p .count = p .behind in
         record {
           count = suc (p .count);
@@ -238,7 +239,7 @@ module _ (sheet bundle u : List ℕ) (v : View) (o e a : ℕ) where
     kept : (i : ℕ) → (i ≡ to → ⊥) → getD last i 0 ≡ getD w i 0
     kept i d = ap (λ (l : List ℕ). getD l i 0) el ∙ getD-set-other w to i 0 0 d
 
-    ended : (s : Sheet) (cs : List Command) → a + length cs < length u → Part s bundle w e a from to sum cs → (to ≡ a + length cs) × Decoded s last a cs × (sum ≡ weigh (need s) cs)
+    ended : (s : Sheet) (cs : List Command) → a + length cs < length u → Part s bundle w e a from to sum cs → (to ≡ a + length cs) × Decoded s (plainAmount s) last a cs × (sum ≡ weigh (need s) cs)
     ended s cs room p =
         let short = drop-short cs (p .count) (lies-none (taskCount s) (linkCount s) bundle (p .lies) over) in
         let all : p .count ≡ length cs = omega (arith, p .few, short) in

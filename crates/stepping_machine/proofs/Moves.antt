@@ -14,7 +14,7 @@ use Rattle.machine.specs.Machine.{State, processorOf, stampOf, next, takes, mov
 use Rattle.machine.specs.Runs.{left}
 use Rattle.machine.proofs.Steps.{each-of, left-moved, length-posted}
 use Rattle.stepping_machine.specs.Layout as lay
-use Rattle.stepping_machine.specs.Words.{nextIn, clockIn, storeIn, firstIn, stampedIn, placedWords, steppedWords}
+use Rattle.stepping_machine.specs.Words.{nextIn, clockIn, storeIn, firstIn, stampedIn, amountOf, placedWords, steppedWords}
 use Rattle.stepping_machine.specs.Represents.{Decoded, Programmed, Represents}
 
 -- the command at a place of a programme, and none behind it
@@ -29,8 +29,8 @@ command-past (c ∷ p) zero l = absurd (omega arith)
 command-past (c ∷ p) (suc i) l = command-past p i (omega arith)
 
 -- a programme in words that are the same where it stands
-pub decoded-same : (s : Sheet) (w v : List ℕ) (a : ℕ) (cs : List Command) → ((i : ℕ) → a ≤ i → i ≤ a + length cs → getD v i 0 ≡ getD w i 0) → Decoded s w a cs → Decoded s v a cs
-decoded-same s w v a cs same h =
+pub decoded-same : (s : Sheet) (amount : Command → ℕ) (w v : List ℕ) (a : ℕ) (cs : List Command) → ((i : ℕ) → a ≤ i → i ≤ a + length cs → getD v i 0 ≡ getD w i 0) → Decoded s amount w a cs → Decoded s amount v a cs
+decoded-same s amount w v a cs same h =
     record {
       known = h .known;
       word = λ i l. same (a + i) (omega arith) (omega arith) ∙ h .word i l;
@@ -77,8 +77,8 @@ module _ {w v : List ℕ} {k n c x : ℕ} (near : k < 16) (m : Moved w v k n c x
         decoded =
             λ j l.
             let f = h .low j l in
-            subst (λ (x : ℕ). Decoded s v x (programmeOf b j)) (sym (first-same j l))
-            (decoded-same s w v (firstIn w j) (programmeOf b j)
+            subst (λ (x : ℕ). Decoded s (amountOf s b j) v x (programmeOf b j)) (sym (first-same j l))
+            (decoded-same s (amountOf s b j) w v (firstIn w j) (programmeOf b j)
             (λ i n o. ⊎-elim (λ q. above i (omega arith) (inl (omega arith))) (λ q. above i (omega arith) (inr (omega arith))) (h .apart j l)) (h .decoded j l));
       }
 

@@ -1,5 +1,5 @@
 -- Programmes opened one behind the other, and the fresh state beside them.
-use Prim.Native.Nat.{ℕ, suc, _+_, _*_, _%_, _≤_, _<_}
+use Prim.Native.Nat.{ℕ, suc, _+_, _*_, _-_, _/_, _%_, _≤_, _<_}
 use mathlib.Core.Path.{_≡_, refl, sym, ap, _∙_, subst}
 use mathlib.Core.Bool.{false}
 use mathlib.Core.Logic.{_⊎_, inl, inr, ⊎-elim}
@@ -23,26 +23,28 @@ use Rattle.bundle.specs.Lies.{Lies}
 use Rattle.admission.specs.Counting.{weigh, wholeOf, whole, each, need}
 use Rattle.admission.specs.Messages.{overStore, at28}
 use Rattle.admission.specs.Fields.{storeAt}
+use Rattle.admission.specs.Notes.{slotsAt}
 use Rattle.admission.specs.declared.view.View.{View}
 use Rattle.admission.proofs.Weights.{weigh-each}
+use Rattle.admission.proofs.Walking.{laid-by}
 use Rattle.machine.specs.Machine.{freshState}
 use Rattle.stepping_machine.specs.Layout as lay
-use Rattle.stepping_machine.specs.Words.{nextIn, firstIn, lastIn, openedWords}
+use Rattle.stepping_machine.specs.Words.{nextIn, firstIn, lastIn, amountOf, openedWords}
 use Rattle.stepping_machine.specs.Represents.{Decoded, Programmed, Represents, Within}
-use Rattle.stepping_machine.specs.Loads.{Decodable, Ready, ProgrammeIs, Opens, OneIs, LaidOut, AllIs, RestIs, WipeIs, NeedsIs, LoadIs}
+use Rattle.stepping_machine.specs.Loads.{Decodable, Ready, ProgrammeIs, Opens, Homes, WaysIs, OneIs, LaidOut, AllIs, HomesIs, RestIs, WipeIs, NeedsIs, LoadIs}
 use Rattle.stepping_machine.proofs.Moves.{decoded-same}
 use Rattle.stepping_machine.proofs.Fresh.{fresh-represented}
 
 -- a processor stands so in words that are the same where it stands and where its programme does
-pub opens-same : (s : Sheet) (w u : List ℕ) (c d k : ℕ) (cs : List Command) → nextIn u k ≡ nextIn w k → firstIn u k ≡ firstIn w k → lastIn u k ≡ lastIn w k
-    → ((i : ℕ) → lay.commands ≤ i → i < c → getD u i 0 ≡ getD w i 0) → c ≤ d → Opens s w c k cs → Opens s u d k cs
-opens-same s w u c d k cs en ef el same more h =
+pub opens-same : (s : Sheet) (amount : Command → ℕ) (w u : List ℕ) (c d k : ℕ) (cs : List Command) → nextIn u k ≡ nextIn w k → firstIn u k ≡ firstIn w k → lastIn u k ≡ lastIn w k
+    → ((i : ℕ) → lay.commands ≤ i → i < c → getD u i 0 ≡ getD w i 0) → c ≤ d → Opens s amount w c k cs → Opens s amount u d k cs
+opens-same s amount w u c d k cs en ef el same more h =
     record {
       next = en ∙ h .next ∙ sym ef;
       low = omega (arith, h .low);
       high = omega (arith, h .high);
       last = el ∙ h .last ∙ ap (λ (i : ℕ). i + length cs) (sym ef);
-      decoded = rw ef (decoded-same s w u (firstIn w k) cs (λ i l m. same i (omega (arith, h .low)) (omega (arith, h .high))) (h .decoded));
+      decoded = rw ef (decoded-same s amount w u (firstIn w k) cs (λ i l m. same i (omega (arith, h .low)) (omega (arith, h .high))) (h .decoded));
     }
 
 -- the words of a processor that was opened, and the others
@@ -81,33 +83,38 @@ module _ (w u : List ℕ) (k first last : ℕ) (e : u ≡ openedWords w k first 
 pub decodable-at : (sheet bundle w : List ℕ) (v : View) (k x e : ℕ) → x ≡ getD w k 0 → e ≡ getD w (k + 1) 0 → Decodable sheet bundle v (getD w k 0 + 2) (getD w (suc k) 0) → Decodable sheet bundle v (x + 2) e
 decodable-at sheet bundle w v k x e ex ee g = rw (ex, ee, add-one) g
 
+-- words below the programmes that stay are the same homes
+homes-same : {s : Sheet} {b : Bundle} {w u : List ℕ} → ((i : ℕ) → lay.needs ≤ i → i < lay.commands → getD u i 0 ≡ getD w i 0) → taskCount s ≤ 256 → Homes s b w → Homes s b u
+homes-same same few h = record { at = λ c t l. same (lay.needs + t) (omega arith) (omega arith) ∙ h .at c t l }
+
 -- one programme, from the index c on
-pub one-loaded : (sheet bundle w u last : List ℕ) (v : View) (k c x e r n : ℕ) → k < 16 → lay.extent ≤ length w → lay.commands ≤ c → x ≡ getD w k 0 → e ≡ getD w (k + 1) 0 → e < 4294967296
-    → ProgrammeIs sheet bundle w u v (x + 2) e c r n → last ≡ openedWords u k (c % 4294967296) (r % 4294967296) → OneIs sheet bundle w last v k c (r + 1) n
-one-loaded sheet bundle w u last v k c x e r n near long behind ex ee fe p el =
+pub one-loaded : (sheet bundle w y u last : List ℕ) (v : View) (k c x e r n : ℕ) → k < 16 → lay.extent ≤ length w → lay.commands ≤ c → x ≡ getD w k 0 → e ≡ getD w (k + 1) 0 → e < 4294967296
+    → ProgrammeIs sheet bundle w y v (x + 2) e c r n → WaysIs sheet y u v k c r → last ≡ openedWords u k (c % 4294967296) (r % 4294967296) → OneIs sheet bundle w last v k c (r + 1) n
+one-loaded sheet bundle w y u last v k c x e r n near long behind ex ee fe p z el =
     record {
-      long = opened-long u last k _ _ el near ∙ p .long;
+      long = opened-long u last k _ _ el near ∙ z .long ∙ p .long;
       ahead = omega (arith, p .ahead);
       few = omega (arith, p .far);
-      low = λ i l a b d. opened-else u last k _ _ el near i a b d ∙ p .low i l;
+      low = λ i l a b d. opened-else u last k _ _ el near i a b d ∙ z .other i (inl l) ∙ p .low i l;
       is =
-          λ s cs known lies room.
+          λ s b cs known few homes lies room.
           let ek : e ≡ getD w (suc k) 0 = ee ∙ ap (λ (i : ℕ). getD w i 0) (add-one k) in
           let there : Lies (taskCount s) (linkCount s) bundle (x + 2) e cs = rw (ex, ek) lies in
-          let y = p .is s cs known there (omega arith) in
-          let fits : lay.extent ≤ length u = omega (arith, p .long) in
+          let y′ = p .is s cs known there (omega arith) in
+          let fits : lay.extent ≤ length u = omega (arith, z .long, p .long) in
+          let way = z .is s b cs known few (homes-same (λ i a d. p .low i (omega arith)) (known .ranged .few-tasks) homes) (y′ .0) (omega (arith, p .long, y′ .0)) (y′ .1) in
           let fc : c % 4294967296 ≡ c = omega arith in
-          let fr : r % 4294967296 ≡ c + length cs = omega (arith, y .0) in
+          let fr : r % 4294967296 ≡ c + length cs = omega (arith, y′ .0) in
           let f : firstIn last k ≡ c = opened-first u last k _ _ el near fits ∙ fc in (
-            omega (arith, y .0),
+            omega (arith, y′ .0),
             record {
               next = opened-next u last k _ _ el near fits ∙ fc ∙ sym f;
               low = omega arith;
-              high = omega (arith, y .0);
+              high = omega (arith, y′ .0);
               last = opened-last u last k _ _ el near fits ∙ fr ∙ ap (λ (i : ℕ). i + length cs) (sym f);
-              decoded = rw f (decoded-same s u last c cs (λ i l m. opened-else u last k _ _ el near i (λ q. omega arith) (λ q. omega arith) (λ q. omega arith)) (y .1));
+              decoded = rw f (decoded-same s (amountOf s b k) u last c cs (λ i l m. opened-else u last k _ _ el near i (λ q. omega arith) (λ q. omega arith) (λ q. omega arith)) way);
             },
-            y .2,
+            y′ .2,
           );
     }
 
@@ -117,8 +124,9 @@ pub record Going (sheet bundle u w : List ℕ) (v : View) (m c k : ℕ) : Type 0
   pub behind : lay.commands ≤ c
   pub few : c ≤ lay.commands + k * 4294967300
   pub rest : (i : ℕ) → k ≤ i → i < 17 → getD w i 0 ≡ getD u i 0
-  pub is : (s : Sheet) (b : Bundle) → LaidOut sheet bundle u v m s b
-      → (c ≡ lay.commands + sum k (wholeOf b each) + k) × ((j : ℕ) → j < k → Opens s w c j (programmeOf b j)) × ((j : ℕ) → j < k → overStore s b j ≡ false)
+  pub homes : (i : ℕ) → lay.needs ≤ i → i < lay.commands → getD w i 0 ≡ getD u i 0
+  pub is : (s : Sheet) (b : Bundle) → LaidOut sheet bundle u v m s b → Homes s b u
+      → (c ≡ lay.commands + sum k (wholeOf b each) + k) × ((j : ℕ) → j < k → Opens s (amountOf s b j) w c j (programmeOf b j)) × ((j : ℕ) → j < k → overStore s b j ≡ false)
 
 module _ (sheet bundle u : List ℕ) (v : View) (m : ℕ) (few : m ≤ 16) where
   pub going-starts : Going sheet bundle u u v m lay.commands 0
@@ -129,7 +137,8 @@ module _ (sheet bundle u : List ℕ) (v : View) (m : ℕ) (few : m ≤ 16) where
         behind = omega arith;
         few = omega arith;
         rest = λ i a b. refl;
-        is = λ s b given. (omega arith, λ j h. absurd (omega arith), λ j h. absurd (omega arith));
+        homes = λ i a b. refl;
+        is = λ s b given homes. (omega arith, λ j h. absurd (omega arith), λ j h. absurd (omega arith));
       }
 
   -- what the next programme asks
@@ -156,24 +165,24 @@ module _ (sheet bundle u : List ℕ) (v : View) (m : ℕ) (few : m ≤ 16) where
   sum-more b k = rw add-one (omega (arith, weigh-each (programmeOf b k)))
 
   module _ (w x : List ℕ) (c k r n : ℕ) (g : Going sheet bundle u w v m c k) (below : k < m) (h : OneIs sheet bundle w x v k c r n) where
-    module _ (s : Sheet) (b : Bundle) (given : LaidOut sheet bundle u v m s b) where
-      done : (r ≡ c + length (programmeOf b k) + 1) × Opens s x r k (programmeOf b k) × (n ≡ weigh (need s) (programmeOf b k))
+    module _ (s : Sheet) (b : Bundle) (given : LaidOut sheet bundle u v m s b) (homes : Homes s b u) where
+      done : (r ≡ c + length (programmeOf b k) + 1) × Opens s (amountOf s b k) x r k (programmeOf b k) × (n ≡ weigh (need s) (programmeOf b k))
       unfolding programmeCount programmeOf
       done =
           let inside : k < length (b .programmes) = omega (arith, given .programmes) in
           let lies = given .laid .lies k inside in
-          let p = g .is s b given in
-          h .is s (programmeOf b k) (given .known) (rw (g .rest k (omega arith) (omega arith), g .rest (suc k) (omega arith) (omega arith)) lies)
+          let p = g .is s b given homes in
+          h .is s b (programmeOf b k) (given .known) (given .few) (homes-same (g .homes) (given .known .ranged .few-tasks) homes) (rw (g .rest k (omega arith) (omega arith), g .rest (suc k) (omega arith) (omega arith)) lies)
           (omega (arith, p .0, room-for b k inside (given .short)))
 
-      opened : (j : ℕ) → j < k + 1 → Opens s x r j (programmeOf b j)
+      opened : (j : ℕ) → j < k + 1 → Opens s (amountOf s b j) x r j (programmeOf b j)
       opened j l =
           let d = done in
-          let p = g .is s b given in
+          let p = g .is s b given homes in
           let q = g .behind in
           ⊎-elim
           (λ (i : j < k).
-          opens-same s w x c r j (programmeOf b j) (h .low j (omega arith) (λ z. omega arith) (λ z. omega arith) (λ z. omega arith))
+          opens-same s (amountOf s b j) w x c r j (programmeOf b j) (h .low j (omega arith) (λ z. omega arith) (λ z. omega arith) (λ z. omega arith))
           (h .low (lay.firsts + j) (omega arith) (λ z. omega arith) (λ z. omega arith) (λ z. omega arith))
           (h .low (lay.lasts + j) (omega arith) (λ z. omega arith) (λ z. omega arith) (λ z. omega arith))
           (λ i a b. h .low i b (λ z. omega arith) (λ z. omega arith) (λ z. omega arith)) (omega (arith, d .0)) (p .1 j i))
@@ -191,13 +200,14 @@ module _ (sheet bundle u : List ℕ) (v : View) (m : ℕ) (few : m ≤ 16) where
           behind = omega (arith, g .behind, h .ahead);
           few = omega (arith, g .few, h .few);
           rest = λ i a b. let q = g .behind in h .low i (omega arith) (λ z. omega arith) (λ z. omega arith) (λ z. omega arith) ∙ g .rest i (omega arith) b;
+          homes = λ i a b. let q = g .behind in h .low i (omega arith) (λ z. omega arith) (λ z. omega arith) (λ z. omega arith) ∙ g .homes i a b;
           is =
-              λ s b given.
-              let p = g .is s b given in (
-                omega (arith, p .0, done s b given .0, sum-more b k),
-                opened s b given,
+              λ s b given homes.
+              let p = g .is s b given homes in (
+                omega (arith, p .0, done s b given homes .0, sum-more b k),
+                opened s b given homes,
                 λ j l.
-                    ⊎-elim (λ (i : j < k). p .2 j i) (λ (i : j ≡ k). rw i (le-ltb (s .limit) (wholeOf b (need s) k) (omega (arith, needs s b given, given .known .limited)))) (below-suc (rw add-one at l)),
+                    ⊎-elim (λ (i : j < k). p .2 j i) (λ (i : j ≡ k). rw i (le-ltb (s .limit) (wholeOf b (need s) k) (omega (arith, needs s b given homes, given .known .limited)))) (below-suc (rw add-one at l)),
               );
         }
 
@@ -207,11 +217,11 @@ module _ (sheet bundle u : List ℕ) (v : View) (m : ℕ) (few : m ≤ 16) where
         record {
           long = h .long ∙ g .long;
           is-28 =
-              λ s b given.
-              let p = g .is s b given in
+              λ s b given homes.
+              let p = g .is s b given homes in
               sym
               (first-found (programmeCount b) (overStore s b) k (p .2)
-              (lt-ltb (s .limit) (wholeOf b (need s) k) (omega (arith, needs s b given, given .known .limited))) (omega (arith, given .programmes)));
+              (lt-ltb (s .limit) (wholeOf b (need s) k) (omega (arith, needs s b given homes, given .known .limited))) (omega (arith, given .programmes)));
           opens = λ q. apart q;
         }
       where
@@ -223,11 +233,11 @@ module _ (sheet bundle u : List ℕ) (v : View) (m : ℕ) (few : m ≤ 16) where
   going-ends w c k e g =
       record {
         long = g .long;
-        is-28 = λ s b given. sym (none-first (programmeCount b) (overStore s b) (λ j l. g .is s b given .2 j (omega (arith, given .programmes))));
+        is-28 = λ s b given homes. sym (none-first (programmeCount b) (overStore s b) (λ j l. g .is s b given homes .2 j (omega (arith, given .programmes))));
         opens =
-            λ q s b given j l.
-            let p = g .is s b given in
-            opens-same s w w c (lay.commands + whole b each + m) j (programmeOf b j) refl refl refl (λ i a b. refl) (omega (arith, p .0, sum-all b k (omega (arith, given .programmes)))) (p .1 j (omega arith));
+            λ q s b given homes j l.
+            let p = g .is s b given homes in
+            opens-same s (amountOf s b j) w w c (lay.commands + whole b each + m) j (programmeOf b j) refl refl refl (λ i a b. refl) (omega (arith, p .0, sum-all b k (omega (arith, given .programmes)))) (p .1 j (omega arith));
       }
 
 -- processors without commands, one by one
@@ -320,11 +330,42 @@ pub record Waiting (s : Sheet) (b : Bundle) (w : List ℕ) (e k : ℕ) : Type 0 
   pub within : (firstIn w k + length (programmeOf b k) < lay.stamps) ⊎ ((lay.commands ≤ firstIn w k) × (firstIn w k + length (programmeOf b k) < e))
   pub high : firstIn w k + length (programmeOf b k) < lay.extent
   pub last : lastIn w k ≡ firstIn w k + length (programmeOf b k)
-  pub decoded : Decoded s w (firstIn w k) (programmeOf b k)
+  pub decoded : Decoded s (amountOf s b k) w (firstIn w k) (programmeOf b k)
+
+-- the programmes that run the tasks do not change where the programmes lie
+module _ (sheet bundle w u : List ℕ) (v : View) (m : ℕ) (h : HomesIs w u v) where
+  pub ready-still : Ready sheet bundle w v m → Ready sheet bundle u v m
+  ready-still y =
+      record {
+        bounded = y .bounded;
+        inside = y .inside;
+        programmes = y .programmes;
+        count = y .count;
+        few = y .few;
+        laid = laid-by (λ i j. h .other i (inl (omega (arith, y .count, y .few)))) (y .laid);
+        long = omega (arith, h .long, y .long);
+      }
+
+  module _ (s : Sheet) (b : Bundle) (given : LaidOut sheet bundle w v m s b) where
+    pub laid-still : LaidOut sheet bundle u v m s b
+    unfolding programmeCount
+    laid-still =
+        record {
+          known = given .known;
+          programmes = given .programmes;
+          few = given .few;
+          short = given .short;
+          laid = laid-by (λ i j. h .other i (inl (omega (arith, given .few)))) (given .laid);
+          homes = λ t l. ap (λ (x : ℕ). x / 4096 - 1) (h .other (slotsAt + t) (inr (omega arith))) ∙ given .homes t l;
+        }
+
+    pub homes-there : Homes s b u
+    homes-there =
+        record { at = λ c t l. h .homes (sym (given .known .wired) ∙ c) t (omega (arith, given .known .tasks)) ∙ given .homes t l }
 
 -- all together: the fresh state
 module _ (sheet bundle w a r d last : List ℕ) (v : View) (m : ℕ) (long : lay.extent ≤ length w) (p : AllIs sheet bundle w a v m Nothing) (q : RestIs a r m 16) (z : WipeIs r d m (v .links) (v .unpacking))
-    (n : NeedsIs sheet d last (v .front) (v .tasks)) (s : Sheet) (b : Bundle) (given : LaidOut sheet bundle w v m s b) where
+    (n : NeedsIs sheet d last (v .front) (v .tasks)) (s : Sheet) (b : Bundle) (given : LaidOut sheet bundle w v m s b) (homes : Homes s b w) where
   -- the index behind all commands
   abbrev end : ℕ
   end = lay.commands + whole b each + m
@@ -345,9 +386,9 @@ module _ (sheet bundle w a r d last : List ℕ) (v : View) (m : ℕ) (long : lay
       let em = given .programmes in
       let y = q .kept k l in
       let short = given .short in
-      let o : Opens s last end k (programmeOf b k) =
-      opens-same s a last end end k (programmeOf b k) (stays k (inl (omega arith)) ∙ y .0) (stays (lay.firsts + k) (inr (inl (omega arith, omega arith))) ∙ y .1)
-      (stays (lay.lasts + k) (inr (inl (omega arith, omega arith))) ∙ y .2) (λ i x h. stays i (inr (inr x)) ∙ q .other i (omega arith)) (omega arith) (p .opens refl s b given k l)
+      let o : Opens s (amountOf s b k) last end k (programmeOf b k) =
+      opens-same s (amountOf s b k) a last end end k (programmeOf b k) (stays k (inl (omega arith)) ∙ y .0) (stays (lay.firsts + k) (inr (inl (omega arith, omega arith))) ∙ y .1)
+      (stays (lay.lasts + k) (inr (inl (omega arith, omega arith))) ∙ y .2) (λ i x h. stays i (inr (inr x)) ∙ q .other i (omega arith)) (omega arith) (p .opens refl s b given homes k l)
       in
       record { next = o .next; low = omega (arith, o .low); within = inr (o .low, o .high); high = omega (arith, o .high); last = o .last; decoded = o .decoded }
 
@@ -400,18 +441,28 @@ module _ (sheet bundle w a r d last : List ℕ) (v : View) (m : ℕ) (long : lay
   pub loaded-within : Within b last end
   loaded-within = record { within = λ k h. every k h .within }
 
-pub load-over : (sheet bundle w last : List ℕ) (v : View) (m k : ℕ) (f : Found) → f ≡ At k → AllIs sheet bundle w last v m f → LoadIs sheet bundle w last v m (At k)
-load-over sheet bundle w last v m k f e p = record { long = p .long; is-28 = λ s b given. rw e at (p .is-28 s b given); represents = λ q. apart q }
+pub load-over : (sheet bundle w u last : List ℕ) (v : View) (m k : ℕ) (f : Found) → f ≡ At k → HomesIs w u v → AllIs sheet bundle u last v m f → LoadIs sheet bundle w last v m (At k)
+load-over sheet bundle w u last v m k f e h p =
+    record {
+      long = p .long ∙ h .long;
+      is-28 = λ s b given. rw e at (p .is-28 s b (laid-still sheet bundle w u v m h s b given) (homes-there sheet bundle w u v m h s b given));
+      represents = λ q. apart q;
+    }
   where
     apart : {X : Type 0} → At k ≡ Nothing → X
     apart z = let y : _≡_ {A = ℕ} 0 1 = cc in absurd (omega arith)
 
-pub load-fits : (sheet bundle w a r d last : List ℕ) (v : View) (m : ℕ) (f : Found) → lay.extent ≤ length w → f ≡ Nothing → AllIs sheet bundle w a v m f → RestIs a r m 16 → WipeIs r d m (v .links) (v .unpacking)
+pub load-fits : (sheet bundle w u a r d last : List ℕ) (v : View) (m : ℕ) (f : Found) → lay.extent ≤ length w → f ≡ Nothing → HomesIs w u v → AllIs sheet bundle u a v m f → RestIs a r m 16 → WipeIs r d m (v .links) (v .unpacking)
     → NeedsIs sheet d last (v .front) (v .tasks) → LoadIs sheet bundle w last v m Nothing
-load-fits sheet bundle w a r d last v m f long e p q z n =
-    let p′ : AllIs sheet bundle w a v m Nothing = subst (AllIs sheet bundle w a v m) e p in
+load-fits sheet bundle w u a r d last v m f long e h p q z n =
+    let p′ : AllIs sheet bundle u a v m Nothing = subst (AllIs sheet bundle u a v m) e p in
+    let long′ : lay.extent ≤ length u = omega (arith, h .long) in
     record {
-      long = n .long ∙ z .long ∙ q .long ∙ p .long;
-      is-28 = p′ .is-28;
-      represents = λ i s b given. (loaded-fresh sheet bundle w a r d last v m long p′ q z n s b given, loaded-within sheet bundle w a r d last v m long p′ q z n s b given);
+      long = n .long ∙ z .long ∙ q .long ∙ p .long ∙ h .long;
+      is-28 = λ s b given. p′ .is-28 s b (laid-still sheet bundle w u v m h s b given) (homes-there sheet bundle w u v m h s b given);
+      represents =
+          λ i s b given.
+          let g = laid-still sheet bundle w u v m h s b given in
+          let t = homes-there sheet bundle w u v m h s b given in
+          (loaded-fresh sheet bundle u a r d last v m long′ p′ q z n s b g t, loaded-within sheet bundle u a r d last v m long′ p′ q z n s b g t);
     }

@@ -43,6 +43,7 @@ use Rattle.admission.proofs.Written.{fields-read}
 use Rattle.machine.specs.Machine.{State, freshState}
 use Rattle.stepping_machine.specs.Layout as lay
 use Rattle.stepping_machine.specs.Represents.{Represents, Within}
+use Rattle.stepping_machine.specs.Words.{amountOf}
 use Rattle.stepping_machine.specs.Loads.{Ready, LaidOut, LoadIs}
 use Rattle.stepping_machine.specs.Starts.{AdmitIs, CopyIs, HandIs, BeginIs, OpenIs, starting, startedOf, BytesIs}
 use Rattle.stepping_machine.proofs.Moves.{decoded-same}
@@ -87,6 +88,7 @@ module _ (sheet bundle w u : List ℕ) (v : View) (f : Judged) (h : JudgeIs shee
           few = few;
           short = few-of-read s bundle b (k .ranged .few-tasks) (k .ranged .few-links) few bytes (p .0) (p .1);
           laid = h .laid s k b q;
+          homes = h .homes s k b q;
         }
       where
         first-of : (b : Bundle) → Fit m c claim ≡ Fit (programmeCount b) (commandCount b) (b .claim) → programmeCount b ≡ m
@@ -197,7 +199,7 @@ represents-same s b w u x l n e σ long el en same inside h =
             decoded =
                 λ k z.
                 rw (low (lay.firsts + k) (omega arith))
-                (decoded-same s w u _ _
+                (decoded-same s (amountOf s b k) w u _ _
                 (λ i a c. ⊎-elim (λ q. low i (omega arith)) (λ q. same .commands i (omega (arith, q .0)) (omega (arith, q .1))) (inside .within k z)) (p .decoded k z));
           };
       processors = h .processors;

@@ -15,12 +15,12 @@ use Rattle.machine.specs.Machine.{State, processorOf, stampOf, stampIn}
 use Rattle.machine.specs.Runs.{left}
 use Rattle.machine.specs.Kept.{StepIs}
 use Rattle.stepping_machine.specs.Layout as lay
-use Rattle.stepping_machine.specs.Words.{Blank, nextIn, clockIn, storeIn, firstIn, lastIn, countIn, linksIn, unpackingIn, stampedIn, needIn, wordOf}
+use Rattle.stepping_machine.specs.Words.{Blank, nextIn, clockIn, storeIn, firstIn, lastIn, countIn, linksIn, unpackingIn, stampedIn, needIn, amountOf, wordBy}
 
 -- the commands cs stand in the words w from the index a on, each by its word, and a 0 behind them
-pub record Decoded (s : Sheet) (w : List ℕ) (a : ℕ) (cs : List Command) : Type 0 where
+pub record Decoded (s : Sheet) (amount : Command → ℕ) (w : List ℕ) (a : ℕ) (cs : List Command) : Type 0 where
   pub known : (i : ℕ) → i < length cs → Known s (getD cs i (run 0))
-  pub word : (i : ℕ) → i < length cs → getD w (a + i) 0 ≡ wordOf s (getD cs i (run 0))
+  pub word : (i : ℕ) → i < length cs → getD w (a + i) 0 ≡ wordBy amount (getD cs i (run 0))
   pub end : getD w (a + length cs) 0 ≡ 0
 
 -- the programmes of b stand in the words w: every processor has one, though it may be empty
@@ -37,7 +37,7 @@ pub record Programmed (s : Sheet) (b : Bundle) (w : List ℕ) : Type 0 where
   pub apart : (k : ℕ) → k < 16 → (firstIn w k + length (programmeOf b k) < lay.stamps) ⊎ (lay.needs ≤ firstIn w k)
   pub high : (k : ℕ) → k < 16 → firstIn w k + length (programmeOf b k) < lay.extent
   pub last : (k : ℕ) → k < 16 → lastIn w k ≡ firstIn w k + length (programmeOf b k)
-  pub decoded : (k : ℕ) → k < 16 → Decoded s w (firstIn w k) (programmeOf b k)
+  pub decoded : (k : ℕ) → k < 16 → Decoded s (amountOf s b k) w (firstIn w k) (programmeOf b k)
 
 -- words w represent the state σ
 pub record Represents (s : Sheet) (b : Bundle) (w : List ℕ) (σ : State) : Type 0 where

@@ -3,8 +3,13 @@ use Prim.Native.Nat.{ℕ, _+_, _*_, _/_, _%_, _-_, max}
 use mathlib.Core.Path.{_≡_}
 use mathlib.Core.List.{List}
 use lib.ListN.{getD, set}
+use lib.Dec.{eqb}
+use Rattle.folds.specs.Folds.{pick}
 use Rattle.sheet.specs.Sheet.{Sheet, workOf, costOf, bytesOf}
-use Rattle.bundle.specs.Bundle.{Command, run, send, receive}
+use Rattle.sheet.specs.Hops.{hops}
+use Rattle.bundle.specs.Bundle.{Command, run, send, receive, Bundle}
+use Rattle.admission.specs.Fields.{targetAt}
+use Rattle.machine.specs.Machine.{travels}
 use Rattle.stepping_machine.specs.Layout as lay
 
 -- all words are 0
@@ -67,13 +72,26 @@ numberOf (run t) = lay.tasks + t
 numberOf (send l) = l
 numberOf (receive l) = l
 
-abbrev pub amountOf : Sheet → Command → ℕ
-amountOf s (run t) = workOf s t
-amountOf s (send l) = costOf s l
-amountOf s (receive l) = bytesOf s l
+-- its amount: of a send of processor k how long its message is under way, which on a board that is no cube is the cost
+abbrev pub amountOf : Sheet → Bundle → ℕ → Command → ℕ
+amountOf s b k (run t) = workOf s t
+amountOf s b k (send l) = travels s b k l
+amountOf s b k (receive l) = bytesOf s l
 
-unfoldable pub wordOf : Sheet → Command → ℕ
-wordOf s c = codeOf (kindOf c) (numberOf c) (amountOf s c)
+abbrev pub plainAmount : Sheet → Command → ℕ
+plainAmount s (run t) = workOf s t
+plainAmount s (send l) = costOf s l
+plainAmount s (receive l) = bytesOf s l
+
+-- the word of a command, by its amount
+unfoldable pub wordBy : (Command → ℕ) → Command → ℕ
+wordBy amount c = codeOf (kindOf c) (numberOf c) (amount c)
+
+-- on a cube, the word x of a command of processor k that was read with the cost of its message: the target's number stands in the sheet's bytes, and the processor
+-- that runs it in the needs' words
+unfoldable pub raisedWord : List ℕ → List ℕ → ℕ → ℕ → ℕ → ℕ
+raisedWord sheet w middle k x =
+    pick (eqb (kindIn x) 2) (x + amountIn x * hops (k % 16) (needIn w (getD sheet (targetAt middle (numberIn x)) 0) % 16) - amountIn x) x
 
 -- processor k at a command, a clock and a store
 unfoldable pub placedWords : List ℕ → ℕ → ℕ → ℕ → ℕ → List ℕ

@@ -19,6 +19,8 @@ use crate::UNPACKING;
 use crate::decoding::decode;
 use crate::decoding::pair;
 use crate::put;
+use crate::ways::homes;
+use crate::ways::ways;
 use admission::view::View;
 use workspace::total::Found;
 
@@ -74,6 +76,7 @@ fn load_one(sheet: &[u8], bundle: &[u8], w: &mut [u32], v: View, k: usize, c: us
     let e = workspace::word(w, k + 1);
     let x = load_programme(sheet, bundle, w, v, o, e, c);
     let end = x.end;
+    ways(sheet, w, v, k, c, end);
     open_programme(w, k, c, end);
     Extent {
         end: end + 1,
@@ -141,6 +144,7 @@ pub fn load(sheet: &[u8], bundle: &[u8], w: &mut [u32], v: View, m: usize) -> Fo
     requires { ⌜ Ready (now sheet) (now bundle) (now w) v m ⌝ }
     ensures { λ r. ⌜ LoadIs (now (sheet .entry)) (now (bundle .entry)) (now (w .entry)) (now (w .exit)) v m r ⌝ }
 {
+    homes(w, v);
     match load_all(sheet, bundle, w, v, m) {
         Found::At(k) => Found::At(k),
         Found::Nothing => {

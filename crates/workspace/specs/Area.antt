@@ -10,7 +10,7 @@ use lib.ListN.{length, getD}
 abbrev pub fixed : ℕ
 fixed = 4992
 
--- the board: the numbers of tasks and of links, the processors, the limit and the unpacking time
+-- the board: the numbers of tasks and of links, the processors, the limit, the unpacking time, and 1 where the processors are wired as a cube
 abbrev pub taskCountAt : ℕ
 taskCountAt = 0
 
@@ -25,6 +25,9 @@ limitAt = 3
 
 abbrev pub unpackingAt : ℕ
 unpackingAt = 4
+
+abbrev pub cubeAt : ℕ
+cubeAt = 5
 
 -- task t (of 256): work + 65536 * store
 abbrev pub tasksAt : ℕ

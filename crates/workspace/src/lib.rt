@@ -20,6 +20,8 @@ pub const LIMIT: usize = 3;
 
 pub const UNPACKING: usize = 4;
 
+pub const CUBE: usize = 5;
+
 pub const TASKS: usize = 16;
 
 pub const LINKS: usize = 272;

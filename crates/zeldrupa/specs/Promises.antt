@@ -40,9 +40,9 @@ unfoldable pub levelsAnswer : List ℕ → ℕ → ℕ → Answer (List ℕ)
 levelsAnswer sheet work out = longEnough fixed work (andThen (readSheet sheet) (λ s. fitting out (levelsOf s)))
 
 -- zeldrupa_write_sheet: "A writer refuses values as the reader would refuse their bytes, then 12"
-unfoldable pub writeSheetAnswer : ℕ → ℕ → ℕ → List ℕ → List ℕ → ℕ → ℕ → Answer (List ℕ)
-writeSheetAnswer processors limit unpacking tasks links work out =
-    let bytes = sheets.valueBytes processors limit unpacking tasks links in
+unfoldable pub writeSheetAnswer : ℕ → ℕ → ℕ → ℕ → List ℕ → List ℕ → ℕ → ℕ → Answer (List ℕ)
+writeSheetAnswer processors limit unpacking cube tasks links work out =
+    let bytes = sheets.valueBytes processors limit unpacking (sheets.cubeOf cube) tasks links in
     longEnough fixed work (andThen (readSheet bytes) (λ s. fitting out bytes))
 
 -- zeldrupa_generate: the bytes of the sheet that a seed gives
@@ -54,7 +54,7 @@ abbrev pub GivesGenerated : ℕ → ℕ → ℕ → ℕ → ℕ → List ℕ →
 GivesGenerated seed tasks tries processors limit work work′ out =
     Gives (generateAnswer seed tasks tries processors limit (length work) (length out)) work work′ out
 
--- zeldrupa_read_sheet: two values a task, four a link, and the board's five words
+-- zeldrupa_read_sheet: two values a task, four a link, and the board's six words
 unfoldable pub readSheetAnswer : List ℕ → ℕ → ℕ → ℕ → Answer Sheet
 readSheetAnswer sheet work tasks links = longEnough fixed work (andThen (readSheet sheet) (tabled tasks links))
 

@@ -10,14 +10,14 @@ use entry_points::runs;
 use entry_points::sheets;
 use formulas::Weight;
 
-// Reads a sheet into its tables: two values a task, four a link; processors, limit, tasks, links and the unpacking time into `board`.
+// Reads a sheet into its tables: two values a task, four a link; processors, limit, tasks, links, the unpacking time, and 1 for a cube into `board`.
 #[no_mangle]
 pub extern "C" fn zeldrupa_read_sheet(
     sheet: &[u8],
     work: &mut [u32],
     tasks: &mut [u16],
     links: &mut [u16],
-    board: &mut [u32; 5],
+    board: &mut [u32; 6],
     place: &mut u64,
 ) -> u8
     ensures { λ r. ⌜ GivesSheet (readSheetAnswer (now (sheet .entry)) (length (now (work .entry))) (length (now (tasks .entry))) (length (now (links .entry)))) (now (work .entry)) (now (work .exit)) (now (tasks .entry)) (now (tasks .exit)) (now (links .entry)) (now (links .exit)) (now (board .entry)) (now (board .exit)) (now (place .exit)) r ⌝ }
@@ -31,25 +31,26 @@ pub extern "C" fn zeldrupa_read_sheet(
     ending::conclude(o, place)
 }
 
-// Writes a sheet from its values.
+// Writes a sheet from its values. A `cube` of 0 writes no 48, any other one.
 #[no_mangle]
 pub extern "C" fn zeldrupa_write_sheet(
     processors: u8,
     limit: u32,
     unpacking: u16,
+    cube: u8,
     tasks: &[u16],
     links: &[u16],
     work: &mut [u32],
     out: &mut [u8],
     place: &mut u64,
 ) -> u8
-    ensures { λ r. ⌜ Gives (writeSheetAnswer processors limit unpacking (now (tasks .entry)) (now (links .entry)) (length (now (work .entry))) (length (now (out .entry)))) (now (work .entry)) (now (work .exit)) (now (out .entry)) (now (out .exit)) (now (place .exit)) r ⌝ }
+    ensures { λ r. ⌜ Gives (writeSheetAnswer processors limit unpacking cube (now (tasks .entry)) (now (links .entry)) (length (now (work .entry))) (length (now (out .entry)))) (now (work .entry)) (now (work .exit)) (now (out .entry)) (now (out .exit)) (now (place .exit)) r ⌝ }
 {
     if work.len() < workspace::LENGTH {
         *place = workspace::LENGTH as u64;
         return 13;
     }
-    let o = sheets::write(processors, limit, unpacking, tasks, links, work, out);
+    let o = sheets::write(processors, limit, unpacking, cube, tasks, links, work, out);
     workspace::clear(work);
     ending::conclude(o, place)
 }

@@ -57,7 +57,7 @@ pub fn clearing() -> Times {
 
 fn reading(case: &Case) -> Pair {
     let mut work = area();
-    let (mut tasks, mut links, mut board) = ([0; 2 * MOST_TASKS], [0; 4 * MOST_LINKS], [0; 5]);
+    let (mut tasks, mut links, mut board) = ([0; 2 * MOST_TASKS], [0; 4 * MOST_LINKS], [0; 6]);
     let (mut own_tasks, mut own_links) = (tasks, links);
     both(
         case,

@@ -116,21 +116,25 @@ fn long_formulas() -> impl Iterator<Item = Vec<u8>> {
     })
 }
 
-/// Each shape of the largest sheet, the typical sheet, random and typical ones with unpacking, K1, a bare board;
-/// formulas; and test loads of seeds 1 to 8 of the largest and the typical size.
+/// Each shape of the largest sheet, the typical sheet, random and typical ones with unpacking, on a cube and
+/// with both, K1, a bare board; formulas; and test loads of seeds 1 to 8 of the largest and the typical size.
 pub fn all() -> Vec<Case> {
     let largest = LARGEST.map(|shape| Case::made(shape.name(), |random| shape.sheet(random)));
     let typical = Case::made("typical", shapes::typical);
-    let unpacked = [
-        Case::made("random unpacked", |random| shapes::unpacked(Largest::Random.sheet(random))),
+    let any = |random: &mut Random| Largest::Random.sheet(random);
+    let dressed = [
+        Case::made("random unpacked", |random| shapes::unpacked(any(random))),
         Case::made("typical unpacked", |random| shapes::unpacked(shapes::typical(random))),
+        Case::made("random cube", |random| shapes::cubed(any(random))),
+        Case::made("typical cube", |random| shapes::cubed(shapes::typical(random))),
+        Case::made("unpacked cube", |random| shapes::unpacked(shapes::cubed(any(random)))),
     ];
     let small = [Case::of("K1", trials::k1_sheet()), Case::of("bare", trials::bare_sheet())];
     let short = Case::weighed("formulas", FORMULAS.map(|text| text.as_bytes().to_vec()));
     let formulas = [short, Case::weighed("long formulas", long_formulas())];
     let loads =
         [Case::loads("largest loads", 256, 1024, 16), Case::loads("typical loads", 40, 80, 8)];
-    let others = unpacked.into_iter().chain(small).chain(formulas).chain(loads);
+    let others = dressed.into_iter().chain(small).chain(formulas).chain(loads);
     largest.into_iter().chain([typical]).chain(others).collect()
 }
 

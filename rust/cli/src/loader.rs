@@ -100,6 +100,7 @@ impl Loader {
                 processors: board.processors,
                 limit: board.limit,
                 unpacking: board.unpacking,
+                cube: board.cube.into(),
                 tasks: tasks.iter().flat_map(|task| task.values()).collect(),
                 links: links.iter().flat_map(|link| link.values()).collect(),
             };

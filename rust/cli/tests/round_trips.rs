@@ -129,6 +129,8 @@ fn texts_are_packed_and_planned() {
         (["plan", "buoy.txt"], "buoy.bundle"),
         (["pack", "unpacking.txt"], "unpacking.sheet"),
         (["plan", "unpacking.txt"], "unpacking.bundle"),
+        (["pack", "cube.txt"], "cube.sheet"),
+        (["plan", "cube.txt"], "cube.bundle"),
     ] {
         let output = scratch.run(&[&arguments[..], &["-o", "-"]].concat(), None);
         assert_eq!(output.stdout, fs::read(scratch.path(file)).unwrap(), "{file}");

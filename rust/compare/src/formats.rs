@@ -47,7 +47,7 @@ impl<R: Rules> Comparison<R> {
 
     /// Writes the sheet of these values.
     pub fn write_sheet(&mut self, values: &sheets::Sheet) -> Outcome {
-        let sheets::Sheet { processors, limit, unpacking, ref tasks, ref links } = *values;
+        let sheets::Sheet { processors, limit, unpacking, cube, ref tasks, ref links } = *values;
         let before = (tasks.clone(), links.clone());
         self.one_output(
             Function::WriteSheet,
@@ -55,11 +55,14 @@ impl<R: Rules> Comparison<R> {
                 ("processors", &processors),
                 ("limit", &limit),
                 ("unpacking", &unpacking),
+                ("cube", &cube),
                 ("tasks", &tasks.as_slice()),
                 ("links", &links.as_slice()),
             ],
             &R::write_sheet(values),
-            |work, out| product::write_sheet(processors, limit, unpacking, tasks, links, work, out),
+            |work, out| {
+                product::write_sheet(processors, limit, unpacking, cube, tasks, links, work, out)
+            },
             |_| (*tasks != before.0 || *links != before.1).then_some("the input"),
         )
     }

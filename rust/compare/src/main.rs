@@ -21,7 +21,7 @@ use reference::refusal::STUCK;
 use rules::Rules;
 use std::env;
 use std::process::ExitCode;
-use tally::{Function, Tally, FUNCTIONS};
+use tally::{Function, Tally, DRESSED, FUNCTIONS};
 
 const THREADS: usize = 2;
 /// The fewest calls that count as a comparison.
@@ -35,9 +35,10 @@ const FEWEST_STUCK: usize = 3000;
 const FEWEST_FORMULAS: usize = 1_000_000;
 /// The fewest test loads.
 const FEWEST_LOADS: usize = 50_000;
-/// The fewest sheets with unpacking that are planned, against the fast rewrite and against the literal
-/// rules.
-const FEWEST_UNPACKING: [usize; 2] = [50_000, 1_000_000];
+/// The fewest sheets with unpacking, of cubes, and with a number that is skipped, that are planned,
+/// against the fast rewrite and against the literal rules.
+const FEWEST_DRESSED: [[usize; DRESSED]; 2] =
+    [[50_000, 50_000, 3000], [1_000_000, 1_000_000, 30_000]];
 /// The fewest lists of choices with early ends, and how many of them have to be done before the claim.
 const FEWEST_EARLY: [usize; 2] = [100_000, 10_000];
 /// The fewest calls of each function that are held against the literal rules.
@@ -115,19 +116,18 @@ fn fast_shortfalls(tally: &Tally) -> Vec<String> {
         ("pairs that get stuck", tally.answers(Function::Check, STUCK), FEWEST_STUCK),
         ("formulas", tally.calls_of(Function::Weight), FEWEST_FORMULAS),
         ("test loads", tally.calls_of(Function::Generate), FEWEST_LOADS),
-        ("sheets with unpacking", tally.with_unpacking(), FEWEST_UNPACKING[0]),
     ];
-    counts.into_iter().filter_map(shortfall).collect()
+    counts.into_iter().chain(tally.dressed(FEWEST_DRESSED[0])).filter_map(shortfall).collect()
 }
 
 /// What was held against the literal rules too seldom.
 fn literal_shortfalls(tally: &Tally) -> Vec<String> {
     let calls = FUNCTIONS.map(|f| (f.name(), tally.calls_of(f), FEWEST_OF_EACH));
-    let inputs = [
-        ("sheets with unpacking", tally.with_unpacking(), FEWEST_UNPACKING[1]),
+    let early = [
         ("lists with early ends", tally.early_ends()[0], FEWEST_EARLY[0]),
         ("lists done before the claim", tally.early_ends()[1], FEWEST_EARLY[1]),
     ];
+    let inputs = tally.dressed(FEWEST_DRESSED[1]).chain(early);
     calls.into_iter().chain(inputs).filter_map(shortfall).collect()
 }
 

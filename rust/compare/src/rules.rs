@@ -87,8 +87,8 @@ impl Rules for Fast {
     }
 
     fn write_sheet(values: &sheets::Sheet) -> Answered<Vec<u8>> {
-        let sheets::Sheet { processors, limit, unpacking, ref tasks, ref links } = *values;
-        let sheet = Sheet::from_values(processors, limit, unpacking, tasks, links);
+        let sheets::Sheet { processors, limit, unpacking, cube, ref tasks, ref links } = *values;
+        let sheet = Sheet::from_values(processors, limit, unpacking, cube != 0, tasks, links);
         sheet.map(|sheet| sheet.to_bytes()).map_err(refusal)
     }
 
@@ -146,6 +146,9 @@ impl Rules for Fast {
             }),
             Err(refusal) => Err(*refusal),
         };
+        if let Ok(plan) = &plan {
+            tally.count_plan(plan.placements.iter().map(|placement| placement.processor.into()));
+        }
         let lines = listing::lines(&plan);
         let bundle = sheet.and_then(|sheet| plan.map(|plan| plan.to_bundle(&sheet)));
         (bundle.map_err(refusal), lines)
@@ -219,8 +222,8 @@ impl Rules for Literal {
     }
 
     fn write_sheet(values: &sheets::Sheet) -> Answered<Vec<u8>> {
-        let sheets::Sheet { processors, limit, unpacking, ref tasks, ref links } = *values;
-        literal::interface::write_sheet(processors, limit, unpacking, tasks, links)
+        let sheets::Sheet { processors, limit, unpacking, cube, ref tasks, ref links } = *values;
+        literal::interface::write_sheet(processors, limit, unpacking, cube, tasks, links)
     }
 
     fn generate(load: Load) -> Answered<Vec<u8>> {
@@ -264,9 +267,11 @@ impl Rules for Literal {
     }
 
     fn plan(sheet: &[u8], tally: &mut Tally) -> (Answered<Vec<u8>>, Vec<u8>) {
-        for placed in literal::interface::placed(sheet).iter().flatten() {
+        let placed = literal::interface::placed(sheet);
+        for placed in placed.iter().flatten() {
             tally.count_turn(placed.step as usize, [placed.join_guarded, placed.share_guarded]);
         }
+        tally.count_plan(placed.iter().flatten().map(|placed| placed.processor));
         (literal::interface::plan(sheet), literal::interface::listing(sheet))
     }
 

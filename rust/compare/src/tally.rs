@@ -104,6 +104,11 @@ const STEPS: usize = 5;
 const RULES: [&str; STEPS + 2] =
     ["join", "idle", "share", "open", "last resort", "the guard at join", "the guard at share"];
 
+/// What boards have beside processors and a limit, and plans beside full numbers.
+pub const DRESSED: usize = 3;
+const DRESSES: [&str; DRESSED] =
+    ["sheets with unpacking", "sheets of cubes", "plans that skip a number"];
+
 /// What decides between two bundles: one is refused, the claims, the processors that run a task, the
 /// bytes, or nothing.
 pub const REASONS: [&str; 5] = ["acceptance", "claim", "processors", "bytes", "order of lending"];
@@ -115,8 +120,9 @@ pub struct Tally {
     counts: [[usize; GREATEST as usize + 1]; FUNCTIONS.len()],
     rules: [usize; RULES.len()],
     reasons: [usize; REASONS.len()],
-    /// How many sheets that were planned have a `55` directly behind the board, wrong ones among them.
-    unpacking: usize,
+    /// How many sheets that were planned have a `55` directly behind the board, and a `48` behind these,
+    /// wrong ones among them; and how many plans have an empty programme.
+    dressed: [usize; DRESSED],
     /// How many lists of choices with early ends were run to their ends, and how many of them were done
     /// before the claim.
     early: [usize; 2],
@@ -128,7 +134,7 @@ impl Default for Tally {
             counts: [[0; GREATEST as usize + 1]; FUNCTIONS.len()],
             rules: [0; RULES.len()],
             reasons: [0; REASONS.len()],
-            unpacking: 0,
+            dressed: [0; DRESSED],
             early: [0; 2],
         }
     }
@@ -140,14 +146,27 @@ impl Tally {
         self.counts[function as usize][usize::from(number)] += 1;
     }
 
-    /// Counts a sheet that is planned, if it says how long receives take.
+    /// Counts a sheet that is planned by what its board has.
     pub fn count_sheet(&mut self, sheet: &[u8]) {
-        self.unpacking += usize::from(sheet.get(6) == Some(&0x55));
+        let unpacking = sheet.get(6) == Some(&0x55);
+        let cube = sheet.get(if unpacking { 9 } else { 6 }) == Some(&0x48);
+        self.dressed[0] += usize::from(unpacking);
+        self.dressed[1] += usize::from(cube);
     }
 
-    /// The sheets that say how long receives take.
-    pub fn with_unpacking(&self) -> usize {
-        self.unpacking
+    /// Counts a plan by the processors that run its tasks, if numbers below the highest are skipped.
+    pub fn count_plan(&mut self, processors: impl Iterator<Item = usize>) {
+        let used = processors.fold(0u32, |used, k| used | 1 << k);
+        self.dressed[2] += usize::from(used & (used + 1) != 0);
+    }
+
+    /// What was counted so, with the fewest that there have to be.
+    pub fn dressed(
+        &self,
+        fewest: [usize; DRESSED],
+    ) -> impl Iterator<Item = (&'static str, usize, usize)> + '_ {
+        let counts = DRESSES.iter().zip(&self.dressed).zip(fewest);
+        counts.map(|((name, count), fewest)| (*name, *count, fewest))
     }
 
     /// Counts a list of choices with early ends, by whether it was done before the claim.
@@ -180,8 +199,8 @@ impl Tally {
         let counts = counts.chain(&mut self.rules).chain(&mut self.reasons).chain(&mut self.early);
         let more = other.counts.as_flattened().iter().chain(&other.rules).chain(&other.reasons);
         let more = more.chain(&other.early);
+        let (counts, more) = (counts.chain(&mut self.dressed), more.chain(&other.dressed));
         counts.zip(more).for_each(|(count, more)| *count += more);
-        self.unpacking += other.unpacking;
     }
 
     /// All answers.
@@ -207,7 +226,9 @@ impl Tally {
             let named = names.iter().zip(counts).map(|(name, count)| format!("{name} {count}"));
             println!("{what} decided by {}", named.collect::<Vec<_>>().join(", "));
         }
-        println!("sheets with unpacking {}", self.unpacking);
+        for (name, count) in DRESSES.iter().zip(self.dressed) {
+            println!("{name} {count}");
+        }
         let [lists, before] = self.early;
         println!("lists with early ends {lists}, done before the claim {before}");
         for functions in FUNCTIONS.chunks(COLUMNS) {

@@ -137,7 +137,9 @@ impl<'a> Run<'a> {
                 self.hand_on(operand);
             }
             SEND => {
-                self.stamps[operand] = self.clocks[k] + u32::from(self.links[operand][2]);
+                let link = self.links[operand];
+                let hops = self.sheet.hops(k, self.place[usize::from(link[1])]);
+                self.stamps[operand] = self.clocks[k] + u32::from(link[2]) * hops;
                 self.able.push([RECEIVE, number]);
             }
             _ => {

@@ -1,10 +1,10 @@
 //! Damage to bytes and to value lists: set, inserted, removed, swapped, doubled, cut and lengthened.
 
 use crate::random::Random;
-use crate::sheets::UNPACKING;
+use crate::sheets::{CUBE, UNPACKING};
 
 /// The command bytes of sheets and bundles, which make the more interesting damage.
-const COMMANDS: [u8; 10] = [0x4D, UNPACKING, 0x54, 0x45, 0x51, 0x50, 0x52, 0x53, 0x56, 0x5A];
+const COMMANDS: [u8; 11] = [0x4D, UNPACKING, CUBE, 0x54, 0x45, 0x51, 0x50, 0x52, 0x53, 0x56, 0x5A];
 
 /// The length of a sheet's command, 1 for a strange byte.
 pub fn sheet_command(byte: u8) -> usize {
@@ -60,17 +60,27 @@ pub fn bytes(random: &mut Random, bytes: &mut Vec<u8>, length: fn(u8) -> usize) 
 
 /// The bytes of a sheet with a time for each receive where none may stand, twice, of 0 or cut.
 pub fn unpacking(random: &mut Random, sheet: &[u8]) -> Vec<u8> {
-    let mut commands = split(sheet, sheet_command);
     let [low, high] = random.pick(&[0u16, 1, 255, 256, 65_535]).to_le_bytes();
     let mut command = vec![UNPACKING, low, high];
     command.truncate(random.pick(&[1, 2, 3, 3, 3]));
+    misplaced(random, sheet, command)
+}
+
+/// The bytes of a sheet with the wires of a cube where they may not stand, or twice.
+pub fn cube(random: &mut Random, sheet: &[u8]) -> Vec<u8> {
+    misplaced(random, sheet, vec![CUBE])
+}
+
+/// The bytes of a sheet with this command near the board or anywhere, beside others of its kind or
+/// without them.
+fn misplaced(random: &mut Random, sheet: &[u8], command: Vec<u8>) -> Vec<u8> {
+    let mut commands = split(sheet, sheet_command);
     if random.once_in(2) {
-        commands.retain(|command| command[0] != UNPACKING);
+        commands.retain(|other| other[0] != command[0]);
     }
-    let at = match random.below(3) {
-        0 => 1,
-        1 => 2,
-        _ => random.below(commands.len() + 1),
+    let at = match random.below(4) {
+        3 => random.below(commands.len() + 1),
+        near => 1 + near,
     };
     commands.insert(at.min(commands.len()), command);
     if random.once_in(8) {

@@ -89,6 +89,11 @@ pub fn unpacked(sheet: Sheet) -> Sheet {
     Sheet { unpacking: 12, ..sheet }
 }
 
+/// The same sheet on a board that is wired as a cube.
+pub fn cubed(sheet: Sheet) -> Sheet {
+    Sheet { cube: 1, ..sheet }
+}
+
 /// A typical sheet: 40 tasks and 80 links on 8 processors.
 pub fn typical(random: &mut Random) -> Sheet {
     any_links(random, 40, 80, 8)
@@ -175,6 +180,7 @@ fn weighed(random: &mut Random, processors: u8, tasks: usize, pairs: &[Pair]) ->
         processors,
         limit: u32::MAX,
         unpacking: 0,
+        cube: 0,
         tasks: (0..tasks).flat_map(|_| [weight(1, 100), weight(0, 200)]).collect(),
         links: pairs
             .iter()

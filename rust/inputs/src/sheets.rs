@@ -10,6 +10,8 @@ pub const MOST_LINKS: usize = 1024;
 
 /// The command of a sheet that says how long a receive takes.
 pub const UNPACKING: u8 = 0x55;
+/// The command of a sheet that says that its board is a cube.
+pub const CUBE: u8 = 0x48;
 
 /// The values of a sheet: two for a task (work, store), four for a link (source, target, cost, bytes).
 #[derive(Clone, Debug, Default)]
@@ -18,6 +20,8 @@ pub struct Sheet {
     pub limit: u32,
     /// The time of each receive, 0 for a sheet that has none.
     pub unpacking: u16,
+    /// Any number but 0 for a cube.
+    pub cube: u8,
     pub tasks: Vec<u16>,
     pub links: Vec<u16>,
 }
@@ -38,6 +42,14 @@ impl Sheet {
         self.links.len() / 4
     }
 
+    /// How often a message's cost counts between two processors that differ.
+    pub fn hops(&self, from: usize, to: usize) -> u32 {
+        match self.cube {
+            0 => 1,
+            _ => (from ^ to).count_ones(),
+        }
+    }
+
     /// The values as bytes, right or not; of source and target only the low byte.
     pub fn encode(&self) -> Vec<u8> {
         let mut bytes = vec![0x4D, self.processors];
@@ -45,6 +57,9 @@ impl Sheet {
         if self.unpacking > 0 {
             bytes.push(UNPACKING);
             bytes.extend(self.unpacking.to_le_bytes());
+        }
+        if self.cube > 0 {
+            bytes.push(CUBE);
         }
         for task in self.tasks.chunks_exact(2) {
             bytes.push(0x54);
@@ -185,6 +200,47 @@ pub fn sharing(random: &mut Random, most: usize) -> Sheet {
         false => sheet.limit = u32::MAX,
     }
     sheet
+}
+
+/// A valid sheet of at most this many tasks on a cube: with ties, under the guard, with free messages, with
+/// store enough or hardly enough, with and without a time for receives.
+pub fn cube(random: &mut Random, most: usize) -> Sheet {
+    let mut sheet = match random.below(6) {
+        0 => telling(random, most),
+        1 => sharing(random, most),
+        2 => {
+            let tasks = random.within(2..=most);
+            guarded_of(random, tasks)
+        }
+        _ => far(random, most),
+    };
+    wire(random, &mut sheet);
+    if random.once_in(4) {
+        tighten(random, &mut sheet);
+    }
+    sheet.unpacking = 0;
+    if random.once_in(2) {
+        unpack(random, &mut sheet);
+    }
+    sheet
+}
+
+/// A valid sheet whose tasks take long beside its messages, so that many processors are opened, on a cube
+/// the near ones first.
+fn far(random: &mut Random, most: usize) -> Sheet {
+    let tasks = random.within(most.div_ceil(2)..=most);
+    let shape = random.pick(&[Shape::Sparse, Shape::Layers, Shape::FanOut]);
+    let mut sheet = with_shape(random, tasks, shape);
+    let (works, costs) = random.pick(&[(4, 3), (9, 4), (20, 9), (90, 30)]);
+    weigh(random, &mut sheet, works, costs);
+    sheet.limit = u32::MAX;
+    sheet
+}
+
+/// Makes the board a cube, whole or not, of so many processors that numbers can be skipped.
+pub fn wire(random: &mut Random, sheet: &mut Sheet) {
+    sheet.processors = random.pick(&[3, 5, 8, 13, 16]);
+    sheet.cube = random.pick(&[1, 1, 2, 255]);
 }
 
 /// Makes all links free, or all but about one in two, four or eight.
@@ -375,8 +431,8 @@ impl Weights {
     }
 }
 
-/// Gives tasks and links their weights, and the board its processors, its limit and once in four a time
-/// for each receive.
+/// Gives tasks and links their weights, and the board its processors, its limit, once in four a time for
+/// each receive, and once in four the wires of a cube.
 fn dress(random: &mut Random, tasks: usize, pairs: &[[u16; 2]]) -> Sheet {
     let kinds = [
         Weights::Equal,
@@ -412,7 +468,8 @@ fn dress(random: &mut Random, tasks: usize, pairs: &[[u16; 2]]) -> Sheet {
         5 => share.saturating_mul(2),
         _ => share.saturating_mul(8).saturating_add(1000),
     };
-    let mut sheet = Sheet { processors, limit, unpacking: 0, tasks, links };
+    let cube = if random.once_in(4) { random.pick(&[1, 1, 2, 255]) } else { 0 };
+    let mut sheet = Sheet { processors, limit, unpacking: 0, cube, tasks, links };
     if random.once_in(4) {
         unpack(random, &mut sheet);
     }

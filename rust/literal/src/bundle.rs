@@ -118,8 +118,16 @@ impl Bundle {
         Ok(BUNDLE.bytes(&text))
     }
 
+    /// The processor whose programme runs a task.
+    pub fn processor_of(&self, task: usize) -> usize {
+        let mut programmes = self.programmes.iter();
+        let runs_it = |programme: &Vec<Action>| programme.contains(&Action::Run(task));
+        programmes.position(runs_it).expect("26 does not apply")
+    }
+
     /// The bytes of a plan. "Programmes list tasks in placing order." "Each programme is written
-    /// directly behind the one before it. The claim is the latest finish."
+    /// directly behind the one before it. The claim is the latest finish." "Numbers skipped below the
+    /// highest one used are written as empty programmes."
     pub fn of_plan(sheet: &Sheet, placed: &[Placed]) -> Vec<u8> {
         let mut text = Text::default();
         let highest = placed.iter().map(|placed| placed.processor).max();

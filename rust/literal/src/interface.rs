@@ -21,9 +21,9 @@ pub struct Tables {
     pub tasks: Vec<u16>,
     /// "four a link (source, target, cost, bytes)".
     pub links: Vec<u16>,
-    /// "the processors, the store limit, the number of tasks, the number of links and the unpacking
-    /// time".
-    pub board: [u32; 5],
+    /// "the processors, the store limit, the number of tasks, the number of links, the unpacking time"
+    /// and "1 for a cube".
+    pub board: [u32; 6],
 }
 
 impl Tables {
@@ -48,6 +48,7 @@ pub fn read_sheet(sheet: &[u8]) -> Result<Tables, Refusal> {
             sheet.tasks.len() as u32,
             sheet.links.len() as u32,
             sheet.unpacking as u32,
+            sheet.cube.into(),
         ],
     })
 }
@@ -65,10 +66,11 @@ pub fn write_sheet(
     processors: u8,
     limit: u32,
     unpacking: u16,
+    cube: u8,
     tasks: &[u16],
     links: &[u16],
 ) -> Result<Vec<u8>, Refusal> {
-    Sheet::write(processors, limit, unpacking, tasks, links)
+    Sheet::write(processors, limit, unpacking, cube, tasks, links)
 }
 
 /// The bytes of the sheet that a seed gives, which no rule of the reader refuses.
@@ -81,7 +83,7 @@ pub fn generate(
 ) -> Result<Vec<u8>, Refusal> {
     let (tasks, links) = load::made(seed, tasks, tries, processors)?;
     let (tasks, links) = values(&tasks, &links);
-    Ok(Sheet::write(processors as u8, limit, 0, &tasks, &links).expect("read without refusal"))
+    Ok(Sheet::write(processors as u8, limit, 0, 0, &tasks, &links).expect("read without refusal"))
 }
 
 /// The b-level of each task.

@@ -13,11 +13,11 @@ pub fn lines(plan: &Result<Vec<Placed>, Refusal>) -> String {
     }
 }
 
-/// "Line one: `PLAN`, processors opened, claim. Then a line for each task in number order: task,
-/// processor, start, finish."
+/// "Line one: `PLAN`, processors opened, claim", where "`PLAN` counts processors that run a task, on
+/// every sheet". "Then a line for each task in number order: task, processor, start, finish."
 fn plan_lines(placed: &[Placed]) -> String {
-    let opened = (0..16).filter(|&k| placed.iter().any(|placed| placed.processor == k)).count();
-    let mut lines = format!("PLAN {opened} {}\n", latest_finish(placed));
+    let running = (0..16).filter(|&k| placed.iter().any(|placed| placed.processor == k)).count();
+    let mut lines = format!("PLAN {running} {}\n", latest_finish(placed));
     for task in 0..placed.len() {
         for Placed { processor, start, finish, .. } in placed.iter().filter(|p| p.task == task) {
             lines += &format!("{task} {processor} {start} {finish}\n");

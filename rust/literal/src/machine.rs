@@ -3,7 +3,7 @@
 use crate::bundle::{Action, Bundle};
 use crate::checker::startable;
 use crate::refusal::Refusal;
-use crate::sheet::Sheet;
+use crate::sheet::{Link, Sheet};
 
 /// A processor that has a programme.
 #[derive(Clone, Copy, Debug, Default, PartialEq, Eq)]
@@ -85,9 +85,12 @@ impl<'a> Machine<'a> {
                 processor.clock += taken(self.sheet.tasks[task].work);
                 processor.store += self.sheet.tasks[task].store;
             }
-            // "Send stamps the message with clock + cost."
+            // "Send stamps the message with clock + cost", which on a cube counts "times the count of
+            // bits in which the two processor numbers differ".
             Action::Send(link) => {
-                self.stamps[link] = Some(processor.clock + taken(self.sheet.links[link].cost));
+                let Link { to, cost, .. } = self.sheet.links[link];
+                let hops = self.sheet.hops(k, self.bundle.processor_of(to));
+                self.stamps[link] = Some(processor.clock + taken(cost * hops));
             }
             // "Receive now sets the clock to the later of clock and stamp, plus this time", "and adds
             // the link's bytes to the store in use."

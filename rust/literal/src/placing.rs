@@ -1,5 +1,5 @@
-//! Whose turn it is (the second half of "Levels"), and which processor a task gets ("Placing", and C-14
-//! and C-17 of document 02).
+//! Whose turn it is (the second half of "Levels"), and which processor a task gets ("Placing", and C-14,
+//! C-17 and C-20 of document 02).
 
 use crate::levels::levels;
 use crate::refusal::Refusal;
@@ -91,7 +91,7 @@ impl<'a> Board<'a> {
         (Step::Join, Self::join),
         (Step::Idle, Self::idle),
         (Step::Share, Self::share),
-        (Step::Open, Self::open_next),
+        (Step::Open, Self::open_another),
         (Step::LastResort, Self::last_resort),
     ];
 
@@ -111,7 +111,7 @@ impl<'a> Board<'a> {
         self.placed.iter().filter(move |placed| placed.processor == k)
     }
 
-    /// The open processors.
+    /// The open processors: those that hold a task.
     fn open(&self) -> impl Iterator<Item = usize> + '_ {
         (0..self.sheet.processors).filter(|&k| self.on(k).next().is_some())
     }
@@ -133,19 +133,27 @@ impl<'a> Board<'a> {
 
     /// "A ready task's A is its start on a fresh processor." A partly ready one's arrival is "the greatest
     /// of (predecessor's finish + link cost)" and "counts only the placed ones": "Partly ready tasks leave
-    /// unpacking out, in arrivals and in best starts."
+    /// unpacking out, in arrivals and in best starts." On a cube "A and partly ready arrivals count one
+    /// hop".
     fn arrival(&self, task: usize) -> u64 {
-        if self.ready(task) {
-            return self.start(task, self.fresh());
-        }
         let links = self.sheet.links_into(task);
-        let times = links.filter_map(|(_, link)| Some(self.find(link.from)?.finish + link.cost));
-        times.max().unwrap_or(0)
+        let stamps = links.filter_map(|(_, link)| Some(self.find(link.from)?.finish + link.cost));
+        match self.ready(task) {
+            true => self.received(0, stamps),
+            false => stamps.max().unwrap_or(0),
+        }
     }
 
-    /// A fresh processor, which holds no task: the number behind those of the board.
-    fn fresh(&self) -> usize {
-        self.sheet.processors
+    /// A clock after the receives of messages with these stamps: "Receive now sets the clock to the later
+    /// of clock and stamp, plus this time."
+    fn received(&self, clock: u64, stamps: impl Iterator<Item = u64>) -> u64 {
+        stamps.fold(clock, |clock, stamp| clock.max(stamp) + self.sheet.unpacking)
+    }
+
+    /// When the message of a link from a placed task is on k: "Send stamps the message with clock + cost",
+    /// directly behind the run, where on a cube the cost counts for each hop.
+    fn there(&self, from: &Placed, cost: u64, k: usize) -> u64 {
+        from.finish + cost * self.sheet.hops(from.processor, k)
     }
 
     /// "Priority = arrival + b-level."
@@ -170,23 +178,18 @@ impl<'a> Board<'a> {
         let into = self.sheet.links_into(t);
         let sources = into.filter_map(|(_, link)| Some((self.find(link.from)?, link.cost)));
         let (local, others): (Vec<_>, Vec<_>) = sources.partition(|(from, _)| from.processor == k);
-        // "Send stamps the message with clock + cost", directly behind the run; "Receive now sets the
-        // clock to the later of clock and stamp, plus this time."
-        let received = others.iter().fold(self.end(k), |clock, (from, cost)| {
-            clock.max(from.finish + cost) + self.sheet.unpacking
-        });
+        let stamps = others.iter().map(|(from, cost)| self.there(from, *cost, k));
+        let received = self.received(self.end(k), stamps);
         local.iter().fold(received, |clock, (from, _)| clock.max(from.finish))
     }
 
     /// A partly ready task's "start there by placed predecessors", "t itself not counted as u's
     /// predecessor", without unpacking: "the greatest of k's end time and, over its predecessors, finish +
-    /// (0 if on k, else cost)".
+    /// (0 if on k, else cost)", where on a cube the cost counts for each hop.
     fn start_without(&self, u: usize, k: usize, t: usize) -> u64 {
         let links = self.sheet.links_into(u).filter(|(_, link)| link.from != t);
-        let times = links.filter_map(|(_, link)| {
-            let from = self.find(link.from)?;
-            Some(from.finish + if from.processor == k { 0 } else { link.cost })
-        });
+        let times =
+            links.filter_map(|(_, link)| Some(self.there(self.find(link.from)?, link.cost, k)));
         times.max().unwrap_or(0).max(self.end(k))
     }
 
@@ -280,17 +283,21 @@ impl<'a> Board<'a> {
     /// C-17: "Where step 3 would open a processor, the lowest numbered open one that fits, isn't barred
     /// and starts the task not later than A is taken instead."
     fn share(&self, t: usize) -> Option<usize> {
-        self.open_next(t)?;
+        self.open_another(t)?;
         let shared = self.open().filter(|&k| {
             self.fits(t, k) && !self.barred(t, k) && self.start(t, k) <= self.arrival(t)
         });
         shared.min()
     }
 
-    /// "3. Open the next processor, if one is left and t fits it alone."
-    fn open_next(&self, t: usize) -> Option<usize> {
-        let next = self.open().count();
-        (next < self.sheet.processors && self.fits(t, next)).then_some(next)
+    /// "3. Open the next processor, if one is left and t fits it alone." On a cube "Step 3 opens, among
+    /// unopened processors that fit, the one with least start, then the lowest number".
+    fn open_another(&self, t: usize) -> Option<usize> {
+        let mut unopened = (0..self.sheet.processors).filter(|&k| self.on(k).next().is_none());
+        match self.sheet.cube {
+            true => self.least_start(t, unopened.filter(|&k| self.fits(t, k))),
+            false => unopened.next().filter(|&k| self.fits(t, k)),
+        }
     }
 
     /// "4. Last resort: open k that fit. Least start, then lowest number."
@@ -321,6 +328,19 @@ mod tests {
     use super::*;
     use inputs::{sheets, Random};
 
+    /// Shows each turn of a made-up sheet: the board before it, and its task.
+    fn each_turn(values: &sheets::Sheet, see: impl Fn(&Board, usize)) {
+        let sheet = Sheet::read(&values.encode()).expect("a valid sheet");
+        let levels = levels(&sheet);
+        let (placed, _) = turns(&sheet, &levels, Rules::WHOLE);
+        for (turn, of_turn) in placed.iter().enumerate() {
+            let before = placed[..turn].to_vec();
+            let board =
+                Board { sheet: &sheet, levels: &levels, rules: Rules::WHOLE, placed: before };
+            see(&board, of_turn.task);
+        }
+    }
+
     /// "Sheets without `55` keep their plans": there a start is "the greatest of k's end time and, over
     /// its predecessors, finish + (0 if on k, else cost)", and A the greatest of finish + cost.
     #[test]
@@ -328,22 +348,31 @@ mod tests {
         let mut random = Random::new(14);
         for _ in 0..300 {
             let values = sheets::Sheet { unpacking: 0, ..sheets::telling(&mut random, 12) };
-            let sheet = Sheet::read(&values.encode()).expect("a valid sheet");
-            let levels = levels(&sheet);
-            let (placed, _) = turns(&sheet, &levels, Rules::WHOLE);
-            for turn in 0..placed.len() {
-                let before = placed[..turn].to_vec();
-                let board =
-                    Board { sheet: &sheet, levels: &levels, rules: Rules::WHOLE, placed: before };
-                let t = placed[turn].task;
-                for k in 0..=board.fresh() {
+            each_turn(&values, |board, t| {
+                for k in 0..board.sheet.processors {
                     assert_eq!(board.start(t, k), board.start_without(t, k, t));
                 }
-                let messages = sheet.links_into(t).map(|(_, link)| {
+                let messages = board.sheet.links_into(t).map(|(_, link)| {
                     board.find(link.from).map_or(0, |from| from.finish + link.cost)
                 });
                 assert_eq!(board.arrival(t), messages.max().unwrap_or(0));
-            }
+            });
+        }
+    }
+
+    /// "A ready task's A is its start on a fresh processor"; on a cube it "count[s] one hop", and a start
+    /// on a fresh one is not before it.
+    #[test]
+    fn starts_on_fresh_processors() {
+        let mut random = Random::new(20);
+        for cube in [0, 1].repeat(150) {
+            let values = sheets::Sheet { cube, ..sheets::telling(&mut random, 12) };
+            each_turn(&values, |board, t| {
+                for k in (0..board.sheet.processors).filter(|&k| board.on(k).next().is_none()) {
+                    let (start, arrival) = (board.start(t, k), board.arrival(t));
+                    assert!(start == arrival || board.sheet.cube && start > arrival);
+                }
+            });
         }
     }
 }

@@ -2,13 +2,15 @@
 //! (work u16, 1 to 65,535; store u16), numbered from 0, at most 256; then links `45` (from u8, to
 //! u8, cost u16, bytes u16), numbered from 0, at most 1,024; then `51`, the end." And C-14: "A new
 //! sheet command `55` with a u16, 1 to 65,535, may stand directly after `4D`; without it the time is
-//! 0."
+//! 0." And C-20: "A sheet command `48`, without operands, directly after `4D` or the `55` if there is
+//! one".
 
 use crate::commands::{count, Command, Format, Text};
 use crate::refusal::Refusal;
 
 const BOARD: u8 = 0x4D;
 const UNPACKING: u8 = 0x55;
+const CUBE: u8 = 0x48;
 const TASK: u8 = 0x54;
 const LINK: u8 = 0x45;
 const END: u8 = 0x51;
@@ -18,6 +20,7 @@ static SHEET: Format<()> = Format {
     kinds: &[
         (BOARD, &[1, 4]),
         (UNPACKING, &[2]),
+        (CUBE, &[]),
         (TASK, &[2, 2]),
         (LINK, &[1, 1, 2, 2]),
         (END, &[]),
@@ -41,14 +44,16 @@ fn strange(_: &(), _: &[Command], command: &Command) -> bool {
     SHEET.widths(command.byte).is_none()
 }
 
-/// 3, out of turn: "order of kinds broken"; and of a `55`, which may stand "directly after `4D`", "a
-/// wrong position gives 3".
+/// 3, out of turn: "order of kinds broken"; of a `55`, which may stand "directly after `4D`", "a wrong
+/// position gives 3"; and of a `48`, which stands "directly after `4D` or the `55`", "elsewhere it gives
+/// 3".
 fn out_of_turn(_: &(), before: &[Command], command: &Command) -> bool {
-    let ranks = [BOARD, UNPACKING, TASK, LINK, END];
+    let ranks = [BOARD, UNPACKING, CUBE, TASK, LINK, END];
     let rank = |command: &Command| ranks.iter().position(|&kind| command.is(kind));
     match before.last() {
         None => !command.is(BOARD),
         Some(last) if command.is(UNPACKING) => !last.is(BOARD),
+        Some(last) if command.is(CUBE) => !last.is(BOARD) && !last.is(UNPACKING),
         Some(last) => command.is(BOARD) || rank(command) < rank(last),
     }
 }
@@ -107,6 +112,8 @@ pub struct Sheet {
     pub limit: u64,
     /// "a receive costs the receiver a fixed time"; without a `55` "the time is 0".
     pub unpacking: u64,
+    /// Whether a `48` says that the board "joins processors whose numbers differ in one bit".
+    pub cube: bool,
     pub tasks: Vec<Task>,
     pub links: Vec<Link>,
 }
@@ -118,17 +125,36 @@ impl Sheet {
     }
 
     /// The bytes of these values: "A writer refuses values as the reader would refuse their bytes".
-    /// docs/INTERFACE.md: an unpacking time of 0 "writes no `55`".
+    /// docs/INTERFACE.md: an unpacking time of 0 "writes no `55`", and a `cube` of 0 "no `48`, any other
+    /// one".
     pub fn write(
         processors: u8,
         limit: u32,
         unpacking: u16,
+        cube: u8,
         tasks: &[u16],
         links: &[u16],
     ) -> Result<Vec<u8>, Refusal> {
-        let text = text_of(processors, limit, unpacking, tasks, links);
+        let mut text = Text::default();
+        SHEET.push(&mut text, BOARD.into(), &[processors.into(), limit]);
+        if unpacking > 0 {
+            SHEET.push(&mut text, UNPACKING.into(), &[unpacking.into()]);
+        }
+        if cube > 0 {
+            SHEET.push(&mut text, CUBE.into(), &[]);
+        }
+        push_values(&mut text, tasks, links);
         judged(&text)?;
         Ok(SHEET.bytes(&text))
+    }
+
+    /// How often a message's cost counts from one processor to another: on a cube "the count of bits in
+    /// which the two processor numbers differ", else once; nothing is sent inside one processor.
+    pub fn hops(&self, from: usize, to: usize) -> u64 {
+        match self.cube {
+            true => u64::from((from ^ to).count_ones()),
+            false => u64::from(from != to),
+        }
     }
 
     /// Whether one task is a successor of the other.
@@ -147,22 +173,17 @@ impl Sheet {
     }
 }
 
-/// The text of a sheet's values: two for a task, four for a link; docs/INTERFACE.md: "A list of
-/// values that stops inside a record stands for a command that is cut there".
-fn text_of(processors: u8, limit: u32, unpacking: u16, tasks: &[u16], links: &[u16]) -> Text {
-    let mut text = Text::default();
-    SHEET.push(&mut text, BOARD.into(), &[processors.into(), limit]);
-    if unpacking > 0 {
-        SHEET.push(&mut text, UNPACKING.into(), &[unpacking.into()]);
-    }
+/// Puts the values behind a board, two for a task and four for a link, and then the end;
+/// docs/INTERFACE.md: "A list of values that stops inside a record stands for a command that is cut
+/// there".
+fn push_values(text: &mut Text, tasks: &[u16], links: &[u16]) {
     for (kind, values, width) in [(TASK, tasks, 2), (LINK, links, 4)] {
         for record in values.chunks(width) {
             let operands: Vec<u32> = record.iter().map(|&value| value.into()).collect();
-            SHEET.push(&mut text, kind.into(), &operands);
+            SHEET.push(text, kind.into(), &operands);
         }
     }
-    SHEET.push(&mut text, END.into(), &[]);
-    text
+    SHEET.push(text, END.into(), &[]);
 }
 
 /// The sheet of a text: per command, "then 4, 9, 10", where C-13 says of 9 that it "is retired and its
@@ -185,6 +206,7 @@ fn declared(commands: &[Command]) -> Sheet {
         match command.byte as u8 {
             BOARD => (sheet.processors, sheet.limit) = (number(0) as usize, number(1)),
             UNPACKING => sheet.unpacking = number(0),
+            CUBE => sheet.cube = true,
             TASK => sheet.tasks.push(Task { work: number(0), store: number(1) }),
             _ => sheet.links.push(Link {
                 from: number(0) as usize,

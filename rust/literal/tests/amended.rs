@@ -6,6 +6,7 @@ use literal::levels::levels;
 use literal::placing::{place, turns, Placed, Rules, Step};
 use literal::sheet::{Link, Sheet, Task};
 use literal::Refusal;
+use std::collections::HashSet;
 use std::fs;
 
 /// A schedule, or its refusal: of each task in placing order the task, its processor, start and finish.
@@ -69,10 +70,10 @@ fn when_it_is_used() {
         let sheet = sheet(&mut random, round);
         let (placed, _) = turns(&sheet, &levels(&sheet), Rules::WHOLE);
         for (i, turn) in placed.iter().enumerate() {
-            let open = placed[..i].iter().map(|placed| placed.processor + 1).max().unwrap_or(0);
+            let open: HashSet<usize> = placed[..i].iter().map(|placed| placed.processor).collect();
             barred += usize::from(turn.share_guarded);
             if turn.step == Step::Share {
-                assert!(open < sheet.processors && turn.processor < open);
+                assert!(open.len() < sheet.processors && open.contains(&turn.processor));
                 let finish =
                     |task| placed.iter().find(|placed| placed.task == task).unwrap().finish;
                 let arrival = sheet.links_into(turn.task).fold(0, |clock, (_, link)| {
@@ -93,7 +94,7 @@ fn smallest() {
     for works in [[1, 1], [1, 65_535], [7, 2]] {
         let tasks = works.map(|work| Task { work, store: 3 }).to_vec();
         let links = vec![Link { from: 0, to: 1, cost: 0, bytes: 5 }];
-        let mut sheet = Sheet { processors: 2, limit: 8, unpacking: 0, tasks, links };
+        let mut sheet = Sheet { processors: 2, limit: 8, tasks, links, ..Sheet::default() };
         let rows = |sheet: &Sheet, rules| {
             let placed = place(sheet, rules).unwrap();
             placed.iter().map(|row| (row.processor, row.step)).collect::<Vec<_>>()

@@ -30,8 +30,8 @@ fn k1_whole() {
     assert_eq!(levels(&sheet), Ok(vec![5, 3, 2, 7]));
     assert_eq!(check(&sheet, &bundle), Ok(()));
     let tables = read_sheet(&sheet).unwrap();
-    assert_eq!(tables.board, [3, 100, 4, 3, 0]);
-    assert_eq!(write_sheet(3, 100, 0, &tables.tasks, &tables.links), Ok(sheet.clone()));
+    assert_eq!(tables.board, [3, 100, 4, 3, 0, 0]);
+    assert_eq!(write_sheet(3, 100, 0, 0, &tables.tasks, &tables.links), Ok(sheet.clone()));
     let (commands, claim) = read_bundle(&sheet, &bundle).unwrap();
     assert_eq!(write_bundle(&sheet, &commands, claim), Ok(bundle.clone()));
     start(&sheet, &bundle, |machine| {
@@ -77,15 +77,18 @@ fn bare_board() {
     let (sheet, bundle) = (example("bare.sheet"), example("bare.bundle"));
     assert_eq!((&sheet[..], &bundle[..]), (&b"\x4D\x03\x64\0\0\0\x51"[..], &b"\x5A\0\0\0\0"[..]));
     let tables = read_sheet(&sheet).unwrap();
-    assert_eq!((tables.board, tables.tasks.len(), tables.links.len()), ([3, 100, 0, 0, 0], 0, 0));
-    assert_eq!(write_sheet(3, 100, 0, &[], &[]), Ok(sheet.clone()));
+    assert_eq!(
+        (tables.board, tables.tasks.len(), tables.links.len()),
+        ([3, 100, 0, 0, 0, 0], 0, 0)
+    );
+    assert_eq!(write_sheet(3, 100, 0, 0, &[], &[]), Ok(sheet.clone()));
     assert_eq!(levels(&sheet), Ok(Vec::new()));
     assert_eq!(plan(&sheet), Ok(bundle.clone()));
     assert_eq!(listing(&sheet), b"PLAN 0 0\n");
     assert_eq!(read_bundle(&sheet, &bundle), Ok((Vec::new(), 0)));
     assert_eq!(write_bundle(&sheet, &[], 0), Ok(bundle.clone()));
     // A link has no task to lead to, and what follows the end is a tail.
-    assert_eq!(write_sheet(3, 100, 0, &[], &[0, 0, 0, 0]), refused(7, 6));
+    assert_eq!(write_sheet(3, 100, 0, 0, &[], &[0, 0, 0, 0]), refused(7, 6));
     assert_eq!(read_sheet(&[&sheet[..], &[0x51]].concat()), refused(4, 7));
     for programmes in 0..=4 {
         let mut opened: Vec<u8> = (0..programmes).flat_map(|number| [0x50, number]).collect();
@@ -120,9 +123,9 @@ fn bare_board() {
 fn unpacking() {
     let (sheet, bundle) = (example("unpacking.sheet"), example("unpacking.bundle"));
     let tables = read_sheet(&sheet).unwrap();
-    assert_eq!(tables.board, [3, 100, 4, 3, 1]);
-    assert_eq!(write_sheet(3, 100, 1, &tables.tasks, &tables.links), Ok(sheet.clone()));
-    assert_eq!(write_sheet(3, 100, 0, &tables.tasks, &tables.links), Ok(example("k1.sheet")));
+    assert_eq!(tables.board, [3, 100, 4, 3, 1, 0]);
+    assert_eq!(write_sheet(3, 100, 1, 0, &tables.tasks, &tables.links), Ok(sheet.clone()));
+    assert_eq!(write_sheet(3, 100, 0, 0, &tables.tasks, &tables.links), Ok(example("k1.sheet")));
     assert_eq!(levels(&sheet), levels(&example("k1.sheet")));
     assert_eq!(rows(&sheet), [(3, 0, 0), (2, 1, 4), (0, 2, 0), (1, 0, 3)]);
     assert_eq!(plan(&sheet), Ok(bundle.clone()));
@@ -143,6 +146,46 @@ fn unpacking() {
         (b"\x4D\x03\x64\0\0\0\x55\x01\0\x55\0", (3, 9)),
         (b"\x4D\x03\x64\0\0\0\x54\x01\0\0\0\x55", (3, 11)),
         (b"\x4D\x03\x64\0\0\0\x55\x01", (1, 6)),
+    ] {
+        assert_eq!(read_sheet(bytes), refused(refusal.0, refusal.1), "{bytes:02X?}");
+    }
+}
+
+/// C-20: a cube of four processors, on which number 2 is skipped.
+#[test]
+fn cube() {
+    let (sheet, bundle) = (example("cube.sheet"), example("cube.bundle"));
+    let tables = read_sheet(&sheet).unwrap();
+    assert_eq!(tables.board, [4, 100, 5, 4, 0, 1]);
+    for cube in [1, 2, 255] {
+        assert_eq!(write_sheet(4, 100, 0, cube, &tables.tasks, &tables.links), Ok(sheet.clone()));
+    }
+    let plain = write_sheet(4, 100, 0, 0, &tables.tasks, &tables.links).unwrap();
+    assert_eq!(plain, [&sheet[..6], &sheet[7..]].concat());
+    assert_eq!(levels(&sheet), levels(&plain));
+    // The last task is on processor 3 at 4, one hop from processor 1 and two from processor 0.
+    let placed = |sheet| rows(sheet).into_iter().find(|row| row.0 == 4);
+    assert_eq!([placed(&sheet), placed(&plain)], [Some((4, 3, 4)), Some((4, 2, 3))]);
+    assert_eq!(plan(&sheet), Ok(bundle.clone()));
+    assert_eq!(listing(&sheet), b"PLAN 3 5\n0 0 0 2\n1 1 0 1\n2 0 2 4\n3 1 1 4\n4 3 4 5\n");
+    assert_eq!(check(&sheet, &bundle), Ok(()));
+    assert_eq!(check(&plain, &bundle), refused(30, 4));
+    start(&sheet, &bundle, |machine| {
+        let machine = machine.unwrap();
+        assert!([0, 0, 1, 1].into_iter().all(|choice| machine.step(choice)));
+        // "its cost times the count of bits in which the two processor numbers differ": 2 + 1 * 2 from
+        // 0 to 3, and 1 + 2 * 1 from 1 to 3.
+        assert_eq!((machine.stamps[2], machine.stamps[3]), (Some(4), Some(3)));
+        assert!(!machine.step(2) && machine.step(3));
+        assert_eq!(machine.processors[3].clock, 4);
+    });
+    // "directly after `4D` or the `55` if there is one [..] elsewhere it gives 3".
+    for (bytes, refusal) in [
+        (&b"\x48\x4D\x03\x64\0\0\0\x51"[..], (3, 0)),
+        (b"\x4D\x03\x64\0\0\0\x48\x48\x51", (3, 7)),
+        (b"\x4D\x03\x64\0\0\0\x48\x55\x01\0\x51", (3, 7)),
+        (b"\x4D\x03\x64\0\0\0\x54\x01\0\0\0\x48", (3, 11)),
+        (b"\x4D\x03\x64\0\0\0\x48", (1, 7)),
     ] {
         assert_eq!(read_sheet(bytes), refused(refusal.0, refusal.1), "{bytes:02X?}");
     }

@@ -4,6 +4,8 @@
 pub const BOARD: u8 = 0x4D;
 /// How long each receive takes, directly behind the board.
 pub const UNPACKING: u8 = 0x55;
+/// Wires the processors as a cube, behind the board and the time of receives.
+pub const CUBE: u8 = 0x48;
 /// A task of a sheet.
 pub const TASK: u8 = 0x54;
 /// A link of a sheet.
@@ -24,6 +26,7 @@ pub const CLAIM: u8 = 0x5A;
 
 pub const BOARD_LENGTH: usize = 6;
 pub const UNPACKING_LENGTH: usize = 3;
+pub const CUBE_LENGTH: usize = 1;
 pub const TASK_LENGTH: usize = 5;
 pub const LINK_LENGTH: usize = 7;
 pub const END_LENGTH: usize = 1;

@@ -31,7 +31,8 @@ impl Figure {
             .iter()
             .flat_map(|&[source, target, cost]| [source, target, cost, 0])
             .collect();
-        Sheet::from_values(processors, 0, 0, &tasks, &links).expect("the figure is a valid sheet")
+        Sheet::from_values(processors, 0, 0, false, &tasks, &links)
+            .expect("the figure is a valid sheet")
     }
 }
 

@@ -7,22 +7,24 @@ use crate::sheet::Sheet;
 use crate::{better, checker, formula, graph, listing, planner};
 
 /// Reads a sheet into tables of values; gives its board (1 to 8, 10, 12).
-pub fn read_sheet(sheet: &[u8], tasks: &mut [u16], links: &mut [u16]) -> Result<[u32; 5], Refusal> {
+pub fn read_sheet(sheet: &[u8], tasks: &mut [u16], links: &mut [u16]) -> Result<[u32; 6], Refusal> {
     let sheet = Sheet::read(sheet)?;
     sheet.put_values(tasks, links)?;
     Ok(sheet.board())
 }
 
-/// Writes the sheet of these values and gives its length (1 to 8, 10, 12).
+/// Writes the sheet of these values, a cube where `cube` is not 0, and gives its length (1 to 8, 10, 12).
 pub fn write_sheet(
     processors: u8,
     limit: u32,
     unpacking: u16,
+    cube: u8,
     tasks: &[u16],
     links: &[u16],
     out: &mut [u8],
 ) -> Result<usize, Refusal> {
-    lend(&Sheet::from_values(processors, limit, unpacking, tasks, links)?.to_bytes(), out)
+    let sheet = Sheet::from_values(processors, limit, unpacking, cube != 0, tasks, links)?;
+    lend(&sheet.to_bytes(), out)
 }
 
 /// Writes the sheet that a seed gives and gives its length (6, 12).

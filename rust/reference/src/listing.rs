@@ -25,7 +25,8 @@ pub fn lines(plan: &Result<Plan, Refusal>) -> Vec<u8> {
 fn plan_lines(plan: &Plan) -> Vec<u8> {
     let mut lines = Vec::with_capacity(16 + 24 * plan.placements.len());
     lines.extend(b"PLAN ");
-    put_line(&mut lines, &[plan.programmes.len() as u64, plan.claim.into()]);
+    let running = plan.programmes.iter().filter(|programme| !programme.is_empty()).count();
+    put_line(&mut lines, &[running as u64, plan.claim.into()]);
     for (task, placement) in (0..).zip(&plan.placements) {
         let Placement { processor, start, finish } = *placement;
         put_line(&mut lines, &[task, processor.into(), start.into(), finish.into()]);

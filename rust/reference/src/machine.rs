@@ -61,18 +61,21 @@ pub struct Machine<'a> {
     pub claim: u32,
     processors: Vec<Processor<'a>>,
     stamps: Vec<Option<u32>>,
+    /// The hops of each link's message; none where every message makes one.
+    hops: Vec<u8>,
 }
 
 impl<'a> Machine<'a> {
     /// The fresh machine for a bundle (21 to 26, 31 to 33 and 28).
     pub fn start(sheet: &'a Sheet, bundle: &'a [u8]) -> Result<Machine<'a>, Refusal> {
-        let bundle = messages::read(sheet, bundle)?;
+        let (bundle, hops) = messages::read(sheet, bundle)?;
         let fresh = |&rest: &&'a [u8]| Processor { clock: 0, position: 0, store: 0, rest };
         Ok(Machine {
             sheet,
             claim: bundle.claim,
             processors: bundle.programmes().iter().map(fresh).collect(),
             stamps: vec![None; sheet.links.len()],
+            hops,
         })
     }
 
@@ -94,8 +97,10 @@ impl<'a> Machine<'a> {
                 Step::Ran(task)
             }
             Command::Send(link) => {
-                let cost = self.sheet.links[usize::from(link)].cost;
-                self.stamps[usize::from(link)] = Some(processor.clock + u32::from(cost));
+                let cost = u32::from(self.sheet.links[usize::from(link)].cost);
+                let hops = self.hops.get(usize::from(link));
+                let time = hops.map_or(cost, |&hops| cost * u32::from(hops));
+                self.stamps[usize::from(link)] = Some(processor.clock + time);
                 Step::Sent(link)
             }
             Command::Receive(link) => {

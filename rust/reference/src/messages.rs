@@ -1,12 +1,13 @@
 //! What stands where in a bundle: each task run once (26), each message right (31 to 33), store kept
-//! (28).
+//! (28), and on a cube how far each message goes.
 
 use crate::bundle::{Bundle, Command};
 use crate::refusal::*;
 use crate::sheet::{Link, Sheet, MOST_PROCESSORS};
 
-/// Reads a bundle in which 21 to 26, 31 to 33 and 28 do not apply.
-pub fn read<'a>(sheet: &Sheet, bytes: &'a [u8]) -> Result<Bundle<'a>, Refusal> {
+/// Reads a bundle in which 21 to 26, 31 to 33 and 28 do not apply, and gives the hops of each link's
+/// message on a cube; on another board they are left out, since every message makes one.
+pub fn read<'a>(sheet: &Sheet, bytes: &'a [u8]) -> Result<(Bundle<'a>, Vec<u8>), Refusal> {
     let mut seats = Seats {
         runs: vec![Seat::default(); sheet.tasks.len()],
         sends: vec![Seat::default(); sheet.links.len()],
@@ -19,7 +20,8 @@ pub fn read<'a>(sheet: &Sheet, bytes: &'a [u8]) -> Result<Bundle<'a>, Refusal> {
         Command::Receive(link) => seats.receives[usize::from(link)].take(programme, at),
     })?;
     seats.judge(sheet)?;
-    Ok(bundle)
+    let hops = if sheet.cube { seats.hops(&sheet.links) } else { Vec::new() };
+    Ok((bundle, hops))
 }
 
 /// How often a command stands in a bundle, and where it does last.
@@ -85,6 +87,13 @@ impl Seats {
             return Some(WRONG_SEND);
         }
         (receive.times != 1 || !receive.before(target)).then_some(WRONG_RECEIVE)
+    }
+
+    /// The bits in which the processors of each link's two tasks differ.
+    fn hops(&self, links: &[Link]) -> Vec<u8> {
+        let programme = |task: u8| self.runs[usize::from(task)].programme;
+        let bits = |link: &Link| programme(link.source) ^ programme(link.target);
+        links.iter().map(|link| bits(link).count_ones() as u8).collect()
     }
 
     /// The store that each programme needs, where 26 and 31 to 33 do not apply.

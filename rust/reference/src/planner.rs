@@ -24,7 +24,8 @@ pub struct Placement {
 pub struct Plan {
     /// The placement of each task.
     pub placements: Vec<Placement>,
-    /// The tasks of each opened processor, in placing order.
+    /// The tasks of each processor in placing order, up to the highest that has one; on a cube some before
+    /// it may have none.
     pub programmes: Vec<Vec<u8>>,
     /// The latest finish.
     pub claim: u32,
@@ -143,8 +144,8 @@ struct Board<'a> {
     inputs: Vec<Inputs>,
     ready: BinaryHeap<u64>,
     partly_ready: Queue,
-    /// How many processors are open; what follows is 0 for the others.
-    open: usize,
+    /// The processors that hold a task; what follows is 0 for the others.
+    open: ProcessorSet,
     ends: Row,
     /// The stores of each processor's tasks and the bytes of the messages to them.
     stores: Row,
@@ -177,7 +178,7 @@ impl<'a> Board<'a> {
             inputs,
             ready,
             partly_ready: Queue::new(),
-            open: 0,
+            open: ProcessorSet::default(),
             ends: [0; MOST_PROCESSORS],
             stores: [0; MOST_PROCESSORS],
             successors: [TaskSet::default(); MOST_PROCESSORS],
@@ -195,8 +196,8 @@ impl<'a> Board<'a> {
             see(turn);
         }
         let most = self.placed.len();
-        let mut programmes: Vec<Vec<u8>> =
-            (0..self.open).map(|_| Vec::with_capacity(most)).collect();
+        let count = self.open.iter().last().map_or(0, |highest| highest + 1);
+        let mut programmes: Vec<Vec<u8>> = (0..count).map(|_| Vec::with_capacity(most)).collect();
         for &task in &self.placed {
             let processor = self.placements[usize::from(task)].processor;
             programmes[usize::from(processor)].push(task);
@@ -205,11 +206,10 @@ impl<'a> Board<'a> {
         Ok(Plan { placements: self.placements, programmes, claim })
     }
 
-    /// The processor for a ready task, by the steps, from its start and the need of store on each;
-    /// the next number stands for a fresh one.
+    /// The processor for a ready task, by the steps, from its start and the need of store on each.
     fn choose(&self, task: usize, starts: &Row, needs: &Row) -> Option<Turn> {
         let fits = ProcessorSet::with(|k| needs[k] <= self.sheet.limit);
-        let open = fits & ProcessorSet::below(self.open);
+        let open = fits & self.open;
         let (join, join_barred) = self.join(task, starts, open);
         let turn = |step, processor| Turn { step, processor, join_barred, share_barred: false };
         if let Some(k) = join {
@@ -218,9 +218,10 @@ impl<'a> Board<'a> {
         if let Some(k) = self.idle(task, open) {
             return Some(turn(Step::Idle, k));
         }
-        if self.open < self.sheet.processors.into() && fits.holds(self.open) {
+        let left = fits & !self.open & ProcessorSet::below(self.sheet.processors.into());
+        if let Some(fresh) = self.fresh(left, starts) {
             let (share, share_barred) = self.share(task, starts, open);
-            let (step, k) = share.map_or((Step::Open, self.open), |k| (Step::Share, k));
+            let (step, k) = share.map_or((Step::Open, fresh), |k| (Step::Share, k));
             return Some(Turn { share_barred, ..turn(step, k) });
         }
         Some(turn(Step::LastResort, least(open, starts)?))
@@ -260,17 +261,30 @@ impl<'a> Board<'a> {
         (in_time.next(), true)
     }
 
+    /// The processor to open among those that are left; a task starts at the same time on all of them,
+    /// but on a cube.
+    fn fresh(&self, left: ProcessorSet, starts: &Row) -> Option<usize> {
+        match self.sheet.cube {
+            false => left.iter().next(),
+            true => least(left, starts),
+        }
+    }
+
     /// The processor, if any, that the guard bars for a task with these starts.
     fn barred(&self, task: usize, starts: &Row) -> Option<usize> {
         let next = self.partly_ready.first().filter(|_| self.guarded)?;
         if self.priority(next) <= self.priority(task) {
             return None;
         }
-        // Elsewhere the next task waits for its latest message, so a start before its arrival can
-        // only be on that message's own processor; it is then the best, and only this raises it.
+        // Elsewhere the next task waits for its latest message, one hop or more, so a start before its
+        // arrival can only be on that message's own processor; it is then the best, and only this raises
+        // it.
         let inputs = &self.inputs[next];
         let k = inputs.arrival_from;
-        let best = inputs.start(k, self.ends[k]);
+        let best = match self.sheet.cube {
+            false => inputs.start(k, self.ends[k]),
+            true => self.start_by_hops(next, k),
+        };
         let finish = starts[k] + u32::from(self.sheet.tasks[task].work);
         (best < inputs.arrival && best < finish).then_some(k)
     }
@@ -281,7 +295,7 @@ impl<'a> Board<'a> {
         self.placements[task] = Placement { processor: k as u8, start, finish };
         self.placed.push(task as u8);
         self.unplaced.remove(task);
-        self.open = self.open.max(k + 1);
+        self.open.insert(k);
         self.ends[k] = finish;
         self.stores[k] = store;
         self.successors[k].join(&self.sheet.successors[task]);
@@ -314,43 +328,63 @@ impl<'a> Board<'a> {
 
     /// The start of a ready task on each processor.
     fn starts(&self, task: usize) -> Row {
-        match self.sheet.unpacking {
-            0 => array::from_fn(|k| self.inputs[task].start(k, self.ends[k])),
-            time => self.unpacked_starts(task, time.into()),
+        match (self.sheet.unpacking, self.sheet.cube) {
+            (0, false) => array::from_fn(|k| self.inputs[task].start(k, self.ends[k])),
+            (_, false) => self.unpacked_starts(task),
+            (_, true) => self.starts_by_hops(task),
         }
     }
 
-    /// The same where receives take time: messages are unpacked one after the other, and what is there
-    /// without one has finished by the processor's end. Not inlined, which would make turns without
-    /// unpacking slower.
+    /// The same where receives take time. Not inlined, which would make turns without unpacking slower.
     #[inline(never)]
-    fn unpacked_starts(&self, task: usize, time: u32) -> Row {
+    fn unpacked_starts(&self, task: usize) -> Row {
+        self.received(task, |message, _| message.one_hop())
+    }
+
+    /// The same on a cube; not inlined either.
+    #[inline(never)]
+    fn starts_by_hops(&self, task: usize) -> Row {
+        self.received(task, |message, k| message.there(k))
+    }
+
+    /// The start of a ready task on each processor, by when each message is there: they are unpacked one
+    /// after the other, and what is there without one has finished by the processor's end.
+    #[inline(always)]
+    fn received(&self, task: usize, there: impl Fn(&Message, u32) -> u32) -> Row {
+        let time = u32::from(self.sheet.unpacking);
         let mut starts = self.ends;
-        for (from, stamp) in self.messages(task) {
+        for message in self.messages(task) {
             // Without a branch, so that many are raised at a time.
             for (k, start) in (0..).zip(&mut starts) {
-                let unpacked = (*start).max(stamp) + time;
-                *start = if k == from { *start } else { unpacked };
+                let unpacked = (*start).max(there(&message, k)) + time;
+                *start = if k == message.from { *start } else { unpacked };
             }
         }
         starts
     }
 
-    /// The start of a ready task on a fresh processor, where all its messages are unpacked; not inlined
-    /// either.
+    /// The start of a ready task on a fresh processor one hop away, where all its messages are unpacked;
+    /// not inlined either.
     #[inline(never)]
     fn unpacked(&self, task: usize) -> u32 {
         let time = u32::from(self.sheet.unpacking);
-        self.messages(task).fold(0, |clock, (_, stamp)| clock.max(stamp) + time)
+        self.messages(task).fold(0, |clock, message| clock.max(message.one_hop()) + time)
     }
 
-    /// The links into a ready task, in rising number: where each comes from, and when it would be there
-    /// as a message.
-    fn messages(&self, task: usize) -> impl Iterator<Item = (u32, u32)> + '_ {
+    /// The start of a partly ready task on a processor of a cube, by its placed predecessors and without
+    /// unpacking.
+    fn start_by_hops(&self, task: usize, k: usize) -> u32 {
+        let placed = self.messages(task).filter(|message| message.finish > 0);
+        placed.fold(self.ends[k], |clock, message| clock.max(message.there(k as u32)))
+    }
+
+    /// The links into a task, in rising number, as the messages that they would be; from a task that is
+    /// not placed the finish is 0.
+    fn messages(&self, task: usize) -> impl Iterator<Item = Message> + '_ {
         graph::incoming(self.sheet).at(task).iter().map(|&link| {
             let link = &self.sheet.links[usize::from(link)];
-            let source = &self.placements[usize::from(link.source)];
-            (source.processor.into(), source.finish + u32::from(link.cost))
+            let Placement { processor, finish, .. } = self.placements[usize::from(link.source)];
+            Message { from: processor.into(), finish, cost: link.cost.into() }
         })
     }
 
@@ -359,6 +393,37 @@ impl<'a> Board<'a> {
         let inputs = &self.inputs[task];
         let alone = u32::from(self.sheet.tasks[task].store) + inputs.bytes;
         array::from_fn(|k| self.stores[k] + alone - inputs.bytes_from[k])
+    }
+}
+
+/// The bits in which two processor numbers differ, by rows: to load them is faster than to count.
+const HOPS: [Row; MOST_PROCESSORS] = {
+    let mut hops = [[0; MOST_PROCESSORS]; MOST_PROCESSORS];
+    let mut at = 0;
+    while at < MOST_PROCESSORS * MOST_PROCESSORS {
+        let (from, to) = (at / MOST_PROCESSORS, at % MOST_PROCESSORS);
+        hops[from][to] = (from ^ to).count_ones();
+        at += 1;
+    }
+    hops
+};
+
+/// What a link brings: the processor of its source, when that has finished, and the link's cost.
+struct Message {
+    from: u32,
+    finish: u32,
+    cost: u32,
+}
+
+impl Message {
+    /// When it is there after one hop.
+    fn one_hop(&self) -> u32 {
+        self.finish + self.cost
+    }
+
+    /// When it is there on processor k of a cube, after a hop for each bit in which the numbers differ.
+    fn there(&self, k: u32) -> u32 {
+        self.finish + self.cost * HOPS[self.from as usize][k as usize]
     }
 }
 
@@ -408,7 +473,8 @@ impl Inputs {
 }
 
 /// A task's rank as one number: its priority, then its level, then the lower task number.
-/// Priorities stay below 2^28 and levels below 2^26, since works, costs and unpacking are u16.
+/// Priorities stay below 2^28 and levels below 2^26, since works, costs and unpacking are u16 and no
+/// message makes more than four hops.
 fn key(priority: u32, level: u32, task: usize) -> u64 {
     u64::from(priority) << 34 | u64::from(level) << 8 | (MOST_TASKS - 1 - task) as u64
 }

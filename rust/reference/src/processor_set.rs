@@ -2,7 +2,7 @@
 
 use crate::sheet::MOST_PROCESSORS;
 use std::iter;
-use std::ops::BitAnd;
+use std::ops::{BitAnd, Not};
 
 /// A set of processor numbers.
 #[derive(Clone, Copy, Debug, Default, PartialEq, Eq)]
@@ -25,11 +25,6 @@ impl ProcessorSet {
         self.0 |= 1 << k;
     }
 
-    /// Whether a processor is in.
-    pub fn holds(self, k: usize) -> bool {
-        k < MOST_PROCESSORS && self.0 >> k & 1 == 1
-    }
-
     /// Its processors in rising number.
     pub fn iter(self) -> impl Iterator<Item = usize> {
         let mut left = self.0;
@@ -38,6 +33,14 @@ impl ProcessorSet {
             left &= left.wrapping_sub(1);
             (lowest < MOST_PROCESSORS).then_some(lowest)
         })
+    }
+}
+
+impl Not for ProcessorSet {
+    type Output = Self;
+
+    fn not(self) -> Self {
+        ProcessorSet(!self.0)
     }
 }
 
@@ -58,7 +61,7 @@ mod tests {
         let set = ProcessorSet::with(|k| k % 3 == 0);
         assert_eq!(set.iter().collect::<Vec<_>>(), [0, 3, 6, 9, 12, 15]);
         assert_eq!((set & ProcessorSet::below(6)).iter().collect::<Vec<_>>(), [0, 3]);
-        assert!(set.holds(15) && !set.holds(14) && !set.holds(16));
+        assert_eq!((!set & ProcessorSet::below(6)).iter().collect::<Vec<_>>(), [1, 2, 4, 5]);
         assert_eq!((set & ProcessorSet::with(|k| k == 1)).iter().next(), None);
         for count in [0, 1, 15, 16] {
             assert_eq!(ProcessorSet::below(count), ProcessorSet::with(|k| k < count));

@@ -37,6 +37,8 @@ pub struct Sheet {
     pub limit: u32,
     /// How long each receive takes its receiver.
     pub unpacking: u16,
+    /// Whether a message makes a hop for each bit in which two processor numbers differ.
+    pub cube: bool,
     pub tasks: Vec<Task>,
     pub links: Vec<Link>,
     /// The tasks to which each task has a link.
@@ -50,10 +52,11 @@ impl Sheet {
         self.tasks.is_empty()
     }
 
-    /// Processors, limit, task count, link count and unpacking time.
-    pub fn board(&self) -> [u32; 5] {
-        let counts = [self.tasks.len(), self.links.len()].map(|count| count as u32);
-        [self.processors.into(), self.limit, counts[0], counts[1], self.unpacking.into()]
+    /// Processors, limit, task count, link count, unpacking time, and 1 for a cube.
+    pub fn board(&self) -> [u32; 6] {
+        let [tasks, links] = [self.tasks.len(), self.links.len()].map(|count| count as u32);
+        let (processors, unpacking) = (self.processors.into(), self.unpacking.into());
+        [processors, self.limit, tasks, links, unpacking, self.cube.into()]
     }
 
     /// Reads a sheet from its bytes (1 to 8, 10).
@@ -75,11 +78,12 @@ impl Sheet {
         processors: u8,
         limit: u32,
         unpacking: u16,
+        cube: bool,
         tasks: &[u16],
         links: &[u16],
     ) -> Result<Sheet, Refusal> {
         let mut at = 0;
-        let draft = Draft::take(processors, limit, unpacking, tasks, links, &mut at);
+        let draft = Draft::take(processors, limit, unpacking, cube, tasks, links, &mut at);
         draft.map_err(|number| Refusal::new(number, at))?.finish()
     }
 
@@ -88,6 +92,7 @@ impl Sheet {
         let mut bytes = Vec::with_capacity(
             BOARD_LENGTH
                 + UNPACKING_LENGTH
+                + CUBE_LENGTH
                 + TASK_LENGTH * self.tasks.len()
                 + LINK_LENGTH * self.links.len()
                 + END_LENGTH,
@@ -97,6 +102,9 @@ impl Sheet {
         if self.unpacking > 0 {
             let [low, high] = self.unpacking.to_le_bytes();
             bytes.extend([UNPACKING, low, high]);
+        }
+        if self.cube {
+            bytes.push(CUBE);
         }
         for task in &self.tasks {
             let ([w0, w1], [s0, s1]) = (task.work.to_le_bytes(), task.store.to_le_bytes());
@@ -130,6 +138,7 @@ struct Draft {
     processors: u8,
     limit: u32,
     unpacking: u16,
+    cube: bool,
     tasks: Vec<Task>,
     links: Vec<Link>,
     successors: Vec<TaskSet>,
@@ -150,6 +159,10 @@ impl Draft {
             if draft.unpacking == 0 {
                 return Err(RANGE);
             }
+            *rest = behind;
+        }
+        if let [CUBE, ref behind @ ..] = **rest {
+            draft.cube = true;
             *rest = behind;
         }
         while let [TASK, w0, w1, s0, s1, ref behind @ ..] = **rest {
@@ -173,6 +186,7 @@ impl Draft {
         processors: u8,
         limit: u32,
         unpacking: u16,
+        cube: bool,
         tasks: &[u16],
         links: &[u16],
         at: &mut usize,
@@ -182,6 +196,10 @@ impl Draft {
         if unpacking > 0 {
             draft.unpacking = unpacking;
             *at += UNPACKING_LENGTH;
+        }
+        if cube {
+            draft.cube = true;
+            *at += CUBE_LENGTH;
         }
         let (records, cut) = tasks.as_chunks();
         for &[work, store] in records {
@@ -211,6 +229,7 @@ impl Draft {
             processors,
             limit,
             unpacking: 0,
+            cube: false,
             tasks: Vec::with_capacity(most.0.min(MOST_TASKS)),
             links: Vec::with_capacity(most.1.min(MOST_LINKS)),
             successors: Vec::with_capacity(most.0.min(MOST_TASKS)),
@@ -257,6 +276,7 @@ impl Draft {
             processors: self.processors,
             limit: self.limit,
             unpacking: self.unpacking,
+            cube: self.cube,
             tasks: self.tasks,
             links: self.links,
             successors: self.successors,
@@ -270,7 +290,7 @@ fn fault(rest: &[u8], allowed: &[u8]) -> u8 {
     match rest.first() {
         None => CUT_SHEET,
         Some(byte) if allowed.contains(byte) => CUT_SHEET,
-        Some(&(BOARD | UNPACKING | TASK | LINK | END)) => SHEET_OUT_OF_TURN,
+        Some(&(BOARD | UNPACKING | CUBE | TASK | LINK | END)) => SHEET_OUT_OF_TURN,
         Some(_) => STRANGE_IN_SHEET,
     }
 }

@@ -112,6 +112,32 @@ link 3 -> 1 cost 2 bytes 4
 link 0 -> 1 cost 1 bytes 4
 ";
 
+/// Five tasks on a cube of four processors. The last starts first on processor 3, two hops from its first
+/// source and one from its second, so that processor 2 is skipped.
+pub fn cube_sheet() -> Vec<u8> {
+    let tasks = [2, 10, 1, 10, 2, 10, 3, 10, 1, 10];
+    let links = [0, 2, 1, 4, 1, 3, 1, 4, 0, 4, 1, 4, 1, 4, 2, 4];
+    let sheet = Sheet::from_values(4, 100, 0, true, &tasks, &links);
+    sheet.expect("the trial sheet is valid").to_bytes()
+}
+
+/// The same as text.
+const CUBE_TEXT: &str = "\
+# Two halves and a task that needs both, on a board wired as a square.
+board processors 4 store 100 cube
+
+task 0 work 2 store 10
+task 1 work 1 store 10
+task 2 work 2 store 10
+task 3 work 3 store 10
+task 4 work 1 store 10
+
+link 0 -> 2 cost 1 bytes 4
+link 1 -> 3 cost 1 bytes 4
+link 0 -> 4 cost 1 bytes 4
+link 1 -> 4 cost 2 bytes 4
+";
+
 /// A load whose six tries have each way to go: 2 to 2 twice, 2 to 1, 1 to 2, which is written, 1 to 2
 /// again, and 0 to 2.
 pub const SMALL_LOAD: Load = Load { seed: 3, tasks: 3, tries: 6, processors: 2, limit: 100 };
@@ -140,8 +166,8 @@ pub fn k9_and_k10() -> Vec<(String, Vec<u8>)> {
     sheets
 }
 
-/// The sheets of the program `trials` by name: K9, K10, a bare board, a free link, K1 with unpacking and
-/// each figure.
+/// The sheets of the program `trials` by name: K9, K10, a bare board, a free link, K1 with unpacking, a
+/// cube and each figure.
 pub fn named() -> Vec<(String, Vec<u8>)> {
     let figures = figures::all().into_iter();
     let figures = figures.map(|figure| (figure.name.to_string(), figure.sheet().to_bytes()));
@@ -149,6 +175,7 @@ pub fn named() -> Vec<(String, Vec<u8>)> {
         ("bare", bare_sheet()),
         ("free-link", free_link_sheet()),
         ("unpacking", unpacking_sheet()),
+        ("cube", cube_sheet()),
     ];
     let own = own.map(|(name, sheet)| (name.to_string(), sheet));
     k9_and_k10().into_iter().chain(own).chain(figures).collect()
@@ -207,6 +234,9 @@ pub fn files() -> Vec<(String, Vec<u8>)> {
         ("unpacking.sheet", unpacking_sheet()),
         ("unpacking.bundle", planned(&unpacking_sheet())),
         ("unpacking.txt", UNPACKING_TEXT.into()),
+        ("cube.sheet", cube_sheet()),
+        ("cube.bundle", planned(&cube_sheet())),
+        ("cube.txt", CUBE_TEXT.into()),
         ("load-small.sheet", load_sheet(SMALL_LOAD)),
         ("load.sheet", load_sheet(LOAD)),
         ("figures/001-F6.1.bundle", figures::gauss_jordan_bundle()),
@@ -230,7 +260,7 @@ fn like_k1(processors: u8, limit: u32, work_2: u16) -> Vec<u8> {
 }
 
 fn valid_sheet(processors: u8, limit: u32, tasks: &[u16], links: &[u16]) -> Vec<u8> {
-    Sheet::from_values(processors, limit, 0, tasks, links)
+    Sheet::from_values(processors, limit, 0, false, tasks, links)
         .expect("the trial sheet is valid")
         .to_bytes()
 }

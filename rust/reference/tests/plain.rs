@@ -50,7 +50,7 @@ fn plans() {
     let mut random = Random::new(1);
     let mut refusals = 0;
     for round in 0..12_000 {
-        let mut sheet = match round % 6 {
+        let mut sheet = match round % 8 {
             0 => sheets::guarded(&mut random),
             1 => sheets::telling(&mut random, 24),
             2 => sheets::sharing(&mut random, 24),
@@ -59,10 +59,14 @@ fn plans() {
                 sheets::free_links(&mut random, &mut sheet);
                 sheet
             }
+            4..=5 => sheets::cube(&mut random, 16),
             _ => sheets::telling(&mut random, 12),
         };
         if random.once_in(2) {
             sheets::unpack(&mut random, &mut sheet);
+        }
+        if random.once_in(4) {
+            sheets::wire(&mut random, &mut sheet);
         }
         let sheet = sheet.encode();
         let bundle = whole(|out| interface::plan(&sheet, out));
@@ -101,21 +105,32 @@ fn perhaps_circular(random: &mut Random) -> sheets::Sheet {
     values
 }
 
-/// Sheets with a time for receives where none may stand, twice, of 0 or cut.
-#[test]
-fn wrong_unpacking() {
-    let mut random = Random::new(9);
+/// Small sheets as an edit leaves them; each of these answers comes now and then.
+fn wrong_boards(seed: u64, edit: fn(&mut Random, &[u8]) -> Vec<u8>, answers: &[usize]) {
+    let mut random = Random::new(seed);
     let mut counts = [0; 11];
     for _ in 0..8000 {
         let sheet = sheets::small(&mut random).encode();
-        let sheet = damage::unpacking(&mut random, &sheet);
+        let sheet = edit(&mut random, &sheet);
         let literal = literal::sheet::Sheet::read(&sheet).map(|_| ());
         assert_eq!(Sheet::read(&sheet).map(|_| ()).map_err(same), literal, "{sheet:02X?}");
         counts[literal.err().map_or(0, |refusal| usize::from(refusal.number))] += 1;
     }
-    for number in [0, 1, 3, 4, 6] {
+    for &number in answers {
         assert!(counts[number] > 100, "{number} came {} times", counts[number]);
     }
+}
+
+/// Sheets with a time for receives where none may stand, twice, of 0 or cut.
+#[test]
+fn wrong_unpacking() {
+    wrong_boards(9, damage::unpacking, &[0, 1, 3, 4, 6]);
+}
+
+/// Sheets with the wires of a cube where they may not stand, or twice.
+#[test]
+fn wrong_cubes() {
+    wrong_boards(10, damage::cube, &[0, 1, 3, 4]);
 }
 
 #[test]
@@ -300,9 +315,10 @@ fn writers_and_readers() {
                 _ => damage::values(&mut random, &mut values.links, 4),
             }
         }
-        let sheets::Sheet { processors, limit, unpacking, ref tasks, ref links } = values;
-        let sheet = Sheet::from_values(processors, limit, unpacking, tasks, links);
-        let literal = literal::interface::write_sheet(processors, limit, unpacking, tasks, links);
+        let sheets::Sheet { processors, limit, unpacking, cube, ref tasks, ref links } = values;
+        let sheet = Sheet::from_values(processors, limit, unpacking, cube != 0, tasks, links);
+        let literal =
+            literal::interface::write_sheet(processors, limit, unpacking, cube, tasks, links);
         assert_eq!(sheet.map(|sheet| sheet.to_bytes()).map_err(same), literal, "{values:?}");
 
         let values = sheets::small(&mut random);

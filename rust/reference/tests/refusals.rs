@@ -15,7 +15,7 @@ fn sheet(bytes: &[u8]) -> Verdict {
 
 /// Number and place of the refusal of a sheet's values, on two processors.
 fn sheet_values(tasks: &[u16], links: &[u16]) -> Verdict {
-    let answer = Sheet::from_values(2, 9, 0, tasks, links);
+    let answer = Sheet::from_values(2, 9, 0, false, tasks, links);
     answer.err().map(|refusal| (refusal.number, refusal.place))
 }
 
@@ -42,6 +42,7 @@ type Case<'a, T> = (&'a [T], Verdict);
 
 const BOARD: [u8; 6] = [0x4D, 2, 9, 0, 0, 0];
 const UNPACKING: [u8; 3] = [0x55, 1, 0];
+const CUBE: [u8; 1] = [0x48];
 const TASK: [u8; 5] = [0x54, 1, 0, 0, 0];
 const END: [u8; 1] = [0x51];
 
@@ -123,14 +124,46 @@ fn sheet_with_unpacking() {
         assert_eq!(sheet(&join(parts)), *expected, "{:02X?}", join(parts));
     }
     // What is written behind it stands three bytes later.
-    let values = |unpacking, tasks: &[u16]| {
-        let answer = Sheet::from_values(2, 9, unpacking, tasks, &[]);
-        answer.map(|sheet| sheet.to_bytes()).map_err(|refusal| (refusal.number, refusal.place))
-    };
-    assert_eq!(values(0, &[]), Ok(join(&[&BOARD, &END])));
-    assert_eq!(values(1, &[1, 0]), Ok(join(&[&BOARD, &UNPACKING, &TASK, &END])));
-    assert_eq!(values(1, &[0, 0]), Err((6, 9)));
-    assert_eq!(values(65_535, &[1]), Err((1, 9)));
+    assert_eq!(written(0, false, &[]), Ok(join(&[&BOARD, &END])));
+    assert_eq!(written(1, false, &[1, 0]), Ok(join(&[&BOARD, &UNPACKING, &TASK, &END])));
+    assert_eq!(written(1, false, &[0, 0]), Err((6, 9)));
+    assert_eq!(written(65_535, false, &[1]), Err((1, 9)));
+}
+
+/// The bytes of a board with these tasks on two processors, or number and place of the refusal.
+fn written(unpacking: u16, cube: bool, tasks: &[u16]) -> Result<Vec<u8>, (u8, u64)> {
+    let answer = Sheet::from_values(2, 9, unpacking, cube, tasks, &[]);
+    answer.map(|sheet| sheet.to_bytes()).map_err(|refusal| (refusal.number, refusal.place))
+}
+
+/// A `48` stands directly behind the board or its `55`, once; elsewhere it is 3.
+#[test]
+fn sheet_of_a_cube() {
+    let cases: &[Case<&[u8]>] = &[
+        (&[&BOARD, &CUBE, &END], None),
+        (&[&BOARD, &CUBE, &TASK, &TASK, &link(1, 0), &END], None),
+        (&[&BOARD, &UNPACKING, &CUBE, &TASK, &END], None),
+        (&[&BOARD, &CUBE], Some((1, 7))),
+        (&[&CUBE], Some((3, 0))),
+        (&[&CUBE, &BOARD, &END], Some((3, 0))),
+        (&[&BOARD, &CUBE, &CUBE, &END], Some((3, 7))),
+        (&[&BOARD, &CUBE, &UNPACKING, &END], Some((3, 7))),
+        (&[&BOARD, &CUBE, &UNPACKING[..1]], Some((3, 7))),
+        (&[&BOARD, &CUBE, &BOARD], Some((3, 7))),
+        (&[&BOARD, &UNPACKING, &CUBE, &CUBE], Some((3, 10))),
+        (&[&BOARD, &UNPACKING[..1], &CUBE], Some((1, 6))),
+        (&[&BOARD, &TASK, &CUBE, &END], Some((3, 11))),
+        (&[&BOARD, &TASK, &TASK, &link(0, 1), &CUBE], Some((3, 23))),
+        (&[&BOARD, &END, &CUBE], Some((4, 7))),
+        (&[&BOARD, &CUBE, &link(0, 1), &END], Some((7, 7))),
+    ];
+    for (parts, expected) in cases {
+        assert_eq!(sheet(&join(parts)), *expected, "{:02X?}", join(parts));
+    }
+    assert_eq!(written(0, true, &[]), Ok(join(&[&BOARD, &CUBE, &END])));
+    assert_eq!(written(1, true, &[1, 0]), Ok(join(&[&BOARD, &UNPACKING, &CUBE, &TASK, &END])));
+    assert_eq!(written(1, true, &[0, 0]), Err((6, 10)));
+    assert_eq!(written(0, true, &[1]), Err((1, 7)));
 }
 
 #[test]
@@ -144,8 +177,8 @@ fn sheet_over_full() {
     let links: Vec<u8> =
         (0..1024usize).flat_map(|i| link((i / 32) as u8, (100 + i % 32) as u8)).collect();
     assert_eq!(sheet(&join(&[&BOARD, &tasks, &links, &END])), None);
-    let longest = join(&[&BOARD, &UNPACKING, &tasks, &links, &END]);
-    assert_eq!((sheet(&longest), longest.len()), (None, 8458));
+    let longest = join(&[&BOARD, &UNPACKING, &CUBE, &tasks, &links, &END]);
+    assert_eq!((sheet(&longest), longest.len()), (None, 8459));
     // 1 before 5, 5 before 8
     assert_eq!(sheet(&join(&[&BOARD, &tasks, &links, &links[..7]])), Some((5, 8454)));
     assert_eq!(sheet(&join(&[&BOARD, &tasks, &links, &links[..6]])), Some((1, 8454)));
@@ -324,19 +357,19 @@ fn short_outputs() {
     let tasks = [1, 10, 3, 10, 2, 10, 2, 10];
     let links = [3, 2, 1, 4, 3, 1, 2, 4, 0, 1, 1, 4];
     let mut out = [0xAA; 50];
-    assert_eq!(interface::write_sheet(3, 100, 0, &tasks, &links, &mut out), Ok(48));
+    assert_eq!(interface::write_sheet(3, 100, 0, 0, &tasks, &links, &mut out), Ok(48));
     assert_eq!((&out[..48], &out[48..]), (&sheet[..], &[0xAA; 2][..]));
-    let write = interface::write_sheet(3, 100, 0, &tasks, &links, &mut out[..47]);
+    let write = interface::write_sheet(3, 100, 0, 0, &tasks, &links, &mut out[..47]);
     assert_eq!(place(write.map(|_| ())), Some((12, 48)));
 
     // A bare board needs no tables and no levels.
     let bare = bare_sheet();
-    assert_eq!(interface::read_sheet(&bare, &mut [], &mut []), Ok([3, 100, 0, 0, 0]));
+    assert_eq!(interface::read_sheet(&bare, &mut [], &mut []), Ok([3, 100, 0, 0, 0, 0]));
     assert_eq!(interface::levels(&bare, &mut []), Ok(0));
     assert_eq!(interface::read_bundle(&bare, &BARE_BUNDLE, &mut []), Ok((0, 0)));
     let place = |answer: Result<usize, reference::Refusal>| place(answer.map(|_| ()));
     assert_eq!(place(interface::plan(&bare, &mut [0; 4])), Some((12, 5)));
     assert_eq!(place(interface::listing(&bare, &mut [0; 8])), Some((12, 9)));
-    assert_eq!(place(interface::write_sheet(3, 100, 0, &[], &[], &mut [0; 6])), Some((12, 7)));
+    assert_eq!(place(interface::write_sheet(3, 100, 0, 0, &[], &[], &mut [0; 6])), Some((12, 7)));
     assert_eq!(place(interface::write_bundle(&bare, &[], 0, &mut [0; 4])), Some((12, 5)));
 }

@@ -172,6 +172,27 @@ fn unpacking() {
     assert_eq!(check(&read(&bytes), &K1_BUNDLE), refused(30, 6));
 }
 
+/// C-20: on a cube of four task 4 needs task 0, at 2 on processor 0, and task 1, at 1 on processor 1, both
+/// with the arrival 3. It starts at 5 on processor 2 and at 4 on processor 3, which is opened before it;
+/// the number that is skipped has an empty programme and does not count.
+#[test]
+fn cube() {
+    let bytes = cube_sheet();
+    assert_eq!(bytes[6], 0x48);
+    let sheet = read(&bytes);
+    assert_eq!(sheet.board(), [4, 100, 5, 4, 0, 1]);
+    let plan = planned(&bytes);
+    assert_eq!(rows(&plan), [(0, 0, 2), (1, 0, 1), (0, 2, 4), (1, 1, 4), (3, 4, 5)]);
+    assert_eq!(plan.programmes, [&[0, 2][..], &[1, 3], &[], &[4]]);
+    assert_eq!(listing::print(&bytes), b"PLAN 3 5\n0 0 0 2\n1 1 0 1\n2 0 2 4\n3 1 1 4\n4 3 4 5\n");
+    accepted(&bytes);
+    // Without the wires every message makes one hop: task 4 starts at 3 on the next processor.
+    let plain = [&bytes[..6], &bytes[7..]].concat();
+    assert_eq!(rows(&planned(&plain))[4], (2, 3, 4));
+    assert_eq!(levels(&sheet), levels(&read(&plain)));
+    assert_eq!(check(&read(&plain), &plan.to_bundle(&sheet)), refused(30, 4));
+}
+
 #[test]
 fn starts_are_those_of_the_runs() {
     let plan = planned(&k1_sheet());

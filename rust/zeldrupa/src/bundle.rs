@@ -52,6 +52,12 @@ impl Bundle {
     pub fn claim(&self) -> u32 {
         self.claim
     }
+
+    /// The processor that receives the message of a link, if one does.
+    pub fn receiver(&self, link: u16) -> Option<usize> {
+        let receive = Command::Receive(link);
+        self.programmes.iter().position(|programme| programme.contains(&receive))
+    }
 }
 
 impl AsRef<[u8]> for Bundle {

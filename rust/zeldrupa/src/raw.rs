@@ -26,16 +26,17 @@ pub type Answer = (u8, u64);
 
 interface! {
     /// Reads a sheet into tables of values and the board: processors, limit, task count, link count,
-    /// unpacking time.
+    /// unpacking time, and 1 for a cube.
     read_sheet = zeldrupa_read_sheet(
-        sheet: &[u8], work: &mut [u32], tasks: &mut [u16], links: &mut [u16], board: &mut [u32; 5]
+        sheet: &[u8], work: &mut [u32], tasks: &mut [u16], links: &mut [u16], board: &mut [u32; 6]
     );
 
-    /// Writes the sheet of these values, in which an unpacking time of 0 is none; the place is its
-    /// length.
+    /// Writes the sheet of these values, in which an unpacking time of 0 is none and a `cube` of 0 is
+    /// none; the place is its length.
+    #[allow(clippy::too_many_arguments)]
     write_sheet = zeldrupa_write_sheet(
-        processors: u8, limit: u32, unpacking: u16, tasks: &[u16], links: &[u16], work: &mut [u32],
-        out: &mut [u8]
+        processors: u8, limit: u32, unpacking: u16, cube: u8, tasks: &[u16], links: &[u16],
+        work: &mut [u32], out: &mut [u8]
     );
 
     /// Writes the sheet that a seed gives, with so many tasks and tries for links; the place is its

@@ -15,12 +15,23 @@ pub struct Board {
     pub limit: u32,
     /// How long each receive takes its receiver, 0 for no time.
     pub unpacking: u16,
+    /// Whether it is wired as a cube, so that a message takes its cost for each bit in which two processor
+    /// numbers differ.
+    pub cube: bool,
 }
 
 impl Board {
-    /// A board on which a receive takes no time.
+    /// A board on which a receive takes no time, and which is no cube.
     pub fn new(processors: u8, limit: u32) -> Self {
-        Board { processors, limit, unpacking: 0 }
+        Board { processors, limit, unpacking: 0, cube: false }
+    }
+
+    /// How many hops a message makes from one processor to another.
+    pub fn hops(self, from: usize, to: usize) -> u32 {
+        match self.cube {
+            true => (from ^ to).count_ones(),
+            false => u32::from(from != to),
+        }
     }
 }
 

@@ -40,14 +40,19 @@ impl WorkArea {
 
     /// Reads a task sheet (1 to 8, 10).
     pub fn read_sheet(&mut self, bytes: &[u8]) -> Result<Sheet, Refusal> {
-        let (tasks, links, mut board) = (&mut self.tasks, &mut self.links, [0; 5]);
+        let (tasks, links, mut board) = (&mut self.tasks, &mut self.links, [0; 6]);
         Refusal::of(raw::read_sheet(bytes, &mut self.words, tasks, links, &mut board))?;
-        let [processors, limit, task_count, link_count, unpacking] = board;
+        let [processors, limit, task_count, link_count, unpacking, cube] = board;
         let tasks = self.tasks.chunks_exact(2).take(task_count as usize);
         let links = self.links.chunks_exact(4).take(link_count as usize);
         Ok(Sheet {
             bytes: bytes.to_vec(),
-            board: Board { processors: processors as u8, limit, unpacking: unpacking as u16 },
+            board: Board {
+                processors: processors as u8,
+                limit,
+                unpacking: unpacking as u16,
+                cube: cube == 1,
+            },
             tasks: tasks.map(|task| Task { work: task[0], store: task[1] }).collect(),
             links: links
                 .map(|link| Link {
@@ -86,9 +91,10 @@ impl WorkArea {
         let task_values: Vec<u16> = tasks.iter().flat_map(|task| task.values()).collect();
         let link_values: Vec<u16> = links.iter().flat_map(|link| link.values()).collect();
         let words = &mut self.words;
-        let Board { processors, limit, unpacking } = board;
         let bytes = filled(&mut self.bytes, |out| {
-            raw::write_sheet(processors, limit, unpacking, &task_values, &link_values, words, out)
+            let Board { processors, limit, unpacking, cube } = board;
+            let (tasks, links) = (&task_values, &link_values);
+            raw::write_sheet(processors, limit, unpacking, cube.into(), tasks, links, words, out)
         })?;
         let (tasks, links) = (tasks.to_vec(), links.to_vec());
         Ok(Sheet { bytes: bytes.to_vec(), board, tasks, links })
@@ -139,6 +145,10 @@ impl WorkArea {
     /// let bundle = work.plan(&bare).unwrap();
     /// assert_eq!(bundle.bytes(), [0x5A, 0, 0, 0, 0]);
     /// assert_eq!((bundle.programmes().len(), bundle.claim()), (0, 0));
+    ///
+    /// // On a cube near processors are opened first: a number that is skipped has an empty programme.
+    /// let cube = work.read_sheet(include_bytes!("../../../examples/cube.sheet")).unwrap();
+    /// assert!(cube.board().cube && work.plan(&cube).unwrap().programmes()[2].is_empty());
     /// ```
     pub fn plan(&mut self, sheet: &Sheet) -> Result<Bundle, Refusal> {
         let words = &mut self.words;

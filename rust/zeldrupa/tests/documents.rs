@@ -34,12 +34,12 @@ fn the_annotated_bytes_are_k1() {
     assert_eq!(annotated(&page, "bundle"), bytes("examples/k1.bundle"));
 }
 
-/// The most tasks, links and programmes with unpacking, and every link between two processors: the
-/// longest sheet, and the longest bundle that is accepted.
+/// The most tasks, links and programmes with unpacking on a cube, and every link between two processors:
+/// the longest sheet, and the longest bundle that is accepted.
 #[test]
 fn the_longest_files_are_as_long_as_is_said() {
     let mut work = WorkArea::new();
-    let board = Board { unpacking: 65_535, ..Board::new(16, u32::MAX) };
+    let board = Board { unpacking: 65_535, cube: true, ..Board::new(16, u32::MAX) };
     let tasks = [Task { work: 65_535, store: 0 }; 256];
     let links: Vec<Link> = (0..1024)
         .map(|number| {

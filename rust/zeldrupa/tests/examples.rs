@@ -48,7 +48,7 @@ fn plans_are_accepted_and_run_to_their_claims() {
             continue;
         };
         // The bundles of K5, K6 and the figure are by hand.
-        let planned = ["k1", "k2", "k3", "k4", "bare", "free-link", "unpacking"];
+        let planned = ["k1", "k2", "k3", "k4", "bare", "free-link", "unpacking", "cube"];
         if planned.iter().any(|trial| name.starts_with(trial)) {
             assert_eq!(bundle.bytes(), files[&name.replace(".sheet", ".bundle")], "{name}");
         }
@@ -207,13 +207,19 @@ fn refusals_are_explained() {
     assert!(explained.place.starts_with("processor 0 waits at command 0 for link 1, pong -> out"));
     assert_eq!(explained.commands, [[0, 0], [1, 3], [1, 0], [0, 3]]);
 
-    // Unpacking in a wrong place, twice, of 0, and cut.
+    // Unpacking in a wrong place, twice, of 0, and cut; a cube in a wrong place and twice.
     let board = [0x4D, 1, 0, 0, 0, 0];
     for (rest, place) in [
         (&[0x54, 1, 0, 0, 0, 0x55][..], "byte 11: unpacking: not directly behind the board"),
         (&[0x55, 1, 0, 0x55, 1, 0], "byte 9: unpacking: a second one"),
         (&[0x55, 0, 0], "byte 6: unpacking: time 0"),
         (&[0x55, 7], "byte 6: unpacking: 1 of its 2 operand bytes"),
+        (&[0x48, 0x55, 1, 0], "byte 7: unpacking: not directly behind the board"),
+        (
+            &[0x54, 1, 0, 0, 0, 0x48],
+            "byte 11: cube: not directly behind the board or its unpacking",
+        ),
+        (&[0x48, 0x48], "byte 7: cube: a second one"),
     ] {
         let sheet = &[&board, rest].concat();
         let refusal = work.read_sheet(sheet).unwrap_err();

@@ -22,8 +22,8 @@ fn answers_to_none() -> [Answer; 17] {
     let none: &mut [u32] = &mut [];
     let long: &mut [u32] = &mut vec![0; raw::work_length()];
     [
-        raw::read_sheet(&[], none, &mut [], &mut [], &mut [0; 5]),
-        raw::write_sheet(1, 0, 0, &[], &[], none, &mut []),
+        raw::read_sheet(&[], none, &mut [], &mut [], &mut [0; 6]),
+        raw::write_sheet(1, 0, 0, 0, &[], &[], none, &mut []),
         raw::levels(&[], none, &mut []),
         raw::plan(&[], none, &mut []),
         raw::listing(&[], none, &mut []),

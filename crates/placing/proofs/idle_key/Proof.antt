@@ -9,10 +9,10 @@ use Rattle.placing.proofs.idle_key.Statement.{statement}
 use Rattle.placing.proofs.idle_key.Tie as tie
 
 returns : tie.Need-returns
-returns c = let a = c .before .before .before .before .before .before .before .before .before .before .before in idle-may _ _ (a .args .t) (a .args .k) (c .before .before .before .before .before .before .before .before .end-of .ensures .0) (a .pre .1 .0 .0) (leb-true _ _ (both-parts _ _ (sym (c .before .before .before .before .before .before .are-both .ensures) ∙ c .before .before .before .before .before .if1 .taken) .0)) (sym (c .before .before .before .before .is-spent .ensures) ∙ c .before .before .before .if2 .taken) (sym (c .before .before .fits-on .ensures) ∙ c .before .if3 .taken) (c .high-key .ensures)
+returns c = let a = c .before .before .before .before .before .before .before .before .before .before .before in idle-may _ _ (a .args .t) (a .args .k) (c .before .before .before .before .before .before .before .before .end-of .ensures .0) (a .pre .1 .0 .0) (leb-true _ _ (both-parts _ _ (sym (c .before .before .before .before .before .before .are-both .ensures) ∙ c .before .before .before .before .before .if1 .taken) .0)) (sym (c .before .before .before .before .is-spent .ensures) ∙ c .before .before .before .if2 .taken) (sym (c .before .before .fits-open .ensures) ∙ c .before .if3 .taken) (c .high-key .ensures)
 
 returns-2 : tie.Need-returns-2
-returns-2 c = let a = c .before .before .before .before .before .before .before .before .before .before in idle-full _ _ (a .args .t) (a .args .k) (c .before .before .before .before .before .before .before .end-of .ensures .0) (a .pre .1 .0 .0) (leb-true _ _ (both-parts _ _ (sym (c .before .before .before .before .before .are-both .ensures) ∙ c .before .before .before .before .if1 .taken) .0)) (sym (c .before .before .before .is-spent .ensures) ∙ c .before .before .if2 .taken) (sym (c .before .fits-on .ensures) ∙ c .if3 .left)
+returns-2 c = let a = c .before .before .before .before .before .before .before .before .before .before in idle-full _ _ (a .args .t) (a .args .k) (c .before .before .before .before .before .before .before .end-of .ensures .0) (a .pre .1 .0 .0) (leb-true _ _ (both-parts _ _ (sym (c .before .before .before .before .before .are-both .ensures) ∙ c .before .before .before .before .if1 .taken) .0)) (sym (c .before .before .before .is-spent .ensures) ∙ c .before .before .if2 .taken) (sym (c .before .fits-open .ensures) ∙ c .if3 .left)
 
 returns-3 : tie.Need-returns-3
 returns-3 c = let a = c .before .before .before .before .before .before .before .before in idle-waits _ _ (a .args .t) (a .args .k) (sym (c .before .is-spent .ensures) ∙ c .if2 .left)

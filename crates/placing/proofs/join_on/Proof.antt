@@ -87,7 +87,7 @@ returns c =
     let s = c .before .before .before .before .before .before .before in
     let a = s .args in
     let most = join-done (now (a .w)) (now (a .kept)) (a .t) (s .pre .0 .0) (c .before .before .loop .inv) (c .before .before .before .before .word .ensures .0) (omega (arith, c .before .loop-test .left)) in
-    (c .processor-of .ensures .0 ∙ join-is _ _ (a .t) (s .pre .0 .0 .kept .few-opened) (λ k l. start-small (now (a .w)) (now (a .kept)) (a .t) k (s .pre .0 .0)) most, c .processor-of .ensures .1)
+    (c .processor-of .ensures .0 ∙ join-is _ _ (a .t) (s .pre .0 .0 .kept .few-opened) (λ k l. start-small (now (a .w)) (now (a .kept)) (a .t) k (s .pre .0 .0) (omega (arith, s .pre .0 .0 .kept .few-opened))) most, c .processor-of .ensures .1)
 
 pub join-on-spec : {M : Type 1} → statement M
 join-on-spec =

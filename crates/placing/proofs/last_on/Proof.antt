@@ -29,8 +29,8 @@ mul-wide c = omega (arith, c .loop-test .taken, c .before .before .opened .ensur
 element-copy-out-wide : tie.Need-element-copy-out-wide Inv-loop μ-loop
 element-copy-out-wide c = omega (arith, c .loop-test .taken, c .before .before .opened .ensures .1)
 
-fits-on-requires : tie.Need-fits-on-requires Inv-loop μ-loop
-fits-on-requires c κs = (c .before .before .before .before .before .before .before .pre .0, omega (arith, c .before .before .loop-test .taken, c .before .before .before .before .opened .ensures .1))
+fits-open-requires : tie.Need-fits-open-requires Inv-loop μ-loop
+fits-open-requires c κs = (c .before .before .before .before .before .before .before .pre .0, omega (arith, c .before .before .loop-test .taken, c .before .before .before .before .opened .ensures .1))
 
 low-key-requires : tie.Need-low-key-requires Inv-loop μ-loop
 low-key-requires c κs = (c .before .wide .ensures .1, omega (arith, c .before .before .before .loop-test .taken, c .before .before .before .before .before .opened .ensures .1))
@@ -40,14 +40,14 @@ loop-again c =
     let s = c .before .before .before .before .before .before .before .before .before .before in
     let loop = c .before .before .before .before .before .before .loop in
     let start = c .before .before .before .wide .ensures .0 ∙ s .pre .1 .on (loop .k) (omega (arith, c .before .before .before .before .before .loop-test .taken, c .before .before .before .before .before .before .before .opened .ensures .1)) in
-    (omega (arith, c .before .before .before .before .before .loop-test .taken), greatest-more _ _ (loop .inv .1) (last-key-is _ _ (s .args .t) (loop .k) start (c .before .before .fits-on .ensures) (c .before .low-key .ensures)) (c .later .ensures))
+    (omega (arith, c .before .before .before .before .before .loop-test .taken), greatest-more _ _ (loop .inv .1) (last-key-is _ _ (s .args .t) (loop .k) start (c .before .before .fits-open .ensures) (c .before .low-key .ensures)) (c .later .ensures))
 
 returns : tie.Need-returns Inv-loop μ-loop
 returns c =
     let s = c .before .before .before .before .before .before in
     let a = s .args in
     let most = greatest-at _ _ (scheduleIn (now (a .w)) .opened) (c .before .before .loop .inv .1) (omega (arith, c .before .before .loop .inv .0, c .before .loop-test .left, c .before .before .before .opened .ensures .0)) in
-    (c .processor-of .ensures .0 ∙ last-is _ _ (a .t) (s .pre .0 .kept .few-opened) (λ k l. start-small (now (a .w)) (now (a .kept)) (a .t) k (s .pre .0)) most, c .processor-of .ensures .1)
+    (c .processor-of .ensures .0 ∙ last-is _ _ (a .t) (s .pre .0 .kept .few-opened) (λ k l. start-small (now (a .w)) (now (a .kept)) (a .t) k (s .pre .0) (omega (arith, s .pre .0 .kept .few-opened))) most, c .processor-of .ensures .1)
 
 pub last-on-spec : {M : Type 1} → statement M
 last-on-spec =
@@ -60,7 +60,7 @@ last-on-spec =
     mul-wide
     element-copy-out-wide
     (λ c κs. search needs)
-    fits-on-requires
+    fits-open-requires
     low-key-requires
     (λ c κs. search needs)
     (λ c. search needs)

@@ -8,7 +8,7 @@ returns : tie.Need-returns
 returns c =
     let a = c .before .before .before .before .before in
     let p = a .pre .1 in
-    share-is _ _ (a .args .t) (a .args .k) (p .0 .1) (p .1 .0) (p .1 .1) (p .0 .0) (c .before .fits-on .ensures) (c .before .before .are-both .ensures) (c .are-both2 .ensures)
+    share-is _ _ (a .args .t) (a .args .k) (p .0 .1) (p .1 .0) (p .1 .1) (p .0 .0) (c .before .fits-open .ensures) (c .before .before .are-both .ensures) (c .are-both2 .ensures)
 
 pub may-share-on-spec : {M : Type 1} → statement M
 may-share-on-spec =

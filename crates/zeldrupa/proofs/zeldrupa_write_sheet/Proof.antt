@@ -1,7 +1,7 @@
 -- `zeldrupa_write_sheet` (src/lib.rt) keeps its contract.
 use Rattle.folds.specs.Answers.{andThen, fitting}
 use Rattle.graph.specs.Graph.{readSheet}
-use Rattle.sheet.specs.Writing.{valueBytes}
+use Rattle.sheet.specs.Writing.{cubeOf, valueBytes}
 use Rattle.zeldrupa.proofs.Gives.{gives-part, gives-short}
 use Rattle.zeldrupa.specs.Promises.{writeSheetAnswer}
 use borrow.Author.Needs.{needs}
@@ -14,7 +14,7 @@ returns : tie.Need-returns
 unfolding writeSheetAnswer
 returns c =
     let s = c .before .before .before .before .before in
-    let b = valueBytes (s .args .processors) (s .args .limit) (s .args .unpacking) (now (s .args .tasks)) (now (s .args .links)) in
+    let b = valueBytes (s .args .processors) (s .args .limit) (s .args .unpacking) (cubeOf (s .args .cube)) (now (s .args .tasks)) (now (s .args .links)) in
     gives-short (andThen (readSheet b) (λ x. fitting (length (now (s .args .out))) b)) (now (s .args .work)) (now (s .args .out)) (c .if1 .taken)
 
 write-requires : tie.Need-write-requires
@@ -36,7 +36,7 @@ returns-2 : tie.Need-returns-2
 unfolding writeSheetAnswer
 returns-2 c =
     let s = c .before .before .before .before .before .before .before .before .before .before .before .before .before .before .before .before .before .before in
-    let b = valueBytes (s .args .processors) (s .args .limit) (s .args .unpacking) (now (s .args .tasks)) (now (s .args .links)) in
+    let b = valueBytes (s .args .processors) (s .args .limit) (s .args .unpacking) (cubeOf (s .args .cube)) (now (s .args .tasks)) (now (s .args .links)) in
     gives-part (andThen (readSheet b) (λ x. fitting (length (now (s .args .out))) b)) (now (s .args .work)) (now (s .args .out)) _ _ _ _ _ _ (c .before .before .before .before .before .before .before .before .before .before .before .before .before .if1 .left) (c .before .before .before .before .before .before .before .before .before .before .write .ensures) (c .before .before .before .before .clear .ensures) (c .conclude .ensures)
 
 pub zeldrupa-write-sheet-spec : {M : Type 1} → statement M

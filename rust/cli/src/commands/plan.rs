@@ -12,8 +12,8 @@ pub const COMMAND: Command = Command {
     options: &[("-o", "write the bundle's bytes to this file; `-` is standard output")],
     brief: "plan a sheet: the listing, or the bundle",
     full: "\
-Plans a sheet. The listing has `PLAN`, the processors opened and the claim, then for each task its
-processor, its start and its finish; with -o the bundle is written instead.",
+Plans a sheet. The listing has `PLAN`, the processors that run a task and the claim, then for each
+task its processor, its start and its finish; with -o the bundle is written instead.",
     answer,
 };
 

@@ -6,10 +6,10 @@ use crate::answer::{Answer, Fault};
 use crate::arguments::Arguments;
 use crate::loader::{Loader, SheetFile};
 use crate::table::aligned;
-use crate::text::link_shown;
+use crate::text::{hops_shown, link_shown};
 use crate::trace::{step, Event};
 use inputs::Random;
-use zeldrupa::{Command as Step, Machine};
+use zeldrupa::{Bundle, Command as Step, Machine};
 
 pub const COMMAND: Command = Command {
     name: "run",
@@ -23,7 +23,8 @@ pub const COMMAND: Command = Command {
     full: "\
 Steps the machine by one command of one chosen processor at a time, also of a bundle that gets stuck
 or claims wrongly. A line says what was done, or what the processor waits for and who has to send
-it. Without options the processors take turns until nobody can step.",
+it; on a cube, how many hops a message makes. Without options the processors take turns until nobody
+can step.",
     answer,
 };
 
@@ -42,7 +43,7 @@ fn answer(loader: &mut Loader, arguments: &Arguments) -> Result<Answer, Fault> {
     let sheet = loader.sheet(&arguments.files[0])?;
     let bundle = needed_bundle(loader, &sheet, &arguments.files, &COMMAND)?;
     let mut machine = loader.start(&sheet, &bundle)?;
-    let mut log = Log { of: &sheet, text: String::new(), choices: 0 };
+    let mut log = Log { of: &sheet, bundle: &bundle.bundle, text: String::new(), choices: 0 };
     match order {
         Order::Given(choices) => {
             choices.iter().for_each(|&choice| log.choose(&mut machine, choice));
@@ -98,6 +99,7 @@ fn able(machine: &Machine) -> bool {
 /// The lines so far.
 struct Log<'a> {
     of: &'a SheetFile,
+    bundle: &'a Bundle,
     text: String,
     choices: usize,
 }
@@ -128,7 +130,9 @@ impl Log<'_> {
             }
             Step::Send(number) => {
                 let stamp = event.stamp.unwrap_or_default();
-                format!("sends {} at {start}, there at {stamp}", link(number))
+                let to = self.bundle.receiver(number).unwrap_or(event.processor);
+                let hops = hops_shown(self.of.sheet.board(), event.processor, to);
+                format!("sends {} at {start}{hops}, there at {stamp}", link(number))
             }
             Step::Receive(number) => {
                 let (link, at) = (link(number), event.has_message());

@@ -68,8 +68,7 @@ impl Picture<'_> {
             let Command::Send(link) = event.command else { continue };
             let receive = Command::Receive(link);
             let received = self.trace.events.iter().find(|other| other.command == receive);
-            let programmes = self.bundle.bundle.programmes();
-            let to = programmes.iter().position(|programme| programme.contains(&receive));
+            let to = self.bundle.bundle.receiver(link);
             messages.push(Message {
                 link: link.into(),
                 from: event.processor,

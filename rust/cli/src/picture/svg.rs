@@ -1,6 +1,7 @@
 //! The picture as SVG.
 
 use super::{circle, ticks, Picture};
+use crate::text::hops_shown;
 use crate::trace::Event;
 use zeldrupa::Command;
 
@@ -217,9 +218,10 @@ impl<'a> Drawing<'a> {
             let received =
                 message.received.map_or(String::new(), |at| format!(", received at {at}"));
             let told = format!(
-                "{}: sent at {}, there at {}{received}",
+                "{}: sent at {}{}, there at {}{received}",
                 self.picture.link(message.link),
                 message.sent,
+                hops_shown(self.picture.of.sheet.board(), message.from, message.to),
                 message.there
             );
             // An arrow that would leave the picture ends at its edge.

@@ -15,7 +15,7 @@ pub use line::{Line, Problem};
 pub use names::Names;
 pub use sheet::SheetText;
 pub use spelling::meant;
-pub use writing::{bundle_text, link_shown, sheet_text};
+pub use writing::{bundle_text, hops_shown, link_shown, sheet_text};
 
 use bundle::BundleLines;
 use line::MOST_PROBLEMS;

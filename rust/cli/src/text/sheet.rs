@@ -15,7 +15,8 @@ pub struct SheetText {
     pub names: Names,
     pub tasks: Vec<Task>,
     pub links: Vec<Link>,
-    /// The line of each command: the board, its unpacking if it has one, the tasks, the links.
+    /// The line of each command: the board, its unpacking and its cube if it has them, the tasks, the
+    /// links.
     pub lines: Vec<usize>,
 }
 
@@ -49,20 +50,22 @@ impl SheetLines {
         self.board.is_none() && self.tasks.is_empty() && self.links.is_empty()
     }
 
-    /// `board processors 4 store 4096 unpacking 12`
+    /// `board processors 4 store 4096 unpacking 12 cube`
     pub fn board(&mut self, word: Placed<usize>, line: &mut Line) -> Result<(), Problem> {
         if let Some((first, ..)) = self.board {
             return Err(word.problem(format!("a second board; the first is in line {first}")));
         }
-        let fields = ["processors", "store", "unpacking"];
+        let fields = ["processors", "store", "unpacking", "cube"];
         let numbers = line.named_from(2, fields, |line, name| match name {
             "processors" => line.number(name, U8),
             "store" => line.number(name, u32::MAX),
-            _ => line.number(name, U16),
+            "unpacking" => line.number(name, U16),
+            // The word alone says it.
+            _ => Ok(1),
         })?;
-        let [processors, limit, unpacking] = numbers.map(|number| number.unwrap_or(0));
+        let [processors, limit, unpacking, cube] = numbers.map(|number| number.unwrap_or(0));
         let (processors, unpacking) = (processors as u8, unpacking as u16);
-        self.board = Some((word.line, Board { processors, limit, unpacking }));
+        self.board = Some((word.line, Board { processors, limit, unpacking, cube: cube == 1 }));
         Ok(())
     }
 
@@ -137,7 +140,7 @@ impl SheetLines {
             }
             return None;
         };
-        let first = if board.unpacking > 0 { vec![line; 2] } else { vec![line] };
+        let first = vec![line; 1 + usize::from(board.unpacking > 0) + usize::from(board.cube)];
         let lines = first.into_iter().chain(self.tasks.iter().map(|task| task.line));
         Some(SheetText {
             board,

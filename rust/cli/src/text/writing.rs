@@ -6,10 +6,13 @@ use zeldrupa::{Board, Bundle, Command, Sheet};
 
 /// The text of a sheet.
 pub fn sheet_text(sheet: &Sheet, names: &Names) -> String {
-    let Board { processors, limit, unpacking } = sheet.board();
+    let Board { processors, limit, unpacking, cube } = sheet.board();
     let mut text = format!("board processors {processors} store {limit}");
     if unpacking > 0 {
         text += &format!(" unpacking {unpacking}");
+    }
+    if cube {
+        text += " cube";
     }
     text.push('\n');
     let field = |name: &str, value: u16| format!("{name} {value}");
@@ -34,6 +37,15 @@ pub fn sheet_text(sheet: &Sheet, names: &Names) -> String {
 pub fn link_shown(sheet: &Sheet, names: &Names, link: usize) -> String {
     let ends = sheet.links()[link];
     format!("{} -> {}", names.shown(ends.source.into()), names.shown(ends.target.into()))
+}
+
+/// How far a message goes on a cube; on another board all go as far.
+pub fn hops_shown(board: Board, from: usize, to: usize) -> String {
+    match board.hops(from, to) {
+        _ if !board.cube => String::new(),
+        1 => " over 1 hop".into(),
+        hops => format!(" over {hops} hops"),
+    }
 }
 
 /// The text of a bundle; without its sheet links go by their numbers.

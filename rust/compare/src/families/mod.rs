@@ -3,6 +3,8 @@
 
 mod bare;
 mod choices;
+mod cubes;
+mod dressed;
 mod early;
 mod formats;
 mod formulas;
@@ -57,6 +59,12 @@ pub const FAST: &[Family<Fast>] = &[
     ("bundles with unpacking", unpacking::small_bundles),
     ("damaged unpacking", unpacking::damaged),
     ("unpacking everywhere", unpacking::every_offset),
+    ("plans on cubes", cubes::plans),
+    ("cubes with skipped numbers", cubes::far),
+    ("largest on cubes", cubes::largest),
+    ("bundles on cubes", cubes::small_bundles),
+    ("damaged cubes", cubes::damaged),
+    ("cubes everywhere", cubes::every_offset),
     ("trial pairs", machine::trial_pairs),
     ("right pairs", machine::right),
     ("wrong claims", machine::wrong_claims),
@@ -103,6 +111,10 @@ pub const LITERAL: &[Family<Literal>] = &[
     ("bundles with unpacking", unpacking::small_bundles),
     ("damaged unpacking", unpacking::damaged),
     ("unpacking everywhere", unpacking::every_offset),
+    ("small cubes", cubes::small_boards),
+    ("bundles on cubes", cubes::small_bundles),
+    ("damaged cubes", cubes::damaged),
+    ("cubes everywhere", cubes::every_offset),
     ("damaged small sheets", small::damaged_sheets),
     ("over-full sheets", small::over_full_sheets),
     ("small circles", small::circles),
@@ -194,11 +206,12 @@ fn over_full(random: &mut Random, full: &sheets::Sheet) -> [sheets::Sheet; 2] {
 /// Damages the values of a sheet one to three times.
 fn damage_sheet(random: &mut Random, values: &mut sheets::Sheet) {
     for _ in 0..random.within(1..=3) {
-        match random.below(8) {
+        match random.below(9) {
             0 => values.processors = random.bits() as u8,
             1 => values.limit = random.bits() as u32,
             2 => values.unpacking = random.pick(&[0, 1, 65_535]),
-            3..=4 => damage::values(random, &mut values.tasks, 2),
+            3 => values.cube = random.pick(&[0, 1, 255]),
+            4..=5 => damage::values(random, &mut values.tasks, 2),
             _ => damage::values(random, &mut values.links, 4),
         }
     }

@@ -95,7 +95,7 @@ pub fn shared_processors(c: &mut Comparison) -> Outcome {
     })
 }
 
-/// Sheets in which works, stores, costs, bytes or unpacking, or all of them, have their greatest value.
+/// Sheets in which works, stores, costs, bytes or unpacking, or all of them on a cube, have their greatest value.
 pub fn greatest_values(c: &mut Comparison) -> Outcome {
     made(c, 600, |c, round| {
         let mut values = match round % 4 {
@@ -106,6 +106,7 @@ pub fn greatest_values(c: &mut Comparison) -> Outcome {
         values.processors = c.random.pick(&[1, 2, 15, 16]);
         if round % 3 == 0 || c.random.once_in(3) {
             values.unpacking = u16::MAX;
+            values.cube = 1;
         }
         for field in 0..4 {
             let (list, width) = match field {

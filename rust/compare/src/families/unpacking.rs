@@ -1,11 +1,9 @@
-//! The families of boards on which receives take time: valid sheets by what decides in their plans, their
-//! bundles, and the command in a wrong place, twice, of 0 or cut.
+//! The families of boards on which receives take time.
 
-use super::small::{bundle_functions, sheet_functions};
-use super::{claim_wrongly, faulty_sheet, limit_as_needed, mostly_small, planned, right_bundle};
+use super::dressed;
 use crate::comparison::{Comparison, Outcome};
 use crate::rules::{Literal, Rules};
-use inputs::{bundles, damage, sheets, Random};
+use inputs::{damage, sheets, Random};
 
 /// A small sheet of which all receives take time: with ties, under the guard, with store enough or hardly
 /// enough.
@@ -15,118 +13,32 @@ fn small(random: &mut Random) -> sheets::Sheet {
     values
 }
 
-/// Small sheets, which are planned; some are also read and written.
+/// Small sheets, which are planned.
 pub fn small_boards(c: &mut Comparison<Literal>) -> Outcome {
-    for round in 0..36_000 {
-        let values = small(&mut c.random);
-        match round % 8 {
-            0 => sheet_functions(c, &values.encode(), &values)?,
-            _ => c.plan(&values.encode())?,
-        }
-    }
-    Ok(())
+    dressed::small_boards(c, 36_000, small)
 }
 
-/// Bundles for small sheets: right, as hands arrange them, with wrong claims, and damaged.
+/// Bundles for small sheets, right and wrong.
 pub fn small_bundles<R: Rules>(c: &mut Comparison<R>) -> Outcome {
-    for round in 0..6000 {
-        let mut values = small(&mut c.random);
-        let random = &mut c.random;
-        if round % 4 > 0 {
-            values.limit = u32::MAX;
-        }
-        let mut bundle = right_bundle(random, &values);
-        match round % 8 {
-            0 => limit_as_needed(random, &mut values, &mut bundle),
-            1 => claim_wrongly(random, &mut bundle),
-            2 => bundles::exchange(random, &mut bundle),
-            3 => damage::records(random, &mut bundle.commands, 2),
-            4..=5 => bundle = bundles::tangled(random, &values),
-            _ => (),
-        }
-        let rival = bundles::rival(random, &values, &bundle);
-        let sheet = values.encode();
-        bundle_functions(c, &sheet, &bundle.encode(), &bundle)?;
-        c.better(&sheet, &bundle.encode(), &rival)?;
-    }
-    Ok(())
+    dressed::small_bundles(c, small)
 }
 
 /// Small sheets with the command in a wrong place, twice, of 0 or cut, and with other damages.
 pub fn damaged<R: Rules>(c: &mut Comparison<R>) -> Outcome {
-    for round in 0..4000 {
-        let values = match round % 4 {
-            0 => sheets::small(&mut c.random),
-            _ => small(&mut c.random),
-        };
-        let random = &mut c.random;
-        let sheet = match round % 3 {
-            0 => faulty_sheet(random, &values, 0),
-            _ => damage::unpacking(random, &values.encode()),
-        };
-        sheet_functions(c, &sheet, &values)?;
-        if round % 8 == 0 {
-            let bundle = right_bundle(&mut c.random, &values);
-            bundle_functions(c, &sheet, &bundle.encode(), &bundle)?;
-        }
-    }
-    Ok(())
+    dressed::damaged(c, small, damage::unpacking)
 }
 
-/// The command at every offset of small sheets, whole, of 0 and cut; and every prefix of one that has it.
+/// The command at every offset, whole, of 0 and cut.
 pub fn every_offset<R: Rules>(c: &mut Comparison<R>) -> Outcome {
-    for round in 0..30 {
-        let values = match round % 2 {
-            0 => sheets::Sheet { unpacking: 0, ..small(&mut c.random) },
-            _ => small(&mut c.random),
-        };
-        let sheet = values.encode();
-        for at in 0..=sheet.len() {
-            let (before, behind) = sheet.split_at(at);
-            for command in [&[0x55, 1, 0][..], &[0x55, 0, 0], &[0x55, 7], &[0x55]] {
-                c.plan(&[before, command, behind].concat())?;
-            }
-            c.read_sheet(before)?;
-            c.plan(before)?;
-            c.plan(&[before, &[0x55]].concat())?;
-        }
-    }
-    Ok(())
+    dressed::every_offset(c, small, &[&[0x55, 1, 0], &[0x55, 0, 0], &[0x55, 7], &[0x55]])
 }
 
-/// Sheets of all sizes, which are planned: any, with ties, under the guard and with little store.
+/// Sheets of all sizes, which are planned.
 pub fn plans(c: &mut Comparison) -> Outcome {
-    for round in 0..60_000 {
-        let mut values = match round % 8 {
-            0 => mostly_small(c, round / 8),
-            1 => sheets::telling(&mut c.random, if round % 64 == 1 { 256 } else { 32 }),
-            2..=3 => sheets::sharing(&mut c.random, 32),
-            _ => sheets::guarded(&mut c.random),
-        };
-        if round % 16 >= 14 {
-            sheets::tighten(&mut c.random, &mut values);
-        }
-        sheets::unpack(&mut c.random, &mut values);
-        c.plan(&values.encode())?;
-    }
-    Ok(())
+    dressed::plans(c, sheets::unpack)
 }
 
-/// Sheets of 256 tasks and 1,024 links with their plans, random runs and tangled programmes.
+/// Sheets of the largest size with bundles.
 pub fn largest(c: &mut Comparison) -> Outcome {
-    for round in 0..60 {
-        let mut values = sheets::largest(&mut c.random);
-        values.limit = u32::MAX;
-        sheets::unpack(&mut c.random, &mut values);
-        let sheet = values.encode();
-        let bundle = match round % 3 {
-            0 => planned(&mut c.random, &values),
-            1 => bundles::orderly(&mut c.random, &values),
-            _ => bundles::tangled(&mut c.random, &values),
-        };
-        c.plan(&sheet)?;
-        c.check(&sheet, &bundle.encode())?;
-        c.machine(&sheet, &bundle.encode())?;
-    }
-    Ok(())
+    dressed::largest(c, sheets::unpack)
 }

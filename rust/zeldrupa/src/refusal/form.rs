@@ -1,7 +1,7 @@
 //! The places of refusals of the form: what stands at an offset of a sheet or a bundle, and a circle.
 
 use super::explanation::{counted, counts, About, Subject};
-use super::seen::{self, Seen, BOARD, LINK, OPEN, RECEIVE, RUN, SEND, TASK, UNPACKING};
+use super::seen::{self, Seen, BOARD, CUBE, LINK, OPEN, RECEIVE, RUN, SEND, TASK, UNPACKING};
 use super::Refusal;
 use std::collections::VecDeque;
 
@@ -20,8 +20,9 @@ pub(super) fn sheet(refusal: Refusal, about: &About) -> (String, Subject) {
         let detail = match (refusal.number, command.byte) {
             (3, _) if before.is_empty() => ": before the board".into(),
             (3, BOARD) => ": a second board".into(),
-            (3, UNPACKING) if number > 0 => ": a second one".into(),
+            (3, UNPACKING | CUBE) if number > 0 => ": a second one".into(),
             (3, UNPACKING) => ": not directly behind the board".into(),
+            (3, CUBE) => ": not directly behind the board or its unpacking".into(),
             (3, _) => ": behind a link".into(),
             (6, BOARD) => format!(": processors {}", command.operand(0)),
             (6, UNPACKING) => format!(": time {}", command.operand(0)),

@@ -49,8 +49,8 @@ pub(crate) static KINDS: [Kind; 27] = [
         number: 3,
         word: "out of turn",
         counts: Counts::SheetBytes,
-        cause: "The board comes first and only once, then the unpacking if there is one, then all tasks, \
-                then all links, then the end.",
+        cause: "The board comes first and only once, then the unpacking and the cube if there are such, \
+                then all tasks, then all links, then the end.",
         remedy: "Move the command to its place in this order.",
     },
     Kind {

@@ -9,6 +9,7 @@ pub(crate) struct Format {
 
 pub(crate) const BOARD: u8 = 0x4D;
 pub(crate) const UNPACKING: u8 = 0x55;
+pub(crate) const CUBE: u8 = 0x48;
 pub(crate) const TASK: u8 = 0x54;
 pub(crate) const LINK: u8 = 0x45;
 const SHEET_END: u8 = 0x51;
@@ -22,6 +23,7 @@ pub(crate) static SHEET: Format = Format {
     kinds: &[
         (BOARD, "board", &[1, 4]),
         (UNPACKING, "unpacking", &[2]),
+        (CUBE, "cube", &[]),
         (TASK, "task", &[2, 2]),
         (LINK, "link", &[1, 1, 2, 2]),
         (SHEET_END, "end", &[]),

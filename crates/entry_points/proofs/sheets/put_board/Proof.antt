@@ -6,7 +6,7 @@ use Rattle.entry_points.proofs.sheets.put_board.Statement.{statement}
 use Rattle.entry_points.proofs.sheets.put_board.Tie as tie
 
 returns : tie.Need-returns
-returns c = board-is (now (c .before .before .before .before .before .before .args .w))
+returns c = let k = c .before in board-is (now (k .before .before .before .before .before .before .before .args .w)) _ (k .cube-word .ensures)
 
 pub put-board-spec : {M : Type 1} → statement M
 put-board-spec =
@@ -17,4 +17,5 @@ put-board-spec =
     (λ c. search needs)
     (λ c. search needs)
     (λ c. search needs)
+    (λ c κs. search needs)
     returns)

@@ -1,7 +1,8 @@
 -- `put_sheet` (src/bytes.rt) keeps its contract.
 use Prim.Native.Nat.{ℕ}
 use native.Mathlib.Omega.{arith}
-use mathlib.Core.Path.{ap, ap₂, _∙_}
+use mathlib.Core.Bool.{Bool}
+use mathlib.Core.Path.{ap₂, _∙_}
 use denote.Ref.{now}
 use lib.ListN.{length-set}
 use Rattle.numbers.specs.Number.{stored}
@@ -15,7 +16,7 @@ use Rattle.generator.proofs.bytes.put_sheet.Statement.{statement}
 use Rattle.generator.proofs.bytes.put_sheet.Tie as tie
 
 put-board-requires : tie.Need-put-board-requires
-put-board-requires c κs = let s = c .before .before .before .before .before .before in omega (arith, s .pre .1, ap frontBy (c .unpacking .ensures .0))
+put-board-requires c κs = let s = c .before .before .before .before .before .before .before in omega (arith, s .pre .1, ap₂ frontBy (c .before .unpacking .ensures .0) (c .cube .ensures))
 
 same-length : tie.Need-same-length
 same-length c =
@@ -31,7 +32,9 @@ returns c =
     let tasks = count .before .before .before in
     let front = tasks .before .before in
     let put = front .before .before .before in
-    let s = put .before .before .before .before .before .before .before in
+    let unpacking = put .before .before in
+    let s = unpacking .before .before .before .before .before .before in
+    let sheet = sheetIn (now (s .args .w)) in
     let out = now (s .args .out) in
     let start = front .front .ensures .0 in
     let n = count .tasks .ensures .0 in
@@ -39,9 +42,9 @@ returns c =
     let long = put .put-board .kept .0 in
     let board =
     put .put-board .ensures
-    ∙ ap₂ (λ (p l : ℕ). stored out 0 (boardBytes p l (put .before .unpacking .result))) (put .before .before .before .processors .ensures .0) (put .before .before .limit .ensures .0)
-    ∙ ap (λ (u : ℕ). stored out 0 (boardBytes (sheetIn (now (s .args .w)) .processors) (sheetIn (now (s .args .w)) .limit) u)) (put .before .unpacking .ensures .0) in
-    sheet-stored (sheetIn (now (s .args .w))) out _ _ _ _ _ _ start n m (omega (arith, start, n, m, s .pre .1)) board
+    ∙ ap₂ (λ (p l : ℕ). stored out 0 (boardBytes p l (unpacking .unpacking .result) (put .before .cube .result))) (unpacking .before .before .processors .ensures .0) (unpacking .before .limit .ensures .0)
+    ∙ ap₂ (λ (u : ℕ) (c : Bool). stored out 0 (boardBytes (sheet .processors) (sheet .limit) u c)) (unpacking .unpacking .ensures .0) (put .before .cube .ensures) in
+    sheet-stored sheet out _ _ _ _ _ _ start n m (omega (arith, start, n, m, s .pre .1)) board
     (stored-lent _ _ _ _ (omega (arith, start, s .pre .1, long)) (tasks .put-tasks .ensures))
     (stored-lent _ _ _ _ (omega (arith, start, n, s .pre .1, long, c .before .before .before .before .before .before .before .out2 .given .1)) (links .put-links .ensures))
     (omega (arith, long, c .before .before .before .before .before .before .before .out2 .given .1, c .before .before .out3 .given .1))
@@ -56,6 +59,7 @@ put-sheet-spec =
     (λ c. search needs)
     (λ c κs. search needs)
     (λ c. search needs)
+    (λ c κs. search needs)
     put-board-requires
     (λ c κs. search needs)
     (λ c. search needs)

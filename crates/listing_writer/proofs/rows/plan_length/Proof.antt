@@ -11,7 +11,7 @@ use Rattle.listing_writer.proofs.rows.plan_length.Tie as tie
 returns : tie.Need-returns
 returns c =
     let e = plan-length (sheetIn (now (c .before .before .before .before .before .args .w))) (scheduleIn (now (c .before .before .before .before .before .args .w))) in
-    let p = digits-of (c .before .before .before .opened .ensures .0) in
+    let p = digits-of (c .before .before .before .running .ensures .0) in
     let q = digits-of (c .before .claim .ensures .0) in
     (omega (arith, e, p, q, c .before .before .digits .ensures .0, c .digits2 .ensures .0), omega (arith, c .before .before .digits .ensures .1, c .digits2 .ensures .1))
 

@@ -15,10 +15,10 @@ put-word-requires c κs =
     let g : 4 ≤ length (now (c .before .before .before .before .before .before .args .out)) = omega (arith, c .before .before .before .before .before .before .pre .1 .1, plan-length (sheetIn (now (c .before .before .before .before .before .before .args .w))) (scheduleIn (now (c .before .before .before .before .before .before .args .w)))) in g
 
 put-fields-requires : tie.Need-put-fields-requires
-put-fields-requires c κs = plan-room (now (c .before .before .before .before .before .before .before .before .before .before .args .out)) (c .before .before .before .put-word .last .0) (sheetIn (now (c .before .before .before .before .before .before .before .before .before .before .args .w))) (scheduleIn (now (c .before .before .before .before .before .before .before .before .before .before .args .w))) _ _ (c .before .before .before .before .before .before .before .opened .ensures .0) (c .before .before .before .before .before .before .claim .ensures .0) (c .before .before .before .before .before .before .before .before .before .before .pre .1 .1) (c .before .before .before .put-word .ensures) (c .before .before .before .put-word .kept .0)
+put-fields-requires c κs = plan-room (now (c .before .before .before .before .before .before .before .before .before .before .args .out)) (c .before .before .before .put-word .last .0) (sheetIn (now (c .before .before .before .before .before .before .before .before .before .before .args .w))) (scheduleIn (now (c .before .before .before .before .before .before .before .before .before .before .args .w))) _ _ (c .before .before .before .before .before .before .before .running .ensures .0) (c .before .before .before .before .before .before .claim .ensures .0) (c .before .before .before .before .before .before .before .before .before .before .pre .1 .1) (c .before .before .before .put-word .ensures) (c .before .before .before .put-word .kept .0)
 
 returns : tie.Need-returns
-returns c = plan-put (sheetIn (now (c .before .before .before .before .before .before .before .before .before .before .before .before .before .args .w))) (scheduleIn (now (c .before .before .before .before .before .before .before .before .before .before .before .before .before .args .w))) (c .before .before .before .before .before .before .before .before .before .before .opened .ensures .0) (c .before .before .before .before .before .before .before .before .before .claim .ensures .0) (c .before .before .before .before .before .before .put-word .ensures) (c .before .before .put-fields .ensures)
+returns c = plan-put (sheetIn (now (c .before .before .before .before .before .before .before .before .before .before .before .before .before .args .w))) (scheduleIn (now (c .before .before .before .before .before .before .before .before .before .before .before .before .before .args .w))) (c .before .before .before .before .before .before .before .before .before .before .running .ensures .0) (c .before .before .before .before .before .before .before .before .before .claim .ensures .0) (c .before .before .before .before .before .before .put-word .ensures) (c .before .before .put-fields .ensures)
 
 pub put-plan-spec : {M : Type 1} → statement M
 put-plan-spec =

@@ -20,6 +20,9 @@ slice-write-w-4 c = simp length-set (omega arith)
 slice-write-w-5 : tie.Need-slice-write-w-5
 slice-write-w-5 c = simp length-set (omega arith)
 
+slice-write-w-6 : tie.Need-slice-write-w-6
+slice-write-w-6 c = simp length-set (omega arith)
+
 returns : tie.Need-returns
 unfolding boardWords
 returns c = board-loaded-of (now (c .args .w)) (c .args .processors) (c .args .limit) (c .pre .0) (c .pre .1)
@@ -27,4 +30,4 @@ returns c = board-loaded-of (now (c .args .w)) (c .args .processors) (c .args .l
 pub put-board-spec : {M : Type 1} → statement M
 put-board-spec =
     tie.close
-    (tie.spec (λ c. search needs) slice-write-w-2 slice-write-w-3 slice-write-w-4 slice-write-w-5 (λ c. search needs) returns)
+    (tie.spec (λ c. search needs) slice-write-w-2 slice-write-w-3 slice-write-w-4 slice-write-w-5 slice-write-w-6 (λ c. search needs) returns)

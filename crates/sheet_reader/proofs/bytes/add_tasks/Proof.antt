@@ -1,8 +1,8 @@
 -- `add_tasks` (src/bytes.rt) keeps its contract.
 use Prim.Native.Nat.{_+_, _-_, _*_}
 use Rattle.sheet_reader.proofs.Scans.{task-added, task-comes, task-few, tasks-end, walk-room}
-use Rattle.sheet_reader.specs.Scanning.{Absent, Walking}
-use Rattle.sheet.specs.Format.{task, unpack, readForm}
+use Rattle.sheet_reader.specs.Scanning.{BoardRead, Walking}
+use Rattle.sheet.specs.Format.{task, readForm}
 use Rattle.sheet.specs.Sizes.{taskSize}
 use lib.ListN.{length}
 use mathlib.Core.Path.{_≡_, _∙_, sym}
@@ -11,7 +11,7 @@ use Rattle.sheet_reader.proofs.bytes.add_tasks.Statement.{statement}
 use Rattle.sheet_reader.proofs.bytes.add_tasks.Tie as tie
 
 abbrev Inv-loop : tie.InvT-loop
-Inv-loop bytes start w₀ at₀ tasks₀ w at tasks = Walking (readForm bytes) bytes w₀ w tasks 0 at × Absent unpack bytes w at × (at ≡ start + taskSize * tasks)
+Inv-loop bytes start w₀ at₀ tasks₀ w at tasks = Walking (readForm bytes) bytes w₀ w tasks 0 at × BoardRead bytes w at × (at ≡ start + taskSize * tasks)
 
 abbrev μ-loop : tie.MeasureT-loop
 μ-loop bytes start w₀ at₀ tasks₀ w at tasks = length bytes - at

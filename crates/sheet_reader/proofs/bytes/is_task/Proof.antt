@@ -44,6 +44,12 @@ returns-6 c =
 
 returns-7 : tie.Need-returns-7
 returns-7 c =
+    let k = c .before .before in
+    let s = k .before .before .before .before .before .before in
+    its-byte isTask (begun (sheetIn (now (s .args .w)))) (now (s .args .bytes)) (s .args .at) (k .before .before .get8 .ensures .0) 0x54 (k .before .before .before .if1 .left) (k .before .if2 .left) (k .task-at .ensures) (c .enum-told5 .given .1)
+
+returns-8 : tie.Need-returns-8
+returns-8 c =
     let k = c .before .before .before in
     let s = k .before .before .before .before .before .before in
     its-byte isTask (begun (sheetIn (now (s .args .w)))) (now (s .args .bytes)) (s .args .at) (k .before .before .get8 .ensures .0) 0x54 (k .before .before .before .if1 .left) (k .before .if2 .left) (k .task-at .ensures) (c .before .r .given .1)
@@ -61,8 +67,10 @@ is-task-spec =
     (λ c. search needs)
     (λ c. search needs)
     (λ c. search needs)
+    (λ c. search needs)
     returns-3
     returns-4
     returns-5
     returns-6
-    returns-7)
+    returns-7
+    returns-8)

@@ -41,16 +41,22 @@ returns-5 c =
 
 returns-6 : tie.Need-returns-6
 returns-6 c =
-    let k = c .before .before .before .before .before in
+    let k = c .before .before .before .before .before .before in
     let s = k .before .before .before .before in
-    sym (judge-known (begun (sheetIn (now (s .args .w)))) (now (s .args .bytes)) (s .args .at) 0x4D (k .before .if1 .left) (sym (k .get8 .ensures .0) ∙ c .if6 .taken) ∙ ap (verdict sheetFormat board) (fault-board (sheetIn (now (s .args .w))) _))
+    c .cube-at .ensures ∙ sym (judge-known (begun (sheetIn (now (s .args .w)))) (now (s .args .bytes)) (s .args .at) 0x48 (k .before .if1 .left) (sym (k .get8 .ensures .0) ∙ c .before .if6 .taken))
 
 returns-7 : tie.Need-returns-7
 returns-7 c =
-    let k = c .before .before .before .before .before in
+    let k = c .before .before .before .before .before .before in
+    let s = k .before .before .before .before in
+    sym (judge-known (begun (sheetIn (now (s .args .w)))) (now (s .args .bytes)) (s .args .at) 0x4D (k .before .if1 .left) (sym (k .get8 .ensures .0) ∙ c .if7 .taken) ∙ ap (verdict sheetFormat board) (fault-board (sheetIn (now (s .args .w))) _))
+
+returns-8 : tie.Need-returns-8
+returns-8 c =
+    let k = c .before .before .before .before .before .before in
     let s = k .before .before .before .before in
     let e = k .get8 .ensures .0 in
-    sym (judge-strange (begun (sheetIn (now (s .args .w)))) (now (s .args .bytes)) (s .args .at) (k .before .if1 .left) (λ q. c .if6 .left (e ∙ q)) (λ q. c .before .if5 .left (e ∙ q)) (λ q. c .before .before .before .before .if2 .left (e ∙ q)) (λ q. c .before .before .before .if3 .left (e ∙ q)) (λ q. c .before .before .if4 .left (e ∙ q)))
+    sym (judge-strange (begun (sheetIn (now (s .args .w)))) (now (s .args .bytes)) (s .args .at) (k .before .if1 .left) (λ q. c .if7 .left (e ∙ q)) (λ q. c .before .before .if5 .left (e ∙ q)) (λ q. c .before .if6 .left (e ∙ q)) (λ q. c .before .before .before .before .before .if2 .left (e ∙ q)) (λ q. c .before .before .before .before .if3 .left (e ∙ q)) (λ q. c .before .before .before .if4 .left (e ∙ q)))
 
 pub next-at-spec : {M : Type 1} → statement M
 next-at-spec =
@@ -65,5 +71,7 @@ next-at-spec =
     returns-4
     (λ c κs. search needs)
     returns-5
+    (λ c κs. search needs)
     returns-6
-    returns-7)
+    returns-7
+    returns-8)

@@ -2,7 +2,7 @@
 use Rattle.commands.proofs.Going.{judge-end}
 use Rattle.commands.specs.Commands.{verdict}
 use Rattle.sheet.proofs.Judging.{fault-opening, judge-known, judge-strange, out-of-turn}
-use Rattle.sheet.specs.Format.{end, fresh, link, sheetFormat, task, unpack}
+use Rattle.sheet.specs.Format.{end, fresh, link, sheetFormat, task, unpack, wire}
 use borrow.Author.Needs.{needs}
 use borrow.Author.Tests.{le-leb, le-ltb, lt-leb, lt-ltb}
 use denote.Ref.{now}
@@ -39,41 +39,46 @@ returns-5 c =
 returns-6 : tie.Need-returns-6
 returns-6 c =
     let k = c .before .before .before .before .before in
-    let e = k .get8 .ensures .0 in
-    sym (judge-strange fresh (now (k .before .before .before .args .bytes)) 0 (omega (arith, k .before .if1 .left)) (λ q. c .if6 .taken (e ∙ q)) (λ q. c .before .if5 .left (e ∙ q)) (λ q. c .before .before .before .before .if2 .left (e ∙ q)) (λ q. c .before .before .before .if3 .left (e ∙ q)) (λ q. c .before .before .if4 .left (e ∙ q)))
+    sym (judge-known fresh (now (k .before .before .before .args .bytes)) 0 0x48 (omega (arith, k .before .if1 .left)) (sym (k .get8 .ensures .0) ∙ c .if6 .taken) ∙ ap (verdict sheetFormat wire) (out-of-turn wire _ refl))
 
 returns-7 : tie.Need-returns-7
 returns-7 c =
     let k = c .before .before .before .before .before .before in
-    let b = now (k .before .before .before .args .bytes) in
-    let cut : length b - 1 < 5 = omega (arith, c .if7 .taken) in
-    sym (judge-known fresh b 0 0x4D (omega (arith, k .before .if1 .left)) (sym (k .get8 .ensures .0) ∙ c .before .if6 .left) ∙ simp (fault-opening, lt-ltb _ _ cut))
+    let e = k .get8 .ensures .0 in
+    sym (judge-strange fresh (now (k .before .before .before .args .bytes)) 0 (omega (arith, k .before .if1 .left)) (λ q. c .if7 .taken (e ∙ q)) (λ q. c .before .before .if5 .left (e ∙ q)) (λ q. c .before .if6 .left (e ∙ q)) (λ q. c .before .before .before .before .before .if2 .left (e ∙ q)) (λ q. c .before .before .before .before .if3 .left (e ∙ q)) (λ q. c .before .before .before .if4 .left (e ∙ q)))
 
 returns-8 : tie.Need-returns-8
 returns-8 c =
-    let k = c .before .before .before .before .before .before .before .before in
+    let k = c .before .before .before .before .before .before .before in
     let b = now (k .before .before .before .args .bytes) in
-    let whole : 5 ≤ length b - 1 = omega (arith, c .before .before .if7 .left) in
-    let low : getD b 1 0 < 1 = omega (arith, c .before .get82 .ensures .0, c .if8 .taken) in
-    sym (judge-known fresh b 0 0x4D (omega (arith, k .before .if1 .left)) (sym (k .get8 .ensures .0) ∙ c .before .before .before .if6 .left) ∙ simp (fault-opening, le-ltb _ _ whole, lt-leb _ _ low))
+    let cut : length b - 1 < 5 = omega (arith, c .if8 .taken) in
+    sym (judge-known fresh b 0 0x4D (omega (arith, k .before .if1 .left)) (sym (k .get8 .ensures .0) ∙ c .before .if7 .left) ∙ simp (fault-opening, lt-ltb _ _ cut))
 
 returns-9 : tie.Need-returns-9
 returns-9 c =
     let k = c .before .before .before .before .before .before .before .before .before in
     let b = now (k .before .before .before .args .bytes) in
-    let whole : 5 ≤ length b - 1 = omega (arith, c .before .before .before .if7 .left) in
-    let low : 1 ≤ getD b 1 0 = omega (arith, c .before .before .get82 .ensures .0, c .before .if8 .left) in
-    let high : 16 < getD b 1 0 = omega (arith, c .before .before .get82 .ensures .0, c .if9 .taken) in
-    sym (judge-known fresh b 0 0x4D (omega (arith, k .before .if1 .left)) (sym (k .get8 .ensures .0) ∙ c .before .before .before .before .if6 .left) ∙ simp (fault-opening, le-ltb _ _ whole, le-leb _ _ low, lt-leb _ _ high))
+    let whole : 5 ≤ length b - 1 = omega (arith, c .before .before .if8 .left) in
+    let low : getD b 1 0 < 1 = omega (arith, c .before .get82 .ensures .0, c .if9 .taken) in
+    sym (judge-known fresh b 0 0x4D (omega (arith, k .before .if1 .left)) (sym (k .get8 .ensures .0) ∙ c .before .before .before .if7 .left) ∙ simp (fault-opening, le-ltb _ _ whole, lt-leb _ _ low))
 
 returns-10 : tie.Need-returns-10
 returns-10 c =
-    let k = c .before .before .before .before .before .before .before .before .before in
+    let k = c .before .before .before .before .before .before .before .before .before .before in
     let b = now (k .before .before .before .args .bytes) in
-    let whole : 5 ≤ length b - 1 = omega (arith, c .before .before .before .if7 .left) in
-    let low : 1 ≤ getD b 1 0 = omega (arith, c .before .before .get82 .ensures .0, c .before .if8 .left) in
-    let high : getD b 1 0 ≤ 16 = omega (arith, c .before .before .get82 .ensures .0, c .if9 .left) in
-    sym (judge-known fresh b 0 0x4D (omega (arith, k .before .if1 .left)) (sym (k .get8 .ensures .0) ∙ c .before .before .before .before .if6 .left) ∙ simp (fault-opening, le-ltb _ _ whole, le-leb _ _ low, le-leb _ _ high))
+    let whole : 5 ≤ length b - 1 = omega (arith, c .before .before .before .if8 .left) in
+    let low : 1 ≤ getD b 1 0 = omega (arith, c .before .before .get82 .ensures .0, c .before .if9 .left) in
+    let high : 16 < getD b 1 0 = omega (arith, c .before .before .get82 .ensures .0, c .if10 .taken) in
+    sym (judge-known fresh b 0 0x4D (omega (arith, k .before .if1 .left)) (sym (k .get8 .ensures .0) ∙ c .before .before .before .before .if7 .left) ∙ simp (fault-opening, le-ltb _ _ whole, le-leb _ _ low, lt-leb _ _ high))
+
+returns-11 : tie.Need-returns-11
+returns-11 c =
+    let k = c .before .before .before .before .before .before .before .before .before .before in
+    let b = now (k .before .before .before .args .bytes) in
+    let whole : 5 ≤ length b - 1 = omega (arith, c .before .before .before .if8 .left) in
+    let low : 1 ≤ getD b 1 0 = omega (arith, c .before .before .get82 .ensures .0, c .before .if9 .left) in
+    let high : getD b 1 0 ≤ 16 = omega (arith, c .before .before .get82 .ensures .0, c .if10 .left) in
+    sym (judge-known fresh b 0 0x4D (omega (arith, k .before .if1 .left)) (sym (k .get8 .ensures .0) ∙ c .before .before .before .before .if7 .left) ∙ simp (fault-opening, le-ltb _ _ whole, le-leb _ _ low, le-leb _ _ high))
 
 pub opening-spec : {M : Type 1} → statement M
 opening-spec =
@@ -87,7 +92,8 @@ opening-spec =
     returns-5
     returns-6
     returns-7
-    (λ c κs. search needs)
     returns-8
+    (λ c κs. search needs)
     returns-9
-    returns-10)
+    returns-10
+    returns-11)

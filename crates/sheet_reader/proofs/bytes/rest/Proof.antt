@@ -14,24 +14,27 @@ next-at-requires c κs = let s = c .before .before .pre .0 in (s .filling, (sym 
 closing-requires : tie.Need-closing-requires
 closing-requires c κs =
     let k = c .before .before in
-    omega (arith, walk-room (k .before .before .before .pre .0 .walking) end (sym (k .next-at .ensures) ∙ ap outcomeOf (c .enum-told4 .given .1)))
+    omega (arith, walk-room (k .before .before .before .pre .0 .walking) end (sym (k .next-at .ensures) ∙ ap outcomeOf (c .enum-told5 .given .1)))
 
 returns : tie.Need-returns
-returns c = let k = c .before .before in absurd (k .before .before .before .pre .0 .no-unpacking (sym (k .next-at .ensures) ∙ ap outcomeOf (c .enum-told .given .1)))
+returns c = let k = c .before .before in absurd (k .before .before .before .pre .0 .board .no-unpacking (sym (k .next-at .ensures) ∙ ap outcomeOf (c .enum-told .given .1)))
 
 returns-2 : tie.Need-returns-2
-returns-2 c = let k = c .before .before in absurd (k .before .before .before .pre .0 .no-task (sym (k .next-at .ensures) ∙ ap outcomeOf (c .enum-told2 .given .1)))
+returns-2 c = let k = c .before .before in absurd (k .before .before .before .pre .0 .board .no-cube (sym (k .next-at .ensures) ∙ ap outcomeOf (c .enum-told2 .given .1)))
 
 returns-3 : tie.Need-returns-3
-returns-3 c = let k = c .before .before in absurd (k .before .before .before .pre .1 (sym (k .next-at .ensures) ∙ ap outcomeOf (c .enum-told3 .given .1)))
+returns-3 c = let k = c .before .before in absurd (k .before .before .before .pre .0 .no-task (sym (k .next-at .ensures) ∙ ap outcomeOf (c .enum-told3 .given .1)))
 
 returns-4 : tie.Need-returns-4
-returns-4 c =
-    let k = c .before .before .before in
-    walk-closes (k .before .before .before .pre .0 .walking) _ (sym (k .next-at .ensures) ∙ ap outcomeOf (c .before .enum-told4 .given .1)) (c .closing .ensures)
+returns-4 c = let k = c .before .before in absurd (k .before .before .before .pre .1 (sym (k .next-at .ensures) ∙ ap outcomeOf (c .enum-told4 .given .1)))
 
 returns-5 : tie.Need-returns-5
 returns-5 c =
+    let k = c .before .before .before in
+    walk-closes (k .before .before .before .pre .0 .walking) _ (sym (k .next-at .ensures) ∙ ap outcomeOf (c .before .enum-told5 .given .1)) (c .closing .ensures)
+
+returns-6 : tie.Need-returns-6
+returns-6 c =
     let k = c .before .before .before in
     scan-refuse (k .before .before .before .pre .0 .walking .scanning) _ (sym (k .next-at .ensures) ∙ ap outcomeOf (c .before .r .given .1))
 
@@ -44,10 +47,12 @@ rest-spec =
     (λ c. search needs)
     (λ c. search needs)
     (λ c. search needs)
+    (λ c. search needs)
     closing-requires
     (λ c. search needs)
     returns
     returns-2
     returns-3
     returns-4
-    returns-5)
+    returns-5
+    returns-6)

@@ -7,7 +7,7 @@ use Rattle.sheet_reader.proofs.bytes.walk.Statement.{statement}
 use Rattle.sheet_reader.proofs.bytes.walk.Tie as tie
 
 add-tasks-requires : tie.Need-add-tasks-requires
-add-tasks-requires c κs = let s = c .before .before .before .add-unpacking .ensures in (walk-from (s .0) _ (sym (s .0 .scanning .long)), s .1)
+add-tasks-requires c κs = let s = c .before .before .before .add-board .ensures in (walk-from (s .0) _ (sym (s .0 .scanning .long)), s .1)
 
 blank-requires : tie.Need-blank-requires
 blank-requires c κs = let s = c .before .before .before .add-tasks .ensures .0 .scanning in (s .loaded .long, omega (arith, s .tasks, s .loaded .tasks))
@@ -34,7 +34,7 @@ same-length : tie.Need-same-length
 same-length c =
     let k = c .before .before .before .before in
     let t = k .before .before .before .before .before .before .before .before in
-    k .add-links .ensures .0 .walking .scanning .long ∙ k .before .before .before .before .blank .ensures .long ∙ t .add-tasks .ensures .0 .scanning .long ∙ t .before .before .before .before .add-unpacking .ensures .0 .scanning .long
+    k .add-links .ensures .0 .walking .scanning .long ∙ k .before .before .before .before .blank .ensures .long ∙ t .add-tasks .ensures .0 .scanning .long ∙ t .before .before .before .before .add-board .ensures .0 .scanning .long
 
 returns : tie.Need-returns
 returns c = read-through (c .rest .ensures) (same-length c)

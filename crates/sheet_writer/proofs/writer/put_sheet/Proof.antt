@@ -22,7 +22,7 @@ returns c =
     let s = board .before .before .before .before .before in
     let a = s .args in
     let start = front .front .ensures .0 in
-    sheet-stored (a .processors) (a .limit) (a .unpacking) (now (a .tasks)) (now (a .links)) (s .pre .1 .0) (s .pre .1 .1) (now (a .out)) _ _ _ _ start (omega (arith, start))
+    sheet-stored (a .processors) (a .limit) (a .unpacking) (a .cube) (now (a .tasks)) (now (a .links)) (s .pre .1 .0) (s .pre .1 .1) (now (a .out)) _ _ _ _ start (omega (arith, start))
     (board .put-board .ensures)
     (stored-lent _ _ _ _ (omega (arith, start, s .pre .0 .0, board .put-board .kept .0)) (tasks .put-tasks .ensures))
     (stored-lent _ _ _ _ (omega (arith, start, s .pre .0 .0, board .put-board .kept .0, c .before .before .before .before .before .out2 .given .1)) (c .before .before .put-links .ensures))

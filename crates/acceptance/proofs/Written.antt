@@ -28,8 +28,8 @@ use Rattle.planner.specs.Placing.{storeBy, bytesBy, storeOn}
 use Rattle.planner.specs.Planner.{brings, takesAway, receiveOf, sendOf, blockOf, blocks, programme, claimOf, bundleOf}
 use Rattle.planner.proofs.Schedules.{Built, built, placing, tally, Plan, plan-of, Whole, empty-free, empty-fair}
 use Rattle.planner.proofs.Finishes.{finish-small}
-use Rattle.assurance.proofs.Each.{each-gather, each-listed, each-map}
-use Rattle.assurance.proofs.Blocks.{total, sum-blocks, total-run, total-send, total-receive, need-blocks, send-in-order, receive-in-order, blocks-run, run-in-order}
+use Rattle.acceptance.proofs.Each.{each-gather, each-listed, each-map}
+use Rattle.acceptance.proofs.Blocks.{total, sum-blocks, total-run, total-send, total-receive, need-blocks, send-in-order, receive-in-order, blocks-run, run-in-order}
 
 each-below : {s : Sheet} {σ φ : Schedule} {ts : List ℕ} → Built s σ φ ts → Each (λ u. u < taskCount s) ts
 each-below built = tt
@@ -66,7 +66,8 @@ module _ (s : Sheet) (proper : Proper s) {φ : Schedule} {ts : List ℕ} (how : 
   run-once : (u : ℕ) → u < taskCount s → whole b (is (run u)) ≡ 1
   run-once u h = whole-is (is (run u)) ∙ total-run s φ u ts ∙ once u h
 
-  home-of : (u : ℕ) → u < taskCount s → home b (run u) ≡ placeOf φ u
+  -- where its programme stands
+  pub home-of : (u : ℕ) → u < taskCount s → home b (run u) ≡ placeOf φ u
   unfolding wholeOf
   home-of u h =
       home-is b (run u) (placeOf φ u) (omega (arith, programmes, at-home u h)) (omega (arith, run-once u h))
