@@ -34,7 +34,7 @@ use Rattle.assurance.proofs.Numbers.{returned-0, numbered-long, numbere
 use Rattle.assurance.proofs.Results.{long-value, fitting-value, gave}
 use Rattle.assurance.proofs.Calls.{agreed}
 use Rattle.assurance.proofs.Holding.{holding, passing}
-use Rattle.assurance.proofs.Planned.{plan-accepted}
+use Rattle.acceptance.proofs.Planned.{plan-accepted}
 
 check-is : (sheet out : List ℕ) (s : Sheet) (b : Bundle) → readSheet sheet ≡ value s → readBundle s out ≡ value b → check sheet out ≡ checked s b
 unfolding check

@@ -28,8 +28,8 @@ use Rattle.planner.specs.Placing.{storeBy, bytesBy, storeOn}
 use Rattle.planner.specs.Planner.{brings, takesAway, receiveOf, sendOf, blockOf, blocks, programme, claimOf, bundleOf}
 use Rattle.planner.proofs.Schedules.{Built, built, placing, tally, Plan, plan-of, Whole, empty-free, empty-fair}
 use Rattle.planner.proofs.Finishes.{finish-small}
-use Rattle.assurance.proofs.Each.{each-gather, each-listed, each-map}
-use Rattle.assurance.proofs.Blocks.{total, sum-blocks, total-run, total-send, total-receive, need-blocks, send-in-order, receive-in-order, blocks-run, run-in-order}
+use Rattle.acceptance.proofs.Each.{each-gather, each-listed, each-map}
+use Rattle.acceptance.proofs.Blocks.{total, sum-blocks, total-run, total-send, total-receive, need-blocks, send-in-order, receive-in-order, blocks-run, run-in-order}
 
 each-below : {s : Sheet} {σ φ : Schedule} {ts : List ℕ} → Built s σ φ ts → Each (λ u. u < taskCount s) ts
 each-below built = tt
