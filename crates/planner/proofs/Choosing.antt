@@ -48,21 +48,20 @@ orElse-some : (o u : Option ℕ) (k : ℕ) → orElse o u ≡ some k → (o ≡ 
 orElse-some none u k e = inr e
 orElse-some (some j) u k e = inl e
 
--- k is open or next, and t fits it
+-- k is a processor of the board, and t fits it
 pub record Room (s : Sheet) (σ : Schedule) (t k : ℕ) : Type 0 where
-  pub next : k ≤ σ .opened
   pub board : k < s .processors
   pub fit : fits s σ t k ≡ true
 
 module _ (s : Sheet) (guard : Schedule → ℕ → ℕ → Bool) (σ : Schedule) (t k : ℕ) where
   an-open : (p : ℕ → Bool) (a : ℕ → ℕ → Bool) → σ .opened ≤ s .processors → (p k ≡ true → fits s σ t k ≡ true) → leading (σ .opened) p a ≡ some k → Room s σ t k
-  an-open p a h f e = let m = leading-some (σ .opened) p a k e in record { next = omega arith; board = omega arith; fit = f (m .1) }
+  an-open p a h f e = let m = leading-some (σ .opened) p a k e in record { board = omega arith; fit = f (m .1) }
 
   opens-room : opens s guard σ t ≡ true → Room s σ t (σ .opened)
   unfolding opens
   opens-room q =
       let m = both-parts (ltb (σ .opened) (s .processors)) _ q in
-      record { next = omega arith; board = ltb-true (σ .opened) (s .processors) (m .0); fit = m .1 }
+      record { board = ltb-true (σ .opened) (s .processors) (m .0); fit = m .1 }
 
   next-open : another s guard σ t ≡ some k → Room s σ t k
   unfolding another
@@ -78,7 +77,7 @@ module _ (s : Sheet) (guard : Schedule → ℕ → ℕ → Bool) (σ : Schedule)
   shared-open true h e = go (opens s guard σ t) e
     where
       go : (b : Bool) → pick b (first (σ .opened) (mayShare s guard σ t)) none ≡ some k → Room s σ t k
-      go true f = let m = first-some (σ .opened) (mayShare s guard σ t) k f in record { next = omega arith; board = omega arith; fit = both-parts (fits s σ t k) _ (m .1) .0 }
+      go true f = let m = first-some (σ .opened) (mayShare s guard σ t) k f in record { board = omega arith; fit = both-parts (fits s σ t k) _ (m .1) .0 }
       go false f = not-some f
 
   pub chosen : (amended : Bool) → σ .opened ≤ s .processors → choice s guard amended σ t ≡ some k → Room s σ t k

@@ -99,7 +99,7 @@ module _ (s : Sheet) (proper : Proper s) {σ : Schedule} (fair : Fair s σ) {t k
   unfolding placed
   placed-same = rw on-same (lt-ltb k nowhere (omega (arith, p .room .board, proper .form .board-few)))
 
-  placed-still : (u : ℕ) → placed σ u ≡ true → u ≢ t
+  pub placed-still : (u : ℕ) → placed σ u ≡ true → u ≢ t
   placed-still u e q = true≢false (sym e ∙ ap (placed σ) q ∙ free)
 
   -- x counted for the placed tasks is counted once more, for t
