@@ -263,10 +263,10 @@ module _ (s : Sheet) where
                 accepted out (r .0) (r .1) (r .2),
                 found-is isProper isSized (r .0) (r .1) .0,
                 λ bytes c h w.
-                let f = checks bytes c h in
-                let z = not-behind isProper isSized c (f .0) (f .1) w in
-                let same : z .0 ≡ r .0 = (cc (z .1, r .1)) in
-                not-better c (r .0) (subst (λ (x : Bundle). ahead c x ≡ false) same (z .2)),
+                    let f = checks bytes c h in
+                    let z = not-behind isProper isSized c (f .0) (f .1) w in
+                    let same : z .0 ≡ r .0 = (cc (z .1, r .1)) in
+                    not-better c (r .0) (subst (λ (x : Bundle). ahead c x ≡ false) same (z .2)),
               );
           least =
               λ out e bytes c h.

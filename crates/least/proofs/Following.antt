@@ -84,7 +84,6 @@ module _ (s : Sheet) (b : Bundle) (σ : State) (sound : Sound s b σ) (k : ℕ) 
 
 module _ (s : Sheet) (proper : Proper s) (b : Bundle) (published : Published s b) (formed : Formed s b) (within : (k : ℕ) → wholeOf b (need s) k ≤ s .limit)
     (number : ℕ → ℕ) (numbering : Numbering s b number) where
-
   -- the schedule has placed what the machine has run
   pub record Follows (σ : State) (φ : Schedule) : Type 0 where
     pub fair : Fair s φ

@@ -243,9 +243,9 @@ module _ (s : Sheet) (proper : Proper s) (xs : List (List Command)) (t : ℕ) (t
       let more = programmesBytes (suc (0 + length xs)) ys in (
         (programmeBytes r ++ more) ++ claimBytes (b .claim),
         ap (λ (p : List (List Command)). programmesBytes 0 p ++ claimBytes (b .claim)) (e ∙ ap (λ (p : List Command). xs ++ p ∷ ys) f) ∙
-        ap (λ (l : List ℕ). l ++ claimBytes (b .claim)) (programmesBytes-append 0 xs ((c ∷ r) ∷ ys)) ∙
-        append-assoc (programmesBytes 0 xs) (programmesBytes (0 + length xs) ((c ∷ r) ∷ ys)) (claimBytes (b .claim)) ∙
-        ap {B = List ℕ} (λ (l : List ℕ). programmesBytes 0 xs ++ (0x50 ∷ (0 + length xs) ∷ l))
+            ap (λ (l : List ℕ). l ++ claimBytes (b .claim)) (programmesBytes-append 0 xs ((c ∷ r) ∷ ys)) ∙
+            append-assoc (programmesBytes 0 xs) (programmesBytes (0 + length xs) ((c ∷ r) ∷ ys)) (claimBytes (b .claim)) ∙
+            ap {B = List ℕ} (λ (l : List ℕ). programmesBytes 0 xs ++ (0x50 ∷ (0 + length xs) ∷ l))
             (append-assoc (commandBytes c ++ programmeBytes r) more (claimBytes (b .claim)) ∙ append-assoc (commandBytes c) (programmeBytes r) (more ++ claimBytes (b .claim)) ∙
             ap (λ (l : List ℕ). commandBytes c ++ l) (sym (append-assoc (programmeBytes r) more (claimBytes (b .claim))))),
       )
@@ -270,8 +270,8 @@ module _ (s : Sheet) (proper : Proper s) (xs : List (List Command)) (t : ℕ) (t
       let n = length xs in (
         passes-turned s proper xs P Q zs claim passes,
         ahead-bytes second-order first-order refl same-runners ∙
-        ap₂ lower (y .1) (x .1) ∙ lower-front (programmesBytes 0 xs) _ _ ∙ lower-rest 0x50 0x50 _ _ refl ∙ lower-rest (0 + n) (0 + n) _ _ refl ∙
-        command-lower (headCommand s u) (headCommand s t) (y .0) (x .0) low,
+            ap₂ lower (y .1) (x .1) ∙ lower-front (programmesBytes 0 xs) _ _ ∙ lower-rest 0x50 0x50 _ _ refl ∙ lower-rest (0 + n) (0 + n) _ _ refl ∙
+            command-lower (headCommand s u) (headCommand s t) (y .0) (x .0) low,
       )
     where
       same-runners : runners second-order ≡ runners first-order

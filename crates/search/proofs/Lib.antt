@@ -1,0 +1,4 @@
+-- The laws of `search`.
+pub mod Digits
+pub mod Fronts
+pub mod Programmes

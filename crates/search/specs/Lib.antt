@@ -1,0 +1,3 @@
+-- The definitions of `search`.
+pub mod Codes
+pub mod Laying

@@ -1,0 +1,3 @@
+// The search for the least time of a small sheet.
+pub mod codes; // codes.rt: an arrangement as one number
+pub mod writing; // writing.rt: the bundle of an arrangement
