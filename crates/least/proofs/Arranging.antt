@@ -19,10 +19,10 @@ use Rattle.machine.specs.Runs.{onwards, settle, settled, latest}
 use Rattle.checker.proofs.Accepted.{Passes}
 use Rattle.planner.proofs.Schedules.{tally}
 use Rattle.least.specs.Written.{bringsIn, takesIn, receiveIn, sendIn, blockIn, blocksIn, programmeIn, programmesIn, Written}
-use Rattle.least.specs.Least.{candidates, bundleIn}
+use Rattle.least.specs.Least.{In, candidates, bundleIn}
 use Rattle.acceptance.proofs.Each.{each-gather}
 use Rattle.least.proofs.Standing.{once}
-use Rattle.least.proofs.Candidates.{In, tallyAll, Arranged, candidate}
+use Rattle.least.proofs.Candidates.{tallyAll, Arranged, candidate}
 use Rattle.bundle.proofs.Parts.{each-append}
 
 pub each-parts : {A : Type 0} (P : A → Type 0) (xs ys : List A) → Each P (xs ++ ys) → Each P xs × Each P ys

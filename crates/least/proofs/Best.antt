@@ -31,11 +31,10 @@ use Rattle.machine.proofs.Orders.{any-order, ended-still}
 use Rattle.machine.proofs.Runs.{leads-sound, fresh-sound}
 use Rattle.least.specs.Written.{Busy, Written}
 use Rattle.least.specs.Ranking.{ahead, choice}
-use Rattle.least.specs.Least.{opens, joins, amongAll, extended, completions, candidates, bundleIn, isValue, better, consider, bestFrom, best, most, bestOr11, leastTime}
+use Rattle.least.specs.Least.{In, opens, joins, amongAll, extended, completions, candidates, bundleIn, isValue, better, consider, bestFrom, best, most, bestOr11, leastTime}
 use Rattle.least.specs.Promise.{NoneAccepted, LeastTime}
 use Rattle.least.proofs.Orders.{not-better, ahead-self, not-ahead, ahead-claim, choice-first, choice-second, choice-one}
 use Rattle.least.proofs.Standing.{home-below}
-use Rattle.least.proofs.Candidates.{In}
 use Rattle.least.proofs.Arranging.{all-known, length-in, is-candidate}
 use Rattle.least.proofs.Normal.{Normal, normal}
 

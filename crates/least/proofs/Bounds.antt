@@ -21,11 +21,10 @@ use Rattle.checker.specs.Checker.{checked}
 use Rattle.checker.proofs.Accepted.{Passes}
 use Rattle.least.specs.Written.{programmeIn}
 use Rattle.least.specs.Ranking.{ahead}
-use Rattle.least.specs.Least.{bundleIn, isValue, better, consider, bestFrom}
+use Rattle.least.specs.Least.{In, bundleIn, isValue, better, consider, bestFrom}
 use Rattle.least.specs.Pruned.{total}
 use Rattle.least.proofs.Orders.{ahead-higher, choice-by}
 use Rattle.least.proofs.Following.{done-moved, clock-self, clock-rises}
-use Rattle.least.proofs.Candidates.{In}
 use Rattle.least.proofs.Best.{Works}
 use Rattle.least.proofs.Pruning.{total-le, ok, text}
 

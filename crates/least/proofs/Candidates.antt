@@ -15,12 +15,7 @@ use Rattle.folds.proofs.Laws.{sum-add, sum-zeros, sum-only}
 use Rattle.bundle.specs.Fits.{Each}
 use Rattle.planner.proofs.Schedules.{tally}
 use Rattle.least.specs.Written.{among, Busy}
-use Rattle.least.specs.Least.{opens, joins, amongAll, extended, completions}
-
--- x is one of a list
-abbrev pub In : {A : Type 0} → A → List A → Type 0
-In x [] = ⊥
-In x (y ∷ ys) = (x ≡ y) ⊎ In x ys
+use Rattle.least.specs.Least.{In, opens, joins, amongAll, extended, completions}
 
 pub in-left : {A : Type 0} (x : A) (ys zs : List A) → In x ys → In x (ys ++ zs)
 in-left x [] zs h = absurd h

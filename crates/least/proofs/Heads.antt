@@ -39,10 +39,10 @@ use Rattle.better.specs.Orders.{Rank, byBytes}
 use Rattle.better.specs.Ranks.{runsTask, runners}
 use Rattle.least.specs.Ranking.{ahead, lower}
 use Rattle.least.specs.Heads.{leadsTo, receiveOr, headCommand, headBytes, headOf, rises}
-use Rattle.least.specs.Least.{candidates, bundleIn, bestFrom, best}
+use Rattle.least.specs.Least.{In, candidates, bundleIn, bestFrom, best}
 use Rattle.least.proofs.Orders.{lower-less, lower-more, lower-rest, comparable, level-rank, ahead-bytes}
 use Rattle.least.proofs.Standing.{at-home, once, inside}
-use Rattle.least.proofs.Candidates.{In, tallyAll-append}
+use Rattle.least.proofs.Candidates.{tallyAll-append}
 use Rattle.least.proofs.Normal.{programmesIn-append}
 use Rattle.least.proofs.Arranging.{each-parts, known-all, blocks-run, one-none, runs-all, weighAll, whole-list}
 use Rattle.least.proofs.Swapping.{passes-turned}

@@ -27,10 +27,10 @@ use Rattle.planner.proofs.Schedules.{tally}
 use Rattle.least.specs.Written.{among, bringsIn, receiveIn, sendIn, blockIn, blocksIn, programmeIn, programmesIn}
 use Rattle.least.specs.Ranking.{lower}
 use Rattle.least.specs.Heads.{headBytes, headOf, rises}
-use Rattle.least.specs.Least.{opens, joins, amongAll, extended, completions, candidates, bundleIn, bestFrom, best}
+use Rattle.least.specs.Least.{In, opens, joins, amongAll, extended, completions, candidates, bundleIn, bestFrom, best}
 use Rattle.least.specs.Pruned.{prunedAt, pruned, lastOf, total, headsRise, feeds, inOrder, storeFits, mayOpen, mayJoin, looked}
 use Rattle.least.proofs.Standing.{at-home, of-whole, once, inside}
-use Rattle.least.proofs.Candidates.{In, in-left, in-right, in-gather, tally-append, joins-last}
+use Rattle.least.proofs.Candidates.{in-left, in-right, in-gather, tally-append, joins-last}
 use Rattle.least.proofs.Normal.{programmesIn-append}
 use Rattle.least.proofs.Arranging.{block-run, blocks-run, one-none, length-in}
 use Rattle.least.proofs.Best.{in-parts, gathered, Works, works-checked}

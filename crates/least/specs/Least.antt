@@ -2,6 +2,8 @@
 use Prim.Native.Nat.{ℕ, zero, suc, _-_}
 use mathlib.Core.Bool.{Bool, true, false}
 use mathlib.Core.Option.{Option, none, some}
+use mathlib.Core.Path.{_≡_}
+use mathlib.Core.Logic.{_⊎_}
 use mathlib.Core.List.{List, [], _∷_, _++_}
 use lib.ListN.{length}
 use lib.Dec.{ltb}
@@ -42,6 +44,11 @@ module _ (p n : ℕ) where
 
 unfoldable pub candidates : Sheet → List (List (List ℕ))
 candidates s = completions (s .processors) (taskCount s) (taskCount s) []
+
+-- x is one of a list
+abbrev pub In : {A : Type 0} → A → List A → Type 0
+In x [] = ⊥
+In x (y ∷ ys) = (x ≡ y) ⊎ In x ys
 
 -- the bundle of an arrangement, claiming its latest clock
 abbrev pub unclaimed : Sheet → List (List ℕ) → Bundle

@@ -2,3 +2,4 @@
 pub mod Digits
 pub mod Fronts
 pub mod Programmes
+pub mod Judges

@@ -1,3 +1,4 @@
 -- The definitions of `search`.
 pub mod Codes
 pub mod Laying
+pub mod Judging

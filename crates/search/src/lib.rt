@@ -1,3 +1,4 @@
 // The search for the least time of a small sheet.
 pub mod codes; // codes.rt: an arrangement as one number
 pub mod writing; // writing.rt: the bundle of an arrangement
+pub mod judging; // judging.rt: one arrangement judged
