@@ -3,3 +3,4 @@ pub mod Digits
 pub mod Fronts
 pub mod Programmes
 pub mod Judges
+pub mod Keeping

@@ -75,18 +75,17 @@ module _ (code len : ℕ) {p : Last} (some : 0 < len) (coded : Coded len code) (
       }
 
 -- the four bytes of a claim
-claim-bytes : (c : ℕ) → c < 4294967296 → numberBytes 4 c ≡ c % 256 ∷ c / 256 % 256 ∷ c / 65536 % 256 ∷ c / 16777216 ∷ []
-claim-bytes c h =
+claim-bytes : (c : ℕ) → numberBytes 4 c ≡ c % 256 ∷ c / 256 % 256 ∷ c / 65536 % 256 ∷ c / 16777216 % 256 ∷ []
+claim-bytes c =
     let a : c / 256 / 256 ≡ c / 65536 = omega arith in
     let b : c / 65536 / 256 ≡ c / 16777216 = omega arith in
-    let d : c / 16777216 % 256 ≡ c / 16777216 = omega arith in
-    rw (a, b, d)
+    rw (a, b)
 
-pub bundle-done : (sheet : List ℕ) (v : View) (old a b c d : List ℕ) (code len claim i j k r count : ℕ) → room ≤ length old → len ≤ most → claim < 4294967296
+pub bundle-done : (sheet : List ℕ) (v : View) (old a b c d : List ℕ) (code len claim i j k r count : ℕ) → room ≤ length old → len ≤ most
     → ProgrammesIs sheet v old a code len i count → Front a i (0x5A ∷ claim % 256 ∷ []) b j → Front b j (claim / 256 % 256 ∷ claim / 65536 % 256 ∷ []) c k
-    → Front c k (claim / 16777216 ∷ []) d r → BundleIs sheet v old d code len claim r
+    → Front c k (claim / 16777216 % 256 ∷ []) d r → BundleIs sheet v old d code len claim r
 unfolding bundleBytes
-bundle-done sheet v old a b c d code len claim i j k r count h l m p q u w =
+bundle-done sheet v old a b c d code len claim i j k r count h l p q u w =
     record {
       long = w .long ∙ u .long ∙ q .long ∙ p .long;
       few = omega (arith, w .long, u .long, q .long, p .long, p .few, q .next, u .next, w .next);
@@ -94,7 +93,7 @@ bundle-done sheet v old a b c d code len claim i j k r count h l m p q u w =
           λ s f.
           let X = programmesBytes 0 (programmesIn s (arranged len code)) in
           front-then X (0x5A ∷ numberBytes 4 claim) (p .is s f)
-          (front-as (ap {B = List ℕ} (λ (z : List ℕ). 0x5A ∷ z) (sym (claim-bytes claim m)))
-          (front-then (0x5A ∷ claim % 256 ∷ claim / 256 % 256 ∷ claim / 65536 % 256 ∷ []) (claim / 16777216 ∷ [])
+          (front-as (ap {B = List ℕ} (λ (z : List ℕ). 0x5A ∷ z) (sym (claim-bytes claim)))
+          (front-then (0x5A ∷ claim % 256 ∷ claim / 256 % 256 ∷ claim / 65536 % 256 ∷ []) (claim / 16777216 % 256 ∷ [])
           (front-then (0x5A ∷ claim % 256 ∷ []) (claim / 256 % 256 ∷ claim / 65536 % 256 ∷ []) q u) w)) .front;
     }

@@ -2,3 +2,4 @@
 pub mod Codes
 pub mod Laying
 pub mod Judging
+pub mod Keeping

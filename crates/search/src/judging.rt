@@ -23,7 +23,13 @@ pub fn judge(sheet: &[u8], w: &mut [u32], buf: &mut [u8], v: View, code: usize) 
 {
     let n = put_bundle(sheet, buf, v, code, v.tasks, 0);
     match judgement(sheet, &buf[..n], w, v) {
-        Verdict::Good => Judgement { accepted: true, claim: 0 },
-        Verdict::Refused(r, at) => Judgement { accepted: r == 30, claim: at },
+        Verdict::Good => Judgement {
+            accepted: true,
+            claim: 0,
+        },
+        Verdict::Refused(r, at) => Judgement {
+            accepted: r == 30,
+            claim: at,
+        },
     }
 }

@@ -194,11 +194,11 @@ pub fn put_bundle(
     len: usize,
     claim: usize,
 ) -> usize
-    requires { ⌜ Small v × (room ≤ length (now buf)) × (len ≤ most) × Coded len code × (claim < 4294967296) ⌝ }
+    requires { ⌜ Small v × (room ≤ length (now buf)) × (len ≤ most) × Coded len code ⌝ }
     ensures { λ r. ⌜ BundleIs (now (sheet .entry)) v (now (buf .entry)) (now (buf .exit)) code len claim r ⌝ }
 {
     let q = put_programmes(sheet, buf, v, code, len);
     let a = put_pair(buf, q.at, 0x5A, claim % 256);
     let b = put_pair(buf, a, (claim / 256 % 256) as u8, claim / 65536 % 256);
-    put_byte(buf, b, (claim / 16777216) as u8)
+    put_byte(buf, b, (claim / 16777216 % 256) as u8)
 }

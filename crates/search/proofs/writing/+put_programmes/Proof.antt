@@ -104,8 +104,7 @@ put-programmes-put-pair-requires t c κs =
     let some : 0 < c .before .before .before .before .before .before .before .before .before .args .len = omega (arith, c .before .before .before .before .before .before .if1 .left) in
     let le = tasks-le _ _ some (c .before .before .before .before .before .before .before .before .before .pre .1 .3) cut in
     let more = tasks-some _ _ some (c .before .before .before .before .before .before .before .before .before .pre .1 .3) cut in
-    let before = c .before .before .before .put-programmes .ensures in
-    (
+    let before = c .before .before .before .put-programmes .ensures in (
       omega (arith, before .few, before .long, c .before .before .before .before .before .before .before .before .before .pre .1 .1),
       omega (arith, before .many, opens-le (c .before .before .before .before .before .before .before .before .before .args .len - c .before .before .before .before .before .last-programme .result .tasks) (c .before .before .before .before .before .last-programme .result .front), c .before .before .before .before .before .before .before .before .before .pre .1 .2),
     )
