@@ -3,13 +3,13 @@ use Prim.Native.Nat.{ℕ, _+_, _≤_, _<_}
 use native.Mathlib.Omega.{arith}
 use mathlib.Core.Bool.{Bool, true, false}
 use mathlib.Core.Option.{Option, some}
-use mathlib.Core.Path.{_≡_, refl, ap}
+use mathlib.Core.Path.{_≡_, refl, ap, subst}
 use mathlib.Core.Logic.{_⊎_, inl, inr, ⊎-elim}
 use mathlib.Core.List.{List, [], _∷_, _++_}
 use lib.ListN.{length}
 use Rattle.folds.specs.Folds.{pick}
 use Rattle.folds.proofs.Laws.{term-le-greatest}
-use Rattle.sheet.specs.Sheet.{Sheet, workOf}
+use Rattle.sheet.specs.Sheet.{Sheet, taskCount, workOf}
 use Rattle.bundle.specs.Bundle.{Command, run, send, receive, Bundle, programmeOf}
 use Rattle.admission.specs.Counting.{weigh}
 use Rattle.admission.proofs.Weights.{programme-or, weigh-split}
@@ -21,12 +21,12 @@ use Rattle.checker.specs.Checker.{checked}
 use Rattle.checker.proofs.Accepted.{Passes}
 use Rattle.least.specs.Written.{programmeIn}
 use Rattle.least.specs.Ranking.{ahead}
-use Rattle.least.specs.Least.{In, bundleIn, isValue, better, consider, bestFrom}
-use Rattle.least.specs.Pruned.{total}
+use Rattle.least.specs.Least.{In, completions, bundleIn, isValue, better, consider, bestFrom}
+use Rattle.least.specs.Pruned.{total, lastOf, mayOpen, mayJoin, lookedFrom}
 use Rattle.least.proofs.Orders.{ahead-higher, choice-by}
 use Rattle.least.proofs.Following.{done-moved, clock-self, clock-rises}
 use Rattle.least.proofs.Best.{Works}
-use Rattle.least.proofs.Pruning.{total-le, ok, text}
+use Rattle.least.proofs.Pruning.{total-le, ok, text, extends, pruned-in, split-last, total-append}
 
 -- the work of a command: that of the task that it runs
 abbrev works : Sheet → Command → ℕ
@@ -99,6 +99,18 @@ module _ (s : Sheet) where
       go : (w : Bool) → isValue (checked s (bundleIn s a)) ≡ w → bestFrom s cs (some y) ≡ some y → bestFrom s cs (pick w (better (some y) (bundleIn s a)) (some y)) ≡ some y
       go true e r = rw (choice-by y (bundleIn s a), h a (inl refl) e) r
       go false e r = r
+
+  -- a branch may be left out whose last programme works longer than a found bundle claims
+  pub late : (m : ℕ) (a : List (List ℕ)) (y : Bundle) → 0 < length a → y .claim < total (workOf s) (lastOf a) → bestFrom s (lookedFrom s m a) (some y) ≡ some y
+  unfolding lookedFrom
+  late m a y busy h =
+      cut (lookedFrom s m a) y
+      (λ x i w.
+      let p = s .processors in
+      let n = taskCount s in
+      let z = split-last a busy in
+      let e = extends p n m (z .0) (lastOf a) x (subst (λ (c : List (List ℕ)). In x (completions p n m c)) (z .1) (pruned-in p n (mayOpen s) (mayJoin s) m a x i)) in
+      later (bundleIn s x) y (omega (arith, works-least x w (z .0) (lastOf a ++ e .0) (e .1) (e .2), total-append (workOf s) (lastOf a) (e .0))))
 
   -- one list after another, as loops go
   pub best-append : (cs ds : List (List (List ℕ))) (o : Option Bundle) → bestFrom s (cs ++ ds) o ≡ bestFrom s ds (bestFrom s cs o)

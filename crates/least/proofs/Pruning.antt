@@ -28,7 +28,7 @@ use Rattle.least.specs.Written.{among, bringsIn, receiveIn, sendIn, bloc
 use Rattle.least.specs.Ranking.{lower}
 use Rattle.least.specs.Heads.{headBytes, headOf, rises}
 use Rattle.least.specs.Least.{In, opens, joins, amongAll, extended, completions, candidates, bundleIn, bestFrom, best}
-use Rattle.least.specs.Pruned.{prunedAt, pruned, lastOf, total, headsRise, feeds, inOrder, storeFits, mayOpen, mayJoin, looked}
+use Rattle.least.specs.Pruned.{prunedAt, pruned, lastOf, total, headsRise, feeds, inOrder, storeFits, mayOpen, mayJoin, lookedFrom, looked}
 use Rattle.least.proofs.Standing.{at-home, of-whole, once, inside}
 use Rattle.least.proofs.Candidates.{in-left, in-right, in-gather, tally-append, joins-last}
 use Rattle.least.proofs.Normal.{programmesIn-append}
@@ -119,12 +119,12 @@ module _ (p n : ℕ) where
               joining false e k = absurd k
 
 -- the last programme
-last-split : (ts : List ℕ) (a : List (List ℕ)) → (f : List (List ℕ)) × (ts ∷ a ≡ f ++ lastOf (ts ∷ a) ∷ [])
+pub last-split : (ts : List ℕ) (a : List (List ℕ)) → (f : List (List ℕ)) × (ts ∷ a ≡ f ++ lastOf (ts ∷ a) ∷ [])
 unfolding lastOf
 last-split ts [] = ([], refl)
 last-split ts (us ∷ a) = let z = last-split us a in (ts ∷ z .0, ap {B = List (List ℕ)} (λ x. ts ∷ x) (z .1))
 
-split-last : (a : List (List ℕ)) → 0 < length a → (f : List (List ℕ)) × (a ≡ f ++ lastOf a ∷ [])
+pub split-last : (a : List (List ℕ)) → 0 < length a → (f : List (List ℕ)) × (a ≡ f ++ lastOf a ∷ [])
 split-last [] h = absurd (omega arith)
 split-last (ts ∷ a) h = last-split ts a
 
@@ -134,7 +134,7 @@ rises-at s [] ts us zs e = both-parts (lower (headBytes s (headOf ts)) (headByte
 rises-at s (x ∷ []) ts us zs e = rises-at s [] ts us zs (both-parts (lower (headBytes s (headOf x)) (headBytes s (headOf ts))) _ e .1)
 rises-at s (x ∷ y ∷ f) ts us zs e = rises-at s (y ∷ f) ts us zs (both-parts (lower (headBytes s (headOf x)) (headBytes s (headOf y))) _ e .1)
 
-total-append : (g : ℕ → ℕ) (ts us : List ℕ) → total g (ts ++ us) ≡ total g ts + total g us
+pub total-append : (g : ℕ → ℕ) (ts us : List ℕ) → total g (ts ++ us) ≡ total g ts + total g us
 unfolding total
 total-append g [] us = omega arith
 total-append g (t ∷ ts) us = omega (arith, total-append g ts us)
@@ -270,7 +270,7 @@ module _ (s : Sheet) (proper : Proper s) (sized : Sized s) where
 
   -- the code may look at these alone
   pub best-looked : bestFrom s (looked s) none ≡ best s
-  unfolding looked candidates
+  unfolding looked lookedFrom candidates
   best-looked =
       best-of-part s proper sized (looked s)
       (λ a i. pruned-in (s .processors) (taskCount s) (mayOpen s) (mayJoin s) (taskCount s) [] a i)

@@ -53,5 +53,12 @@ module _ (s : Sheet) where
   unfoldable pub mayJoin : List (List ℕ) → ℕ → Bool
   mayJoin a t = both (inOrder a t) (storeFits (lastOf a ++ t ∷ []))
 
+-- what m more tasks can make of the arrangement a, and with t as the next of them; all that is looked at
+unfoldable pub lookedFrom : Sheet → ℕ → List (List ℕ) → List (List (List ℕ))
+lookedFrom s m a = pruned (s .processors) (taskCount s) (mayOpen s) (mayJoin s) m a
+
+unfoldable pub lookedAt : Sheet → ℕ → List (List ℕ) → ℕ → List (List (List ℕ))
+lookedAt s m a t = prunedAt (s .processors) (taskCount s) (mayOpen s) (mayJoin s) (lookedFrom s m) a t
+
 unfoldable pub looked : Sheet → List (List (List ℕ))
-looked s = pruned (s .processors) (taskCount s) (mayOpen s) (mayJoin s) (taskCount s) []
+looked s = lookedFrom s (taskCount s) []

@@ -13,6 +13,10 @@ use mathlib.Core.Logic.{_≢_}
 use Rattle.folds.specs.Folds.{pick, either}
 use Rattle.least.specs.Written.{among}
 use Rattle.least.proofs.Candidates.{joins-last}
+use Rattle.bundle.specs.Fits.{Each}
+use Rattle.bundle.proofs.Parts.{each-append}
+use Rattle.least.specs.Heads.{headOf}
+use Rattle.least.specs.Pruned.{lastOf}
 use Rattle.least.specs.Least.{opens, joins, amongAll}
 use Rattle.search.specs.Codes.{arranged, tasksOf, opensOf, Coded, orderOf, lastLength, frontOf, LastIs}
 use Rattle.search.specs.declared.codes.Last.{Last}
@@ -262,3 +266,58 @@ opens-le (suc n) c = omega (arith, opens-le n (c / 16))
 pub coded-rest : (len code m rest : ℕ) → 0 < len → Coded len code → m ≡ lastLength len code → rest ≡ frontOf len code → Coded (len - m) rest
 coded-rest len code m rest h k e f =
     subst (λ (y : ℕ). Coded (len - m) y) (sym f) (subst (λ (x : ℕ). Coded (len - x) (frontOf len code)) (sym e) (split len code h k .coded))
+
+-- one task more: how many programmes, and how many tasks the last of them has
+module _ (n c t : ℕ) (l : t < 8) where
+  open-digit : ((c * 16 + 8 + t) / 16 ≡ c) × ((c * 16 + 8 + t) / 8 % 2 ≡ 1)
+  open-digit = let q : (c * 16 + 8 + t) / 8 ≡ c * 2 + 1 = omega arith in (omega arith, ap (λ x. x % 2) q ∙ odd c)
+
+  join-digit : ((c * 16 + t) / 16 ≡ c) × ((c * 16 + t) / 8 % 2 ≡ 0)
+  join-digit = let q : (c * 16 + t) / 8 ≡ c * 2 = omega arith in (omega arith, ap (λ x. x % 2) q ∙ even c)
+
+  pub open-count : opensOf (n + 1) (c * 16 + 8 + t) ≡ opensOf n c + 1
+  unfolding opensOf
+  open-count = rw (add-one n) (rw (open-digit .0, open-digit .1) (omega arith))
+
+  pub join-count : opensOf (n + 1) (c * 16 + t) ≡ opensOf n c
+  unfolding opensOf
+  join-count = rw (add-one n) (rw (join-digit .0, join-digit .1) (omega arith))
+
+  pub open-last : lastLength (n + 1) (c * 16 + 8 + t) ≡ 1
+  unfolding lastLength
+  open-last = rw (add-one n) (rw (eq-eqb ((c * 16 + 8 + t) / 8 % 2) 1 (open-digit .1)))
+
+  pub join-last : lastLength (n + 1) (c * 16 + t) ≡ lastLength n c + 1
+  unfolding lastLength
+  join-last = rw (add-one n) (rw (join-digit .0, ne-eqb ((c * 16 + t) / 8 % 2) 1 (λ q. omega (arith, join-digit .1))))
+
+-- the last programme of a number that has one
+order-length : (j c : ℕ) → length (orderOf j c) ≡ j
+unfolding orderOf
+order-length zero c = refl
+order-length (suc j) c = omega (arith, length-append (orderOf j (c / 16)) (c % 8 ∷ []), order-length j (c / 16))
+
+order-below : (j c : ℕ) → Each (λ u. u < 8) (orderOf j c)
+unfolding orderOf
+order-below zero c = tt
+order-below (suc j) c = each-append (λ u. u < 8) (orderOf j (c / 16)) (c % 8 ∷ []) (order-below j (c / 16)) (omega arith, tt)
+
+pub last-append : (a : List (List ℕ)) (ts : List ℕ) → lastOf (a ++ ts ∷ []) ≡ ts
+unfolding lastOf
+last-append [] ts = refl
+last-append (us ∷ []) ts = refl
+last-append (us ∷ vs ∷ a) ts = last-append (vs ∷ a) ts
+
+module _ (n c : ℕ) (some : 0 < n) (coded : Coded n c) where
+  pub last-order : lastOf (arranged n c) ≡ orderOf (lastLength n c) c
+  last-order = ap lastOf (split n c some coded .parts) ∙ last-append (arranged (n - lastLength n c) (frontOf n c)) (orderOf (lastLength n c) c)
+
+  pub last-busy : 0 < length (lastOf (arranged n c))
+  last-busy = omega (arith, ap length last-order, order-length (lastLength n c) c, last-some n c some)
+
+  pub head-below : headOf (lastOf (arranged n c)) < 8
+  head-below = rw last-order (go (orderOf (lastLength n c) c) (order-below (lastLength n c) c))
+    where
+      go : (ts : List ℕ) → Each (λ u. u < 8) ts → headOf ts < 8
+      go [] h = omega arith
+      go (t ∷ ts) h = h .0

@@ -4,3 +4,4 @@ pub mod Fronts
 pub mod Programmes
 pub mod Judges
 pub mod Keeping
+pub mod Steps

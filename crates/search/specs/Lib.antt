@@ -3,3 +3,4 @@ pub mod Codes
 pub mod Laying
 pub mod Judging
 pub mod Keeping
+pub mod Walking
