@@ -5,3 +5,4 @@ pub mod Programmes
 pub mod Judges
 pub mod Keeping
 pub mod Steps
+pub mod Folds

@@ -52,9 +52,6 @@ module _ (p : Sheet → ℕ → Bool) (sheet : List ℕ) (v : View) where
   none-more {l} h n e =
       record { few = omega arith; is = λ s k j m. ⊎-elim (λ q. n .is s k j q) (λ q. subst (λ (i : ℕ). p s i ≡ false) (sym q) (e s k)) (below-suc (omega (arith, m))) }
 
-
-
-
 -- the first link to a task
 module _ (sheet : List ℕ) (v : View) (t : ℕ) where
   abbrev pub Leads : ℕ → Type 0

@@ -7,14 +7,24 @@ use lib.ListN.{length}
 use lib.Dec.{ltb}
 use Rattle.folds.specs.Folds.{pick, both, any}
 use Rattle.sheet.specs.Sheet.{Sheet, taskCount, linkCount, workOf, storeOf}
-use Rattle.admission.specs.Fields.{Known}
+use Rattle.admission.specs.Fields.{Known, Seen}
 use Rattle.admission.specs.declared.view.View.{View}
+use Rattle.stepping_machine.specs.Layout.{extent}
 use Rattle.least.specs.Heads.{headOf, receives, headKey}
 use Rattle.least.specs.Least.{opens, joins, most}
 use Rattle.least.specs.Pruned.{lastOf, total, feeds, mayOpen, mayJoin, lookedFrom}
 use Rattle.search.specs.Codes.{base, mark, arranged, tasksOf, opensOf, Coded, lastLength}
-use Rattle.search.specs.Laying.{mostLinks}
+use Rattle.search.specs.Laying.{mostLinks, room, Small}
 use Rattle.search.specs.declared.walking.Begun.{Begun}
+use Rattle.search.specs.declared.choosing.Best.{Best}
+
+-- what every part of the search is lent: the sheet's bytes, words for the checker, and room for two bundles
+pub record Ready (sheet w buf other : List ℕ) (v : View) : Type 0 where
+  pub seen : Seen sheet v
+  pub small : Small v
+  pub area : extent ≤ length w
+  pub first : room ≤ length buf
+  pub second : room ≤ length other
 
 -- a work or a store
 abbrev pub mostLoad : ℕ
@@ -85,3 +95,7 @@ openedFrom s m a t = pick (opensRight s a t) (lookedFrom s m (opens a t)) []
 
 unfoldable pub joinedFrom : Sheet → ℕ → List (List ℕ) → ℕ → List (List (List ℕ))
 joinedFrom s m a t = pick (joinsRight s a t) (lookedFrom s m (joins a t)) []
+
+-- what is kept claims less than so much work takes
+pub record LateIs (best : Best) (work : ℕ) (r : Bool) : Type 0 where
+  pub is : r ≡ both (best .found) (ltb (best .claim) work)
