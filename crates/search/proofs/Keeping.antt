@@ -36,6 +36,14 @@ then-then Less y z = refl
 then-then Equal y z = refl
 then-then Greater y z = refl
 
+-- what is written for a candidate that is kept is its bundle
+pub kept-bytes : {sheet : List ℕ} {v : View} {c : Best} {x : Bundle} {old buf : List ℕ} {n : ℕ} (s : Sheet) → Sought s sheet v → Keeps s v c x
+    → BundleIs sheet v old buf (c .code) (v .tasks) (c .claim) n → take n buf ≡ bundleBytes x
+unfolding bundleIn
+kept-bytes {v = v} {c = c} s k h w =
+    w .is s (k .known) ∙
+    ap bundleBytes (ap (λ (i : ℕ). record { programmes = programmesIn s (arranged (v .tasks) (c .code)); claim = i }) (h .claim ∙ ap (λ (z : Bundle). z .claim) (h .is)) ∙ sym (h .is))
+
 -- the order of two that are kept
 module _ (sheet : List ℕ) (v : View) (a b : Best) (codedA : Coded (v .tasks) (a .code)) (codedB : Coded (v .tasks) (b .code)) where
   abbrev front : Order
@@ -64,18 +72,12 @@ module _ (sheet : List ℕ) (v : View) (a b : Best) (codedA : Coded (v .tasks) (
   order-greater o n m p q e f = record { is = λ s k x y h g. sym (whole s k x y h g ∙ ap (λ (z : Order). thenBy z (byBytes (bundleBytes x) (bundleBytes y))) (sym (ap₂ thenBy q p) ∙ sym e ∙ f)) }
 
   -- and where the bytes do
-  written : (s : Sheet) → Sought s sheet v → (c : Best) (x : Bundle) → Keeps s v c x → (old buf : List ℕ) (n : ℕ) → BundleIs sheet v old buf (c .code) (v .tasks) (c .claim) n
-      → take n buf ≡ bundleBytes x
-  unfolding bundleIn
-  written s k c x h old buf n w =
-      w .is s (k .known) ∙ ap bundleBytes (ap (λ (i : ℕ). record { programmes = programmesIn s (arranged (v .tasks) (c .code)); claim = i }) (h .claim ∙ ap (λ (z : Bundle). z .claim) (h .is)) ∙ sym (h .is))
-
   pub order-equal : (o n m : Order) → n ≡ byNumber (a .programmes) (b .programmes) → m ≡ byNumber (a .claim) (b .claim) → o ≡ thenBy m n → o ≡ Equal → (old buf old′ buf′ : List ℕ) (i j : ℕ)
       → BundleIs sheet v old buf (a .code) (v .tasks) (a .claim) i → BundleIs sheet v old′ buf′ (b .code) (v .tasks) (b .claim) j → (r : Order) → r ≡ byBytes (take i buf) (take j buf′) → OrderIs sheet v a b r
   order-equal o n m p q e f old buf old′ buf′ i j w u r t =
       record {
         is =
-            λ s k x y h g. t ∙ ap₂ byBytes (written s k a x h old buf i w) (written s k b y g old′ buf′ j u) ∙
+            λ s k x y h g. t ∙ ap₂ byBytes (kept-bytes s k h w) (kept-bytes s k g u) ∙
             sym (whole s k x y h g ∙ ap (λ (z : Order). thenBy z (byBytes (bundleBytes x) (bundleBytes y))) (sym (ap₂ thenBy q p) ∙ sym e ∙ f));
       }
 

@@ -6,3 +6,4 @@ pub mod Judges
 pub mod Keeping
 pub mod Steps
 pub mod Folds
+pub mod Ends

@@ -4,3 +4,4 @@ pub mod Laying
 pub mod Judging
 pub mod Keeping
 pub mod Walking
+pub mod Whole

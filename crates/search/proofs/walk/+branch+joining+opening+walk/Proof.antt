@@ -108,8 +108,7 @@ branch-joining-requires : (t : ℕ) → branch-lts.Need-joining-requires (
   joining.Post,
 ) (branch-at t) branch.Post
 branch-joining-requires t c κs =
-    let R = c .before .before .before .before .before .before .before .before .before .before .before .before .before .before .before .before .before .before .before .pre .1 .0 in
-    (
+    let R = c .before .before .before .before .before .before .before .before .before .before .before .before .before .before .before .before .before .before .before .pre .1 .0 in (
       omega (arith, c .before .before .before .before .before .before .before .before .before .before .before .before .before .before .before .before .before .before .before .pre .0),
       (
         record { seen = R .seen; small = R .small; area = omega (arith, R .area); first = omega (arith, R .first); second = omega (arith, R .second) },
@@ -505,8 +504,7 @@ walk-branch-requires : (t : ℕ) → walk-lts.Need-branch-requires (
 ) (walk-at t) walk.Post walk-Inv-loop walk-μ-loop
 walk-branch-requires t c κs =
     let p = c .before .before .before .before .before .before .before .before .before .before .before .pre .1 in
-    let i = c .before .before .before .before .before .loop .inv in
-    (
+    let i = c .before .before .before .before .before .loop .inv in (
       omega (arith, c .before .before .before .before .before .before .before .before .before .before .before .pre .0, c .before .before .before .before .before .before .if1 .left),
       (ready-on (p .0) (i .2) (i .3) (i .4), p .1, omega (arith, p .2, c .before .before .before .before .before .before .if1 .left), omega (arith, c .before .before .before .if2 .taken), i .1 .right),
     )
@@ -534,8 +532,7 @@ walk-loop-again : (t : ℕ) → walk-lts.Need-loop-again (
   branch.Post,
 ) (walk-at t) walk.Post walk-Inv-loop walk-μ-loop
 walk-loop-again t c =
-    let i = c .before .before .before .before .before .before .before .before .before .before .before .before .loop .inv in
-    (
+    let i = c .before .before .before .before .before .before .before .before .before .before .before .before .loop .inv in (
       omega (arith, c .before .before .before .before .before .before .before .before .before .before .if2 .taken),
       more-turned _ _ (c .before .before .before .before .before .before .before .before .before .before .before .before .before .before .before .before .before .before .args .b) _ _ _ _ _ (i .1) (c .before .before .before .before .before .before .branch .ensures),
       omega (arith, i .2),
