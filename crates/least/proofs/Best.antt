@@ -32,7 +32,7 @@ use Rattle.machine.proofs.Runs.{leads-sound, fresh-sound}
 use Rattle.least.specs.Written.{Busy, Written}
 use Rattle.least.specs.Ranking.{ahead, choice}
 use Rattle.least.specs.Least.{In, opens, joins, amongAll, extended, completions, candidates, bundleIn, isValue, better, consider, bestFrom, best, most, bestOr11, leastTime}
-use Rattle.least.specs.Promise.{NoneAccepted, LeastTime}
+use Rattle.least.specs.Promise.{NoneAccepted, Found, LeastTime}
 use Rattle.least.proofs.Orders.{not-better, ahead-self, not-ahead, ahead-claim, choice-first, choice-second, choice-one}
 use Rattle.least.proofs.Standing.{home-below}
 use Rattle.least.proofs.Arranging.{all-known, length-in, is-candidate}
@@ -251,29 +251,33 @@ module _ (s : Sheet) where
     none-accepted : best s ≡ none → NoneAccepted sheet
     none-accepted e bytes c h = let f = checks bytes c h in not-some (sym e ∙ best-by isProper isSized c (f .0) (f .1) .2)
 
+    found-time : (out : List ℕ) → leastTime s ≡ value out → Found sheet s out
+    found-time out e =
+        let r = result out e in
+        record {
+          bundle = r .0;
+          accepted = accepted out (r .0) (r .1) (r .2);
+          bytes = r .2;
+          form = found-is isProper isSized (r .0) (r .1) .0;
+          best =
+              λ other c h w.
+              let f = checks other c h in
+              let z = not-behind isProper isSized c (f .0) (f .1) w in
+              let same : z .0 ≡ r .0 = (cc (z .1, r .1)) in
+              not-better c (r .0) (subst (λ (x : Bundle). ahead c x ≡ false) same (z .2));
+          least =
+              λ other c h.
+              let f = checks other c h in
+              let z = least-of isProper isSized c (f .0) (f .1) in
+              let same : z .0 ≡ r .0 = (cc (z .1, r .1)) in
+              subst (λ (x : Bundle). x .claim ≤ c .claim) same (z .2);
+        }
+
     pub least-time : LeastTime sheet s
     unfolding leastTime
     least-time =
         record {
-          found =
-              λ out e.
-              let r = result out e in (
-                r .0,
-                accepted out (r .0) (r .1) (r .2),
-                found-is isProper isSized (r .0) (r .1) .0,
-                λ bytes c h w.
-                    let f = checks bytes c h in
-                    let z = not-behind isProper isSized c (f .0) (f .1) w in
-                    let same : z .0 ≡ r .0 = (cc (z .1, r .1)) in
-                    not-better c (r .0) (subst (λ (x : Bundle). ahead c x ≡ false) same (z .2)),
-              );
-          least =
-              λ out e bytes c h.
-              let r = result out e in
-              let f = checks bytes c h in
-              let z = least-of isProper isSized c (f .0) (f .1) in
-              let same : z .0 ≡ r .0 = (cc (z .1, r .1)) in
-              (r .0, accepted out (r .0) (r .1) (r .2), subst (λ (x : Bundle). x .claim ≤ c .claim) same (z .2));
+          found = found-time;
           refused-11 = λ p e. refusal p (ltb most (taskCount s)) (best s) refl e;
           only-11 = λ h none-is. nothing h none-is (best s) refl;
         }
