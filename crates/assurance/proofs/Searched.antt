@@ -11,7 +11,7 @@ use lib.Dec.{ltb}
 use borrow.Author.Tests.{lt-ltb, le-ltb}
 use Rattle.folds.specs.Folds.{pick}
 use Rattle.folds.specs.Answers.{Answer, value, refused, andThen, fitting, number, placeOr, cleared}
-use Rattle.folds.proofs.Tests.{andThen-value, value-same, not-value}
+use Rattle.folds.proofs.Tests.{andThen-value, value-same}
 use Rattle.numbers.specs.Number.{Bytes}
 use Rattle.workspace.specs.Area.{fixed}
 use Rattle.sheet.specs.Sheet.{Sheet, taskCount}
@@ -24,14 +24,13 @@ use Rattle.checker.specs.Checker.{checked, check}
 use Rattle.checker.proofs.Accepted.{passes}
 use Rattle.better.specs.Orders.{Rank, byRank}
 use Rattle.better.specs.Ranks.{runners, rankBy, rankOf}
-use Rattle.better.specs.declared.order.Order.the-variants.{Less}
 use Rattle.least.specs.Written.{Written}
 use Rattle.least.specs.Ranking.{order}
 use Rattle.least.specs.Least.{best, most, bestOr11, leastTime, leastBundle}
 use Rattle.least.specs.Promise.{NoneAccepted, Found, LeastTime}
 use Rattle.least.proofs.Best.{least-time}
 use Rattle.entry_points.specs.Values.{no-place}
-use Rattle.zeldrupa.specs.Promises.{leastAnswer, GivesCheck, checkAnswer}
+use Rattle.zeldrupa.specs.Promises.{leastAnswer, checkAnswer}
 use Rattle.zeldrupa.proofs.Gives.{enough}
 use Rattle.assurance.specs.Choosing.{Accepted, Before}
 use Rattle.assurance.specs.LeastTimes.{InForm, Wrote, Asked, LeastTimes}

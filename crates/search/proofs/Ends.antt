@@ -2,21 +2,19 @@
 use Prim.Native.Nat.{ℕ, _+_, _-_, _≤_, _<_}
 use native.Mathlib.Omega.{arith}
 use native.Mathlib.Numerals.{add-one}
-use mathlib.Core.Bool.{Bool, true, false, true≢false, false≢true}
+use mathlib.Core.Bool.{Bool, true, false, true≢false}
 use mathlib.Core.Option.{Option, none, some}
 use mathlib.Core.Path.{_≡_, refl, sym, ap, _∙_, subst}
-use mathlib.Core.List.{List, [], _∷_, _++_}
+use mathlib.Core.List.{List, [], _∷_}
 use lib.ListN.{length, take, set, getD, length-take}
 use lib.Seq.{take-suc}
-use lib.Dec.{ltb}
 use borrow.Author.Tests.{lt-ltb, le-ltb}
-use borrow.Rule.Slice.PartMut.{midOf}
 use Rattle.folds.specs.Folds.{pick}
 use Rattle.folds.specs.Answers.{Answer, value, refused, andThen, fitting, written}
 use Rattle.numbers.specs.Number.{Bytes, stored}
 use Rattle.numbers.proofs.Laws.{stored-one, stored-then, stored-none}
 use Rattle.numbers.proofs.Puts.{kept, front, fits-not, fits-well}
-use Rattle.sheet.specs.Sheet.{Sheet, taskCount, linkCount, workOf, storeOf}
+use Rattle.sheet.specs.Sheet.{Sheet, taskCount}
 use Rattle.sheet.specs.Tables.{sheetIn}
 use Rattle.sheet_reader.specs.declared.Reading.{Reading}
 use Rattle.sheet_reader.specs.declared.Reading.the-variants as readings
@@ -25,11 +23,9 @@ use Rattle.graph.proofs.Proper.{proper, proper-sized}
 use Rattle.levelling.specs.Opened.{OpenIs}
 use Rattle.levelling.proofs.Opens.{open-refusal, open-value}
 use Rattle.bundle.specs.Bundle.{Bundle}
-use Rattle.bundle.specs.Writing.{bundleBytes}
 use Rattle.bundle_writer.specs.Writes.{writtenOf}
 use Rattle.bundle_writer.specs.declared.writer.Judged.{Judged}
 use Rattle.bundle_writer.specs.declared.writer.Judged.the-variants.{Long, Refused}
-use Rattle.admission.specs.Fields.{Known}
 use Rattle.admission.specs.Views.{ViewIs, Shown}
 use Rattle.admission.specs.declared.view.View.{View}
 use Rattle.admission.proofs.Areas.{known-in}
@@ -38,9 +34,9 @@ use Rattle.least.specs.Pruned.{lastOf, total, mayOpen, mayJoin, lookedFrom, loo
 use Rattle.least.proofs.Few.{few-links}
 use Rattle.least.proofs.Pruning.{pruned-in, best-looked}
 use Rattle.search.specs.Codes.{arranged, opensOf, Coded, lastLength}
-use Rattle.search.specs.Laying.{mostLinks, Small, BundleIs}
+use Rattle.search.specs.Laying.{Small, BundleIs}
 use Rattle.search.specs.Judging.{Sought}
-use Rattle.search.specs.Keeping.{Keeps, KeepsOf, Right, FoldIs}
+use Rattle.search.specs.Keeping.{KeepsOf, Right, FoldIs}
 use Rattle.search.specs.Walking.{floorOf, begun, Begins}
 use Rattle.search.specs.Whole.{BestIs, SearchIs, LeastIs}
 use Rattle.search.specs.declared.choosing.Best.{Best}

@@ -1,31 +1,31 @@
 -- Parts of the walk: what each makes of the best, and how they follow on each other.
-use Prim.Native.Nat.{ℕ, zero, suc, _+_, _-_, _*_, _≤_, _<_}
+use Prim.Native.Nat.{ℕ, zero, suc, _+_, _-_, _<_}
 use native.Mathlib.Omega.{arith}
 use mathlib.Core.Bool.{Bool, true, false, true≢false}
 use mathlib.Core.Option.{Option, none, some}
-use mathlib.Core.Path.{_≡_, refl, sym, ap, ap₂, _∙_, subst}
+use mathlib.Core.Path.{_≡_, sym, ap, ap₂, _∙_, subst}
 use mathlib.Core.List.{List, [], _∷_, _++_}
 use lib.ListN.{length}
 use lib.Dec.{ltb}
 use borrow.Author.Tests.{ltb-true}
-use Rattle.folds.specs.Folds.{pick, both, gather}
+use Rattle.folds.specs.Folds.{gather}
 use Rattle.folds.proofs.Tests.{both-parts}
 use Rattle.folds.proofs.Loops.{gather-one, gather-zero}
-use Rattle.sheet.specs.Sheet.{Sheet, taskCount, workOf}
+use Rattle.sheet.specs.Sheet.{Sheet, taskCount}
 use Rattle.bundle.specs.Bundle.{Bundle}
 use Rattle.admission.specs.declared.view.View.{View}
 use Rattle.least.specs.Written.{among}
-use Rattle.least.specs.Least.{In, opens, joins, amongAll, candidates, bestFrom}
-use Rattle.least.specs.Pruned.{lastOf, total, prunedAt, pruned, mayOpen, mayJoin, lookedFrom, lookedAt}
+use Rattle.least.specs.Least.{In, bestFrom}
+use Rattle.least.specs.Pruned.{prunedAt, pruned, lookedFrom, lookedAt}
 use Rattle.least.proofs.Candidates.{in-left, in-right}
 use Rattle.least.proofs.Bounds.{late, best-append}
 use Rattle.search.specs.Codes.{arranged, tasksOf, opensOf, Coded}
 use Rattle.search.specs.Judging.{Sought}
-use Rattle.search.specs.Keeping.{Keeps, KeepsOf, Right, FoldIs}
+use Rattle.search.specs.Keeping.{KeepsOf, Right, FoldIs}
 use Rattle.search.specs.Walking.{Ready, begun, Begins, OpenedIs, JoinedIs, opensRight, joinsRight, TestIs, openedFrom, joinedFrom, LateIs}
 use Rattle.search.specs.declared.choosing.Best.{Best}
 use Rattle.search.specs.declared.walking.Begun.{Begun}
-use Rattle.search.proofs.Digits.{coded-length, coded-among, open-code, join-code, opens-le}
+use Rattle.search.proofs.Digits.{coded-length, coded-among, open-code, join-code}
 
 abbrev Lists : Type 0
 Lists = Sheet → List (List (List ℕ))

@@ -1,8 +1,8 @@
 -- The checker's answer to the bundle of a candidate with the claim 0.
-use Prim.Native.Nat.{ℕ, zero, suc, _-_, _<_, _≤_}
+use Prim.Native.Nat.{ℕ, zero, suc, _-_, _<_}
 use native.Mathlib.Omega.{arith}
 use mathlib.Core.Bool.{Bool, true, false}
-use mathlib.Core.Path.{_≡_, refl, sym, ap, _∙_, subst}
+use mathlib.Core.Path.{_≡_, refl, sym, ap, _∙_}
 use mathlib.Core.Logic.{⊎-elim}
 use mathlib.Core.List.{List, [], _∷_}
 use lib.ListN.{length, take}
@@ -22,7 +22,7 @@ use Rattle.checker.specs.Checker.{checked}
 use Rattle.checker.specs.Verdicts.{verdictOf, checkedBytes, JudgementIs}
 use Rattle.checker.specs.declared.Verdict.{Verdict}
 use Rattle.checker.specs.declared.Verdict.the-variants.{Good, Refused}
-use Rattle.least.specs.Least.{In, opens, amongAll, extended, completions, candidates, unclaimed, bundleIn, isValue}
+use Rattle.least.specs.Least.{In, opens, amongAll, extended, completions, candidates, unclaimed, bundleIn}
 use Rattle.least.proofs.Arranging.{all-known, length-in}
 use Rattle.least.proofs.Best.{in-parts, gathered, good, Works}
 use Rattle.least.proofs.Pruning.{extends}

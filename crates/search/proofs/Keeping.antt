@@ -7,12 +7,11 @@ use mathlib.Core.Logic.{inl}
 use mathlib.Core.List.{List, [], _∷_}
 use lib.ListN.{take}
 use Rattle.folds.specs.Folds.{pick}
-use Rattle.sheet.specs.Sheet.{Sheet, taskCount}
+use Rattle.sheet.specs.Sheet.{Sheet}
 use Rattle.graph.proofs.Proper.{proper, proper-sized}
 use Rattle.bundle.specs.Bundle.{Bundle}
 use Rattle.bundle.specs.Writing.{bundleBytes}
 use Rattle.admission.specs.declared.view.View.{View}
-use Rattle.checker.specs.Checker.{checked}
 use Rattle.better.specs.Orders.{byNumber, thenBy, byBytes, byRank}
 use Rattle.better.specs.Ranks.{runners}
 use Rattle.better.specs.Choices as choices
@@ -20,7 +19,7 @@ use Rattle.better.specs.declared.order.Order.{Order}
 use Rattle.better.specs.declared.order.Order.the-variants.{Less, Equal, Greater}
 use Rattle.least.specs.Written.{programmesIn}
 use Rattle.least.specs.Ranking.{order, choice}
-use Rattle.least.specs.Least.{In, candidates, bundleIn, isValue, better, consider, bestFrom}
+use Rattle.least.specs.Least.{In, candidates, bundleIn, better, consider, bestFrom}
 use Rattle.least.proofs.Best.{candidate-is}
 use Rattle.least.proofs.Runners.{runners-of}
 use Rattle.search.specs.Codes.{arranged, opensOf, Coded}

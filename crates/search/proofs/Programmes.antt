@@ -1,5 +1,5 @@
 -- The bytes of all programmes of an arrangement, and of its bundle.
-use Prim.Native.Nat.{ℕ, _+_, _-_, _*_, _/_, _%_, _≤_, _<_}
+use Prim.Native.Nat.{ℕ, _+_, _-_, _/_, _%_, _≤_, _<_}
 use native.Mathlib.Omega.{arith}
 use mathlib.Core.Path.{_≡_, refl, sym, ap, ap₂, _∙_, subst}
 use mathlib.Core.List.{List, [], _∷_, _++_, append-nil}
@@ -14,7 +14,7 @@ use Rattle.least.specs.Least.{most}
 use Rattle.least.proofs.Normal.{gather-cong, programmesIn-append}
 use Rattle.least.proofs.Arranging.{length-in}
 use Rattle.least.proofs.Heads.{programmesBytes-append}
-use Rattle.search.specs.Codes.{arranged, tasksOf, opensOf, Coded, orderOf, lastLength, frontOf, LastIs}
+use Rattle.search.specs.Codes.{arranged, tasksOf, opensOf, Coded, orderOf, frontOf, LastIs}
 use Rattle.search.specs.Laying.{room, Front, TasksIs, ProgrammesIs, BundleIs}
 use Rattle.search.specs.declared.codes.Last.{Last}
 use Rattle.search.proofs.Digits.{coded-length, last-le, last-some, split, order-among}

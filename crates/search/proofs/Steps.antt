@@ -3,30 +3,29 @@ use Prim.Native.Nat.{ℕ, _+_, _*_, _≤_, _<_}
 use native.Mathlib.Omega.{arith}
 use native.Mathlib.Decide.{decLt}
 use mathlib.Core.Bool.{Bool, true, false, not}
-use mathlib.Core.Option.{none, some}
+use mathlib.Core.Option.{some}
 use mathlib.Core.Path.{_≡_, refl, sym, ap, ap₂, _∙_, subst}
 use mathlib.Core.Logic.{_≢_, ⊎-elim}
 use mathlib.Core.List.{List, [], _∷_, _++_}
-use lib.ListN.{length, getD}
+use lib.ListN.{length}
 use lib.Dec.{eqb, ltb, leb}
 use borrow.Author.Tests.{eq-eqb, ne-eqb, lt-ltb, le-ltb, le-leb, lt-leb}
-use Rattle.folds.specs.Folds.{pick, both, any, first}
+use Rattle.folds.specs.Folds.{both, any}
 use Rattle.folds.proofs.Tests.{below-suc, both-false}
 use Rattle.folds.proofs.Laws.{any-found, any-some, any-cong, none-first, first-found}
 use Rattle.numbers.specs.Number.{numberAt}
-use Rattle.sheet.specs.Sheet.{Sheet, taskCount, linkCount, sourceOf, targetOf, workOf, storeOf}
+use Rattle.sheet.specs.Sheet.{Sheet, linkCount, sourceOf, targetOf, workOf, storeOf}
 use Rattle.adjacency.specs.declared.End.the-variants.{Source, Target}
 use Rattle.admission.specs.Fields.{workAt, storeAt, Known}
 use Rattle.admission.specs.declared.view.View.{View}
 use Rattle.least.specs.Written.{among}
-use Rattle.least.specs.Heads.{leadsTo, headBytes, headOf, receives, keyOf, headKey}
-use Rattle.least.specs.Ranking.{lower}
+use Rattle.least.specs.Heads.{leadsTo, headOf, receives, keyOf, headKey}
 use Rattle.least.specs.Least.{opens, joins, most}
 use Rattle.least.specs.Pruned.{lastOf, total, headsRise, feeds, storeFits, mayOpen, mayJoin}
 use Rattle.least.proofs.Candidates.{joins-last}
 use Rattle.least.proofs.Pruning.{split-last, total-append}
 use Rattle.least.proofs.Keys.{key-lower}
-use Rattle.search.specs.Codes.{arranged, tasksOf, opensOf, Coded, orderOf, lastLength}
+use Rattle.search.specs.Codes.{arranged, tasksOf, orderOf}
 use Rattle.search.specs.Laying.{mostLinks, Small, EndIs}
 use Rattle.search.specs.Walking.{mostLoad, LoadIs, KeyIs, FeedIs, FeedsIs, floorOf, begun, Begins, OpenedIs, JoinedIs, opensRight, joinsRight, TestIs}
 use Rattle.search.specs.declared.walking.Begun.{Begun}

@@ -1,11 +1,11 @@
 -- The bundle of an arrangement in a buffer, part by part as it is written.
-use Prim.Native.Nat.{ℕ, zero, suc, _+_, _*_, _≤_, _<_}
+use Prim.Native.Nat.{ℕ, _+_, _*_, _≤_, _<_}
 use mathlib.Core.Path.{_≡_}
 use mathlib.Core.List.{List, _++_}
 use lib.ListN.{length, take}
 use Rattle.folds.specs.Folds.{gather}
 use Rattle.sheet.specs.Sheet.{Sheet, linkCount}
-use Rattle.bundle.specs.Bundle.{Command, Bundle}
+use Rattle.bundle.specs.Bundle.{Command}
 use Rattle.bundle.specs.Writing.{programmeBytes, programmesBytes, bundleBytes}
 use Rattle.adjacency.specs.Chains.{endBy}
 use Rattle.adjacency.specs.declared.End.{End}

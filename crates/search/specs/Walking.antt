@@ -6,7 +6,7 @@ use mathlib.Core.List.{List, [], _∷_}
 use lib.ListN.{length}
 use lib.Dec.{ltb}
 use Rattle.folds.specs.Folds.{pick, both, any}
-use Rattle.sheet.specs.Sheet.{Sheet, taskCount, linkCount, workOf, storeOf}
+use Rattle.sheet.specs.Sheet.{Sheet, linkCount, workOf, storeOf}
 use Rattle.admission.specs.Fields.{Known, Seen}
 use Rattle.admission.specs.declared.view.View.{View}
 use Rattle.stepping_machine.specs.Layout.{extent}

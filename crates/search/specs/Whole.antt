@@ -3,7 +3,7 @@ use Prim.Native.Nat.{ℕ}
 use mathlib.Core.Path.{_≡_}
 use mathlib.Core.List.{List}
 use lib.ListN.{length}
-use Rattle.folds.specs.Answers.{Answer, andThen, fitting, written}
+use Rattle.folds.specs.Answers.{andThen, fitting, written}
 use Rattle.sheet.specs.Sheet.{Sheet}
 use Rattle.admission.specs.declared.view.View.{View}
 use Rattle.bundle_writer.specs.Writes.{writtenOf}

@@ -1,13 +1,11 @@
+-- `stands` (src/codes.rt) keeps its contract.
 use native.Mathlib.Omega.{arith}
 use mathlib.Core.Path.{_≡_, refl, sym, _∙_}
 use Rattle.least.specs.Written.{among}
 use Rattle.search.specs.Codes.{tasksOf}
 use Rattle.search.proofs.Digits.{among-here, among-less, among-none}
-use borrow.Author.Needs.{needs}
 use Rattle.search.proofs.codes.stands.Statement.{statement}
 use Rattle.search.proofs.codes.stands.Tie as tie
-use Rattle.search.proofs.codes.stands.Reads as reads
-use Rattle.search.proofs.codes.stands.Lts as lts
 
 abbrev Inv-loop : tie.InvT-loop
 Inv-loop code len t c₀ i₀ c i = among t (tasksOf i c) ≡ among t (tasksOf len code)

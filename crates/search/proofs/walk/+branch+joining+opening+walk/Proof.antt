@@ -1,11 +1,11 @@
+-- The functions branch, joining, opening, walk (src/walk.rt), which call each other, keep their contracts: fewer tasks are left at each call of `walk`.
 use lib.ListN.{length}
-use mathlib.Core.Path.{_≡_, refl, sym, _∙_}
+use mathlib.Core.Path.{_≡_, refl}
 use Rattle.search.proofs.Folds.{ready-on, leaf-coded}
 use Prim.Native.Nat.{ℕ, _+_, _-_, _*_, _<_, _≤_}
 use native.Mathlib.Omega.{arith}
 use borrow.Author.Tests.{not-true, not-false}
-use mathlib.Core.Path.{refl, sym, _∙_}
-use Rattle.search.specs.Walking.{Ready}
+use mathlib.Core.Path.{refl}
 use Rattle.search.proofs.Folds.{leaf-done, Turned, none-turned, more-turned, all-turned, used-done, free-done, opening-skip, opening-done, joining-none, joining-skip, joining-done, late-done}
 use borrow.Author.Needs.{needs}
 use Prim.Native.Nat.{ℕ, _<_}

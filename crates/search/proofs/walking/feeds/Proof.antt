@@ -1,13 +1,10 @@
+-- `feeds` (src/walking.rt) keeps its contract.
 use native.Mathlib.Omega.{arith}
 use Prim.Native.Nat.{_-_}
 use mathlib.Core.Path.{sym, _∙_}
 use Rattle.search.proofs.Steps.{none-first-of, none-more, Feeds, feeds-one, feeds-none}
-use borrow.Author.Needs.{needs}
 use Rattle.search.proofs.walking.feeds.Statement.{statement}
 use Rattle.search.proofs.walking.feeds.Tie as tie
-use Rattle.search.proofs.walking.feeds.Reads as reads
-use Rattle.search.proofs.walking.feeds.Lts as lts
-use Rattle.search.proofs.walking.feeds_by.Reads as feeds-by-reads
 
 abbrev Inv-loop : tie.InvT-loop
 Inv-loop sheet v code own t l₀ l = Feeds sheet v code own t l

@@ -1,13 +1,10 @@
+-- `joined` (src/walking.rt) keeps its contract.
 use native.Mathlib.Omega.{arith}
 use Rattle.search.proofs.Digits.{code-fits, last-le}
 use Rattle.search.proofs.Steps.{joined-done}
 use borrow.Author.Needs.{needs}
 use Rattle.search.proofs.walking.joined.Statement.{statement}
 use Rattle.search.proofs.walking.joined.Tie as tie
-use Rattle.search.proofs.walking.joined.Reads as reads
-use Rattle.search.proofs.walking.joined.Lts as lts
-use Rattle.search.proofs.walking.store_of.Reads as store-of-reads
-use Rattle.search.proofs.walking.work_of.Reads as work-of-reads
 
 mul-t5 : tie.Need-mul-t5
 mul-t5 c = omega (arith, code-fits (c .before .before .args .b .tasks) (c .before .before .args .b .code) (c .before .before .pre .2 .few) (c .before .before .pre .2 .small))
@@ -15,23 +12,8 @@ mul-t5 c = omega (arith, code-fits (c .before .before .args .b .tasks) (c .befor
 add-t6 : tie.Need-add-t6
 add-t6 c = omega (arith, code-fits (c .before .before .args .b .tasks) (c .before .before .args .b .code) (c .before .before .pre .2 .few) (c .before .before .pre .2 .small), c .before .before .pre .4, c .before .before .pre .1 .tasks)
 
-add-t7 : tie.Need-add-t7
-add-t7 c = search needs
-
 add-t8 : tie.Need-add-t8
 add-t8 c = omega (arith, c .before .before .before .before .pre .2 .own, last-le (c .before .before .before .before .args .b .tasks) (c .before .before .before .before .args .b .code), c .before .before .before .before .pre .3)
-
-store-of-requires : tie.Need-store-of-requires
-store-of-requires c κs = search needs
-
-add-t10 : tie.Need-add-t10
-add-t10 c = search needs
-
-work-of-requires : tie.Need-work-of-requires
-work-of-requires c κs = search needs
-
-add-t12 : tie.Need-add-t12
-add-t12 c = search needs
 
 returns : tie.Need-returns
 returns c = joined-done (c .before .before .before .before .before .before .before .before .pre .2) (c .before .before .before .before .before .before .before .before .pre .3) (omega (arith, c .before .before .before .before .before .before .before .before .pre .4, c .before .before .before .before .before .before .before .before .pre .1 .tasks)) (c .before .before .before .before .before .before .before .before .pre .5) _ _ (c .before .before .before .store-of .ensures) (c .before .work-of .ensures)
@@ -42,10 +24,10 @@ joined-spec =
     (tie.spec
     mul-t5
     add-t6
-    add-t7
+    (λ c. search needs)
     add-t8
-    store-of-requires
-    add-t10
-    work-of-requires
-    add-t12
+    (λ c κs. search needs)
+    (λ c. search needs)
+    (λ c κs. search needs)
+    (λ c. search needs)
     returns)

@@ -1,12 +1,9 @@
+-- `key` (src/walking.rt) keeps its contract.
 use native.Mathlib.Omega.{arith}
 use Prim.Native.Nat.{_-_}
 use Rattle.search.proofs.Steps.{none-first-of, none-more, Leads, not-to, key-receive, key-run}
-use borrow.Author.Needs.{needs}
 use Rattle.search.proofs.walking.key.Statement.{statement}
 use Rattle.search.proofs.walking.key.Tie as tie
-use Rattle.search.proofs.walking.key.Reads as reads
-use Rattle.search.proofs.walking.key.Lts as lts
-use Rattle.search.proofs.writing.end_of.Reads as end-of-reads
 
 abbrev Inv-loop : tie.InvT-loop
 Inv-loop sheet v t l₀ l = Leads sheet v t l

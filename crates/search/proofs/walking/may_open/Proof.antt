@@ -1,10 +1,8 @@
+-- `may_open` (src/walking.rt) keeps its contract.
 use native.Mathlib.Omega.{arith}
 use Rattle.search.proofs.Steps.{no-processor, no-rise, fits-open}
-use borrow.Author.Needs.{needs}
 use Rattle.search.proofs.walking.may_open.Statement.{statement}
 use Rattle.search.proofs.walking.may_open.Tie as tie
-use Rattle.search.proofs.walking.may_open.Reads as reads
-use Rattle.search.proofs.walking.may_open.Lts as lts
 
 returns : tie.Need-returns
 returns c = no-processor (c .before .before .before .pre .1) (c .before .before .before .pre .0) (c .before .before .before .pre .2) (omega (arith, c .before .before .before .pre .3, c .before .before .before .pre .0 .tasks)) (omega (arith, c .if1 .taken))

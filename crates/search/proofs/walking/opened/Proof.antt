@@ -1,3 +1,4 @@
+-- `opened` (src/walking.rt) keeps its contract.
 use native.Mathlib.Omega.{arith}
 use Rattle.search.proofs.Digits.{code-fits}
 use Rattle.search.proofs.Steps.{opened-done}
@@ -5,11 +6,6 @@ use Rattle.search.proofs.Digits.{opens-le}
 use borrow.Author.Needs.{needs}
 use Rattle.search.proofs.walking.opened.Statement.{statement}
 use Rattle.search.proofs.walking.opened.Tie as tie
-use Rattle.search.proofs.walking.opened.Reads as reads
-use Rattle.search.proofs.walking.opened.Lts as lts
-use Rattle.search.proofs.walking.key.Reads as key-reads
-use Rattle.search.proofs.walking.store_of.Reads as store-of-reads
-use Rattle.search.proofs.walking.work_of.Reads as work-of-reads
 
 mul-t5 : tie.Need-mul-t5
 mul-t5 c = omega (arith, code-fits (c .before .before .args .b .tasks) (c .before .before .args .b .code) (c .before .before .pre .2 .few) (c .before .before .pre .2 .small))
@@ -26,18 +22,6 @@ add-t8 c = omega (arith, c .before .before .before .pre .3)
 add-t9 : tie.Need-add-t9
 add-t9 c = omega (arith, c .before .before .before .before .pre .2 .programmes, opens-le (c .before .before .before .before .args .b .tasks) (c .before .before .before .before .args .b .code), c .before .before .before .before .pre .3)
 
-key-requires : tie.Need-key-requires
-key-requires c κs = search needs
-
-add-t11 : tie.Need-add-t11
-add-t11 c = search needs
-
-store-of-requires : tie.Need-store-of-requires
-store-of-requires c κs = search needs
-
-work-of-requires : tie.Need-work-of-requires
-work-of-requires c κs = search needs
-
 returns : tie.Need-returns
 returns c = opened-done (c .before .before .before .before .before .before .before .pre .2) (c .before .before .before .before .before .before .before .pre .3) (omega (arith, c .before .before .before .before .before .before .before .pre .4, c .before .before .before .before .before .before .before .pre .1 .tasks)) _ _ _ (c .before .before .key .ensures) (c .before .store-of .ensures) (c .work-of .ensures)
 
@@ -50,8 +34,8 @@ opened-spec =
     add-t7
     add-t8
     add-t9
-    key-requires
-    add-t11
-    store-of-requires
-    work-of-requires
+    (λ c κs. search needs)
+    (λ c. search needs)
+    (λ c κs. search needs)
+    (λ c κs. search needs)
     returns)

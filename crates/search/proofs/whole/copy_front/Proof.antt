@@ -1,14 +1,12 @@
+-- `copy_front` (src/whole.rt) keeps its contract.
 use native.Mathlib.Omega.{arith}
 use Prim.Native.Nat.{_-_, _≤_}
 use mathlib.Core.Path.{_≡_, refl, ap, _∙_}
 use lib.ListN.{length, take, length-set}
 use Rattle.numbers.specs.Number.{stored}
 use Rattle.search.proofs.Ends.{copied-none, copied-more}
-use borrow.Author.Needs.{needs}
 use Rattle.search.proofs.whole.copy_front.Statement.{statement}
 use Rattle.search.proofs.whole.copy_front.Tie as tie
-use Rattle.search.proofs.whole.copy_front.Reads as reads
-use Rattle.search.proofs.whole.copy_front.Lts as lts
 
 abbrev Inv-loop : tie.InvT-loop
 Inv-loop from n out₀ i₀ out i = (i ≤ n) × (length out ≡ length out₀) × (out ≡ stored out₀ 0 (take i from))

@@ -1,9 +1,9 @@
-use Prim.Native.Nat.{ℕ, _-_, _<_, _≤_}
+-- `put_programmes` (src/writing.rt) keeps its contract.
+use Prim.Native.Nat.{ℕ, _-_, _<_}
 use mathlib.Core.Path.{_∙_}
 use native.Mathlib.Omega.{arith}
 use Rattle.search.proofs.Digits.{opens-le}
 use Rattle.search.proofs.Programmes.{none-laid, front-coded, tasks-le, tasks-some, more-laid}
-use borrow.Author.Needs.{needs}
 use Prim.Native.Nat.{ℕ, _<_}
 use borrow.Fn.Kinds.{In}
 use borrow.Fn.PlainCycle.{Measures, is, falls, and}

@@ -1,8 +1,8 @@
-use Prim.Native.Nat.{ℕ, _<_, _≤_}
+-- `put_tasks` (src/writing.rt) keeps its contract.
+use Prim.Native.Nat.{ℕ, _<_}
 use mathlib.Core.Path.{_∙_}
 use native.Mathlib.Omega.{arith}
 use Rattle.search.proofs.Fronts.{tasks-none, tasks-more}
-use borrow.Author.Needs.{needs}
 use Prim.Native.Nat.{ℕ, _<_}
 use borrow.Fn.Kinds.{In}
 use borrow.Fn.PlainCycle.{Measures, is, falls, and}

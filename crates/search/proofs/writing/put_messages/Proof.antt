@@ -1,12 +1,9 @@
+-- `put_messages` (src/writing.rt) keeps its contract.
 use native.Mathlib.Omega.{arith}
 use Prim.Native.Nat.{_-_, _≤_}
 use Rattle.search.proofs.Fronts.{Passed, passed-none, passed-more, passed-all}
-use borrow.Author.Needs.{needs}
 use Rattle.search.proofs.writing.put_messages.Statement.{statement}
 use Rattle.search.proofs.writing.put_messages.Tie as tie
-use Rattle.search.proofs.writing.put_messages.Reads as reads
-use Rattle.search.proofs.writing.put_messages.Lts as lts
-use Rattle.search.proofs.writing.put_message.Reads as put-message-reads
 
 abbrev Inv-loop : tie.InvT-loop
 Inv-loop sheet buf₀ start v e part len t at₀ l₀ buf at l = Passed sheet v buf₀ e start part len t l buf at × (l ≤ v .links)
