@@ -8,3 +8,4 @@ pub mod Trips
 pub mod Choices
 pub mod Weighings
 pub mod Generated
+pub mod Searched
