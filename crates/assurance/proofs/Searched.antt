@@ -4,14 +4,14 @@ use native.Mathlib.Omega.{arith}
 use mathlib.Core.Bool.{Bool, true, false}
 use mathlib.Core.Option.{Option, none, some}
 use mathlib.Core.Path.{_≡_, refl, sym, ap, _∙_, subst}
-use mathlib.Core.Logic.{_↔_}
+use mathlib.Core.Logic.{_⊎_, inl, inr, _↔_, ⊎-elim}
 use mathlib.Core.List.{List}
 use lib.ListN.{length, take}
 use lib.Dec.{ltb}
 use borrow.Author.Tests.{lt-ltb, le-ltb}
-use Rattle.folds.specs.Folds.{pick}
+use Rattle.folds.specs.Folds.{pick, either}
 use Rattle.folds.specs.Answers.{Answer, value, refused, andThen, fitting, number, placeOr, cleared}
-use Rattle.folds.proofs.Tests.{andThen-value, value-same}
+use Rattle.folds.proofs.Tests.{andThen-value, value-same, part-either}
 use Rattle.numbers.specs.Number.{Bytes}
 use Rattle.workspace.specs.Area.{fixed}
 use Rattle.sheet.specs.Sheet.{Sheet, taskCount}
@@ -43,7 +43,7 @@ numbered-least : (sheet : List ℕ) → Numbered (leastBundle sheet)
 unfolding leastBundle leastTime
 numbered-least sheet =
     numbered-then (readSheet sheet) leastTime (numbered-sheet sheet)
-    (λ s. numbered-pick (ltb most (taskCount s)) (refused 38 (taskCount s)) (bestOr11 s (best s)) (numbered-refused 38 (taskCount s) (omega arith)) (by s (best s)))
+    (λ s. numbered-pick (either (ltb most (taskCount s)) (s .cube)) (refused 38 (taskCount s)) (bestOr11 s (best s)) (numbered-refused 38 (taskCount s) (omega arith)) (by s (best s)))
   where
     by : (s : Sheet) (o : Option Bundle) → Numbered (bestOr11 s o)
     by s none = numbered-refused 11 (taskCount s - 1) (omega arith)
@@ -95,14 +95,14 @@ best-of sheet out w other bytes a f h =
     l .found .best other (c .0) (c .1) form (sym (ap (λ (r : Rank). byRank r (h .y)) x ∙ ap (byRank _) y) ∙ h .less)
 
 least-claim : (sheet out : List ℕ) → Wrote sheet out → (other : List ℕ) → Accepted sheet other → (s : Sheet) (b c : Bundle)
-    → readSheet sheet ≡ value s → readBundle s out ≡ value b → readBundle s other ≡ value c → b .claim ≤ c .claim
-least-claim sheet out w other a s b c read is-b is-c =
+    → readSheet sheet ≡ value s → s .unpacking ≡ 0 → readBundle s out ≡ value b → readBundle s other ≡ value c → b .claim ≤ c .claim
+least-claim sheet out w other a s b c read idle is-b is-c =
     let l = least-of sheet out w in
     let d = check-value sheet other (a .area) (a .area′) (a .place) (a .check) in
     let same : l .s ≡ s = value-same (sym (l .read) ∙ read) in
     let b-is : l .found .bundle ≡ b = value-same (sym (read-of sheet out s (l .found .bundle) read (l .found .accepted)) ∙ is-b) in
     let c-is : d .0 ≡ c = value-same (sym (read-of sheet other s (d .0) read (d .1)) ∙ is-c) in
-    omega (arith, l .found .least other (d .0) (d .1), ap (λ (z : Bundle). z .claim) b-is, ap (λ (z : Bundle). z .claim) c-is)
+    omega (arith, l .found .least (ap (λ (z : Sheet). z .unpacking) same ∙ idle) other (d .0) (d .1), ap (λ (z : Bundle). z .claim) b-is, ap (λ (z : Bundle). z .claim) c-is)
 
 -- what a call on a sheet that is read answers
 module _ (sheet : List ℕ) (s : Sheet) (p r : ℕ) (a : Asked sheet s p r) where
@@ -123,25 +123,28 @@ module _ (sheet : List ℕ) (s : Sheet) (p r : ℕ) (a : Asked sheet s p r) wher
   none-accepted h other c = let v = check-value sheet other (c .area) (c .area′) (c .place) (c .check) in h other (v .0) (v .1)
 
   -- a return of 11 is the definition's 11
-  eleven : taskCount s ≤ most → r ≡ 11 → (q : ℕ) × (leastTime s ≡ refused 11 q)
+  eleven : taskCount s ≤ most → s .cube ≡ false → r ≡ 11 → (q : ℕ) × (leastTime s ≡ refused 11 q)
   unfolding leastTime
-  eleven few e = go (best s) refl
+  eleven few flat e = go (best s) refl
     where
-      go : (o : Option Bundle) → best s ≡ o → (q : ℕ) × (pick (ltb most (taskCount s)) (refused 38 (taskCount s)) (bestOr11 s (best s)) ≡ refused 11 q)
-      go none f = (taskCount s - 1, rw (le-ltb most (taskCount s) few, f))
+      small : either (ltb most (taskCount s)) (s .cube) ≡ false
+      small = ap (λ (x : Bool). either x (s .cube)) (le-ltb most (taskCount s) few) ∙ flat
+
+      go : (o : Option Bundle) → best s ≡ o → (q : ℕ) × (pick (either (ltb most (taskCount s)) (s .cube)) (refused 38 (taskCount s)) (bestOr11 s (best s)) ≡ refused 11 q)
+      go none f = (taskCount s - 1, ap (λ (t : Bool). pick t (refused 38 (taskCount s)) (bestOr11 s (best s))) small ∙ ap (bestOr11 s) f)
       go (some b) f =
           absurd (not-11 (ltb (length (a .lent)) (length (bundleBytes b)))
-          (sym e ∙ returned ∙ ap (λ (x : Answer (List ℕ)). number (andThen x (fitting (length (a .lent))))) (ap (λ (t : Bool). pick t (refused 38 (taskCount s)) (bestOr11 s (best s))) (le-ltb most (taskCount s) few) ∙ ap (bestOr11 s) f)))
+          (sym e ∙ returned ∙ ap (λ (x : Answer (List ℕ)). number (andThen x (fitting (length (a .lent))))) (ap (λ (t : Bool). pick t (refused 38 (taskCount s)) (bestOr11 s (best s))) small ∙ ap (bestOr11 s) f)))
         where
           not-11 : (t : Bool) → 11 ≡ number (pick t (refused 12 (length (bundleBytes b))) (value (bundleBytes b))) → ⊥
           not-11 true q = omega arith
           not-11 false q = omega arith
 
-  pub exactly : taskCount s ≤ most → (r ≡ 11) ↔ ((other : List ℕ) → Accepted sheet other → ⊥)
+  pub exactly : taskCount s ≤ most → s .cube ≡ false → (r ≡ 11) ↔ ((other : List ℕ) → Accepted sheet other → ⊥)
   unfolding checkAnswer
-  exactly few = (
-    (λ e. none-accepted (time .refused-11 (eleven few e .0) (eleven few e .1) .1)),
-    λ h. returned ∙ ap (λ (x : Answer (List ℕ)). number (andThen x (fitting (length (a .lent))))) (time .only-11 few (λ other c e. h other (accepting other c e))),
+  exactly few flat = (
+    (λ e. none-accepted (time .refused-11 (eleven few flat e .0) (eleven few flat e .1) .1)),
+    λ h. returned ∙ ap (λ (x : Answer (List ℕ)). number (andThen x (fitting (length (a .lent))))) (time .only-11 few flat (λ other c e. h other (accepting other c e))),
   )
     where
       accepting : (other : List ℕ) (c : Bundle) → check sheet other ≡ value c → Accepted sheet other
@@ -153,15 +156,18 @@ module _ (sheet : List ℕ) (s : Sheet) (p r : ℕ) (a : Asked sheet s p r) wher
             check = record { returns = sym (ap number (enough (check sheet other) (length (a .work)) (a .enough) ∙ e)); place = refl; area = refl };
           }
 
-  pub eleven-place : taskCount s ≤ most → r ≡ 11 → p ≡ taskCount s - 1
-  eleven-place few e =
-      let z = eleven few e in
+  pub eleven-place : taskCount s ≤ most → s .cube ≡ false → r ≡ 11 → p ≡ taskCount s - 1
+  eleven-place few flat e =
+      let z = eleven few flat e in
       placed ∙ ap (λ (x : Answer (List ℕ)). placeOr length (andThen x (fitting (length (a .lent))))) (z .1) ∙ time .refused-11 (z .0) (z .1) .0
 
-  pub too-many : most < taskCount s → (r ≡ 38) × (p ≡ taskCount s)
+  pub too-many : (most < taskCount s) ⊎ (s .cube ≡ true) → (r ≡ 38) × (p ≡ taskCount s)
   unfolding leastTime
   too-many h =
-      let e : leastTime s ≡ refused 38 (taskCount s) = rw (lt-ltb most (taskCount s) h) in
+      let e : leastTime s ≡ refused 38 (taskCount s) =
+      ap (λ (t : Bool). pick t (refused 38 (taskCount s)) (bestOr11 s (best s)))
+      (part-either (ltb most (taskCount s)) (s .cube) (⊎-elim (λ m. inl (lt-ltb most (taskCount s) m)) (λ c. inr c) h))
+      in
       (returned ∙ ap (λ (x : Answer (List ℕ)). number (andThen x (fitting (length (a .lent))))) e, placed ∙ ap (λ (x : Answer (List ℕ)). placeOr length (andThen x (fitting (length (a .lent))))) e)
 
 pub least-times : LeastTimes

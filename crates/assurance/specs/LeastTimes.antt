@@ -1,7 +1,8 @@
 -- The least time for small sheets, of calls of zeldrupa_least and zeldrupa_check. `Gives..` is what a call of the function of that name promises, word for word.
 use Prim.Native.Nat.{ℕ, _-_, _≤_, _<_}
+use mathlib.Core.Bool.{true, false}
 use mathlib.Core.Path.{_≡_}
-use mathlib.Core.Logic.{_↔_}
+use mathlib.Core.Logic.{_⊎_, _↔_}
 use mathlib.Core.List.{List}
 use lib.ListN.{length, take}
 use Rattle.folds.specs.Answers.{value}
@@ -51,11 +52,11 @@ pub record LeastTimes : Type 0 where
   pub accepted : (sheet out : List ℕ) → Wrote sheet out → (area area′ : List ℕ) (q r : ℕ) → fixed ≤ length area → GivesCheck sheet out area area′ q r → r ≡ 0
   pub in-form : (sheet out : List ℕ) → Wrote sheet out → InForm sheet out
   pub best : (sheet out : List ℕ) → Wrote sheet out → (other : List ℕ) → Bytes other → Accepted sheet other → InForm sheet other → Before sheet other out → ⊥
-  -- "no accepted bundle without releases claims less, in any form"
+  -- "On a sheet without `55` no accepted bundle without releases claims less, in any form"
   pub least : (sheet out : List ℕ) → Wrote sheet out → (other : List ℕ) → Accepted sheet other →
-      (s : Sheet) (b c : Bundle) → readSheet sheet ≡ value s → readBundle s out ≡ value b → readBundle s other ≡ value c → b .claim ≤ c .claim
-  -- "11 is given exactly if no bundle without releases is accepted; the task as place is the last one"
-  pub exactly-11 : (sheet : List ℕ) (s : Sheet) (p r : ℕ) → Asked sheet s p r → taskCount s ≤ most → (r ≡ 11) ↔ ((other : List ℕ) → Accepted sheet other → ⊥)
-  pub at-11 : (sheet : List ℕ) (s : Sheet) (p r : ℕ) → Asked sheet s p r → taskCount s ≤ most → r ≡ 11 → p ≡ taskCount s - 1
-  -- "38 for a seventh task .., place the task count"
-  pub many : (sheet : List ℕ) (s : Sheet) (p r : ℕ) → Asked sheet s p r → most < taskCount s → (r ≡ 38) × (p ≡ taskCount s)
+      (s : Sheet) (b c : Bundle) → readSheet sheet ≡ value s → s .unpacking ≡ 0 → readBundle s out ≡ value b → readBundle s other ≡ value c → b .claim ≤ c .claim
+  -- "11 is given exactly if no bundle without releases is accepted; the task as place is the last one", of a sheet that is not refused by 38
+  pub exactly-11 : (sheet : List ℕ) (s : Sheet) (p r : ℕ) → Asked sheet s p r → taskCount s ≤ most → s .cube ≡ false → (r ≡ 11) ↔ ((other : List ℕ) → Accepted sheet other → ⊥)
+  pub at-11 : (sheet : List ℕ) (s : Sheet) (p r : ℕ) → Asked sheet s p r → taskCount s ≤ most → s .cube ≡ false → r ≡ 11 → p ≡ taskCount s - 1
+  -- "38 for a seventh task or a sheet with `48`, place the task count"
+  pub many : (sheet : List ℕ) (s : Sheet) (p r : ℕ) → Asked sheet s p r → (most < taskCount s) ⊎ (s .cube ≡ true) → (r ≡ 38) × (p ≡ taskCount s)

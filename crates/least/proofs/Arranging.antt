@@ -13,8 +13,9 @@ use Rattle.sheet.specs.Sheet.{Sheet, taskCount, linkCount}
 use Rattle.bundle.specs.Bundle.{Command, run, send, receive, Bundle, programmeCount, programmeOf}
 use Rattle.bundle.specs.Fits.{Known, Each, Formed}
 use Rattle.admission.specs.Counting.{weigh, wholeOf, whole, each, is}
+use Rattle.admission.specs.Messages.{holds, home}
 use Rattle.admission.proofs.Weights.{weigh-append, weigh-gather}
-use Rattle.machine.specs.Machine.{State, freshState, next, stated, stepIn, step, holdsSome, canStep}
+use Rattle.machine.specs.Machine.{State, freshState, next, travels, stated, stepIn, step, holdsSome, canStep}
 use Rattle.machine.specs.Runs.{onwards, settle, settled, latest}
 use Rattle.checker.proofs.Accepted.{Passes}
 use Rattle.planner.proofs.Schedules.{tally}
@@ -132,7 +133,7 @@ module _ (s : Sheet) (ps : List (List Command)) (x y : ℕ) where
   by = record { programmes = ps; claim = y }
 
   same-stated : (k : ℕ) (c : Command) → stated s bx k c ≡ stated s by k c
-  unfolding stated
+  unfolding stated travels home holds programmeCount programmeOf wholeOf
   same-stated k (run t) = refl
   same-stated k (send l) = refl
   same-stated k (receive l) = refl

@@ -290,5 +290,7 @@ module _ (s : Sheet) where
         refusal p false (some b) q f = not-value (sym f)
 
         nothing : taskCount s ≤ most → s .cube ≡ false → NoneAccepted sheet → (o : Option Bundle) → best s ≡ o → pick (either (ltb most (taskCount s)) (s .cube)) (refused 38 (taskCount s)) (bestOr11 s (best s)) ≡ refused 11 (taskCount s - 1)
-        nothing h flat none-is none q = ap (λ (x : Bool). pick x (refused 38 (taskCount s)) (bestOr11 s (best s))) (rw (le-ltb most (taskCount s) h) flat) ∙ ap (bestOr11 s) q
+        nothing h flat none-is none q =
+            let small : either (ltb most (taskCount s)) (s .cube) ≡ false = ap (λ (x : Bool). either x (s .cube)) (le-ltb most (taskCount s) h) ∙ flat in
+            ap (λ (x : Bool). pick x (refused 38 (taskCount s)) (bestOr11 s (best s))) small ∙ ap (bestOr11 s) q
         nothing h flat none-is (some b) q = absurd (none-is (bundleBytes b) b (accepted (bundleBytes b) b q refl))
