@@ -90,13 +90,13 @@ module _ (s : Sheet) (σ : Schedule) (t : ℕ) where
   share-is k h b ex ea ef ee em = em ∙ ap₂ both ef (ee ∙ ap₂ both (ap not (b .is k h)) (ap₂ leb ex ea))
 
   -- step 3, as the code tests it
-  pub open-taken : {k : ℕ} {b : Bool} → b ≡ isOpen s σ k → b ≡ true → false ≡ mayOpen s guard σ t k
+  pub open-taken : (k : ℕ) {b : Bool} → b ≡ isOpen s σ k → b ≡ true → false ≡ mayOpen s guard σ t k
   unfolding mayOpen
-  open-taken eb e = rw (← eb, e)
+  open-taken k eb e = rw (← eb, e)
 
-  pub open-free : {k : ℕ} {b fit : Bool} → b ≡ isOpen s σ k → b ≡ false → fit ≡ fits s σ t k → fit ≡ mayOpen s guard σ t k
+  pub open-free : (k : ℕ) {b fit : Bool} → b ≡ isOpen s σ k → b ≡ false → fit ≡ fits s σ t k → fit ≡ mayOpen s guard σ t k
   unfolding mayOpen
-  open-free eb e ef = ef ∙ rw (← eb, e)
+  open-free k eb e ef = ef ∙ rw (← eb, e)
 
   -- where step 3 would open a processor, and where it would not
   module _ {n : ℕ} (o : some n ≡ another s guard σ t) where

@@ -30,11 +30,11 @@ module _ {s : Sheet} {σ : Schedule} (ranged : Ranged s) (timely : Timely s σ) 
             );
       }
 
-  pub finish-small : (t k : ℕ) {a b : ℕ} → a ≡ startOn s σ t k → b ≡ workOf s t → t < taskCount s → a + b ≤ latestStart + 65535
-  finish-small t k ea eb h =
+  pub finish-small : (t k : ℕ) {a b : ℕ} → k < 16 → a ≡ startOn s σ t k → b ≡ workOf s t → t < taskCount s → a + b ≤ latestStart + 65535
+  finish-small t k board ea eb h =
       omega (
         arith,
-        start-early s σ t _ (early .early) k,
+        start-early s σ t _ (early .early) k board,
         into-le s (ranged .few-links) (λ l m. omega (arith, ranged .costs l m)) (omega (arith, ranged .unpacks)) t (linkCount s) (omega arith),
         ranged .works t h,
       )
