@@ -27,8 +27,8 @@ use Rattle.better.specs.Orders.{byBytes, byRank}
 use Rattle.better.specs.Ranks.{runsTask, runners, rankOf}
 use Rattle.better.specs.Choices.{firstLent, secondLent, better}
 use Rattle.planner.specs.Schedule.{Schedule, empty, placeOf, startOf, finishOf, placed, stands}
-use Rattle.planner.specs.Placing.{comes, lacks, satisfied, ready, partlyReady, arrivalBy, arrival, priority, unpacked, readyArrival, readyPriority, aheadBy, firstReady, firstPartlyReady, endBy, endOf, startBy, startFrom, elsewhere, nearBy, startOn, storeBy, bytesBy, storeOn, fits, holdsBy, holdsPredecessor, startWith, bestStart, endsWith, delays, barred, followsBy, follows, spentBy, spent}
-use Rattle.planner.specs.Planner.{mayJoin, join, mayTake, idle, mayOpen, another, mayShare, share, mayCrowd, lastResort, choice, turn, turns, plannedBy, planned, brings, takesAway, receiveOf, sendOf, blockOf, blocks, programme, claimOf, bundleOf, plan}
+use Rattle.planner.specs.Placing.{comes, lacks, satisfied, ready, partlyReady, arrivalBy, arrival, priority, unpacked, readyArrival, readyPriority, aheadBy, firstReady, firstPartlyReady, endBy, endOf, startBy, startFrom, elsewhere, nearBy, startOn, storeBy, bytesBy, storeOn, fits, holdsBy, holdsPredecessor, startWith, bestStart, endsWith, delays, barred, isOpen, followsBy, follows, spentBy, spent}
+use Rattle.planner.specs.Planner.{mayJoin, join, mayTake, idle, mayOpen, another, mayShare, share, mayCrowd, lastResort, choice, turn, turns, plannedBy, planned, brings, takesAway, receiveOf, sendOf, blockOf, blocks, programme, running, claimOf, bundleOf, plan}
 use Rattle.planner.specs.Amended.{plannedBefore}
 use Rattle.listing.specs.Listing.{decimalWithin, decimal, planLine, taskLine, refusalLine, scheduleLines, listing}
 
