@@ -3,3 +3,4 @@ pub mod Accepted
 pub mod Closing
 pub mod Areas
 pub mod Opening
+pub mod Flat

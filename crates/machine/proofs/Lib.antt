@@ -6,3 +6,4 @@ pub mod Kept
 pub mod Orders
 pub mod Near
 pub mod Early
+pub mod Flat

@@ -12,8 +12,7 @@ use lib.Bits.{bitOr, or-shifted-r}
 use lib.Count
 use borrow.Author.Tests.{eqb-true, eqb-false, eq-eqb, ne-eqb, lt-ltb, le-ltb}
 use Rattle.folds.specs.Folds.{pick, either, keep, first, prefer, leading, least}
-use Rattle.folds.proofs.Laws.{first-found, first-some}
-use Rattle.planner.proofs.Choosing.{first-cong}
+use Rattle.folds.proofs.Laws.{first-cong, first-found}
 use Rattle.placing.specs.Sets.{member, tieOf}
 use Rattle.placing.specs.declared.Tied.{Tied}
 use Rattle.placing.proofs.Sets.{nobody, member-past, low-member, top-member, lowest-is, lowest-none, one-shifted}

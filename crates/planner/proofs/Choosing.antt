@@ -58,11 +58,6 @@ pub least-cong : (n : ℕ) (p q : ℕ → Bool) (f g : ℕ → ℕ) → ((i : �
 unfolding least
 least-cong n p q f g h e = leading-cong n p q (λ a b. ltb (f a) (f b)) (λ a b. ltb (g a) (g b)) h (λ i j. rw (e i, e j))
 
-pub first-cong : (n : ℕ) (p q : ℕ → Bool) → ((i : ℕ) → i < n → p i ≡ q i) → first n p ≡ first n q
-unfolding first
-first-cong zero p q h = refl
-first-cong (suc n) p q h = rw (first-cong n p q (λ i l. h i (omega arith)), h n (omega arith))
-
 pub orElse-some : (o u : Option ℕ) (k : ℕ) → orElse o u ≡ some k → (o ≡ some k) ⊎ (u ≡ some k)
 orElse-some none u k e = inr e
 orElse-some (some j) u k e = inl e

@@ -1,10 +1,10 @@
 -- Of a sheet without `48` every plan and listing is what it was before C-20: there every message takes its cost, and processors are opened in turn.
-use Prim.Native.Nat.{ℕ, zero, suc, _+_, _≤_, _<_, max}
+use Prim.Native.Nat.{ℕ, zero, suc, _+_, _≤_, _<_, max, min}
 use native.Mathlib.Omega.{arith}
 use native.Mathlib.Decide.{decLt}
 use mathlib.Core.Bool.{Bool, true, false, not, false≢true}
 use mathlib.Core.Option.{Option, none, some}
-use mathlib.Core.Path.{_≡_, refl, sym, ap, ap₂, _∙_}
+use mathlib.Core.Path.{_≡_, refl, sym, ap, ap₂, subst, _∙_}
 use mathlib.Core.Logic.{_≢_, _⊎_, inl, inr, ⊎-elim}
 use lib.ListN.{length, getD, set}
 use lib.Seq.{getD-set-same, getD-set-other, set-out}
@@ -12,8 +12,8 @@ use lib.Dec.{eqb, ltb, leb}
 use borrow.Author.Tests.{eq-eqb, lt-ltb, le-ltb, ne-eqb}
 use Rattle.folds.specs.Folds.{pick, bit, both, any, sum, greatest, first, leading, least, prefer, keep, orElse, isSome}
 use Rattle.folds.specs.Answers.{Answer, value, refused, andThen}
-use Rattle.folds.proofs.Tests.{equal-or, not-some}
-use Rattle.folds.proofs.Laws.{any-found, any-some, none-any, greatest-le, greatest-cong, sum-cong, first-some, first-found, none-first}
+use Rattle.folds.proofs.Tests.{equal-or, not-some, not-value}
+use Rattle.folds.proofs.Laws.{any-found, any-some, none-any, greatest-le, greatest-cong, sum-cong, first-some, first-cong, first-found, none-first}
 use Rattle.sheet.specs.Sheet.{Sheet, taskCount, linkCount, workOf, sourceOf, targetOf, costOf}
 use Rattle.sheet.specs.Hops.{linkTime}
 use Rattle.sheet.proofs.Hopping.{flat-time}
@@ -24,7 +24,7 @@ use Rattle.planner.specs.Planner.{mayJoin, join, mayTake, idle, mayOpen,
 use Rattle.planner.specs.Flat.{startByFlat, startFromFlat, startOnFlat, startWithFlat, startAtFlat, bestStartFlat, endsWithFlat, delaysFlat, barredForFlat, barredFlat, opensFlat, anotherFlat, mayJoinFlat, joinFlat, mayTakeFlat, idleFlat, mayShareFlat, shareFlat, lastResortFlat, placeOnFlat, choiceFlat, placeTaskFlat, turnsFlat, plannedByFlat, plannedFlat}
 use Rattle.planner.proofs.Unpacking.{unpacked-cong}
 use Rattle.planner.proofs.Schedules.{Fair, place, Placing, on-same, stands-other, fair-place, empty-fair}
-use Rattle.planner.proofs.Choosing.{leading-some, leading-cong, least-cong, first-cong, orElse-some, chosen}
+use Rattle.planner.proofs.Choosing.{leading-some, leading-cong, least-cong, orElse-some, chosen}
 
 -- of equals the lowest
 leading-first : (n : ℕ) (p : ℕ → Bool) (a : ℕ → ℕ → Bool) → ((i j : ℕ) → i < n → j < n → p i ≡ true → p j ≡ true → a i j ≡ false) → leading n p a ≡ first n p
@@ -264,6 +264,35 @@ module _ (s : Sheet) (flat : s .cube ≡ false) where
                   let p : Placing s σ t k = record { below = m .0; isReady = m .1; room = chosen s (barred s) σ t k amended (fair .opened) (choice-same proper σ fair dense t amended ∙ e) } in
                   rw (← start-same σ t k) (ih (place s σ t k) (fair-place s proper fair p) (dense-place σ fair dense t k p (choice-next proper σ fair dense t amended k e)))
 
+      dense-turns : (n : ℕ) (σ τ : Schedule) → Fair s σ → ((k : ℕ) → k < σ .opened → isOpen s σ k ≡ true) → turns s (barred s) amended n σ ≡ value τ
+          → Fair s τ × ((k : ℕ) → k < τ .opened → isOpen s τ k ≡ true)
+      unfolding turns turn firstReady
+      dense-turns zero σ τ fair dense e = let z : σ ≡ τ = cc in subst (λ ρ. Fair s ρ × ((k : ℕ) → k < ρ .opened → isOpen s ρ k ≡ true)) z (fair, dense)
+      dense-turns (suc n) σ τ fair dense e = go (firstReady s σ) refl e (dense-turns n)
+        where
+          go : (o : Option ℕ) → firstReady s σ ≡ o → andThen (placeTask s (barred s) amended σ o) (turns s (barred s) amended n) ≡ value τ
+              → ((ρ τ : Schedule) → Fair s ρ → ((k : ℕ) → k < ρ .opened → isOpen s ρ k ≡ true) → turns s (barred s) amended n ρ ≡ value τ → Fair s τ × ((k : ℕ) → k < τ .opened → isOpen s τ k ≡ true))
+              → Fair s τ × ((k : ℕ) → k < τ .opened → isOpen s τ k ≡ true)
+          go none q e ih = ih σ τ fair dense e
+          go (some t) q e ih = on (choice s (barred s) amended σ t) refl e
+            where
+              on : (c : Option ℕ) → choice s (barred s) amended σ t ≡ c → andThen (placeOn s (barred s) σ t c) (turns s (barred s) amended n) ≡ value τ → Fair s τ × ((k : ℕ) → k < τ .opened → isOpen s τ k ≡ true)
+              on none x e = not-value e
+              on (some k) x e =
+                  let m = leading-some (taskCount s) (ready s σ) (aheadBy s (readyPriority s σ)) t q in
+                  let p : Placing s σ t k = record { below = m .0; isReady = m .1; room = chosen s (barred s) σ t k amended (fair .opened) x } in
+                  ih (place s σ t k) τ (fair-place s proper fair p) (dense-place σ fair dense t k p (choice-next proper σ fair dense t amended k (sym (choice-same proper σ fair dense t amended) ∙ x))) e
+
+    -- a schedule that opened its processors in turn runs tasks on all of them
+    count-dense : (σ : Schedule) → Fair s σ → ((k : ℕ) → k < σ .opened → isOpen s σ k ≡ true) → (n : ℕ) → n ≤ s .processors → sum n (λ k. bit (isOpen s σ k)) ≡ min n (σ .opened)
+    unfolding sum
+    count-dense σ fair dense zero l = omega arith
+    count-dense σ fair dense (suc n) l = go (decLt n (σ .opened)) (count-dense σ fair dense n (omega arith))
+      where
+        go : Dec (n < σ .opened) → sum n (λ k. bit (isOpen s σ k)) ≡ min n (σ .opened) → sum n (λ k. bit (isOpen s σ k)) + bit (isOpen s σ n) ≡ min (suc n) (σ .opened)
+        go (yes h) ih = omega (arith, ih, ap bit (dense n h))
+        go (no h) ih = omega (arith, ih, ap bit (shut proper σ fair dense n (omega arith) (omega (arith, proper .form .board-few))))
+
 module _ (s : Sheet) (proper : Proper s) (flat : s .cube ≡ false) where
   pub flat-steps : (amended : Bool) → plannedBy s (barred s) amended ≡ plannedByFlat s (barredFlat s) amended
   unfolding plannedBy plannedByFlat
@@ -272,3 +301,10 @@ module _ (s : Sheet) (proper : Proper s) (flat : s .cube ≡ false) where
   pub flat-plans : planned s ≡ plannedFlat s
   unfolding planned plannedFlat
   flat-plans = flat-steps true
+
+  -- every processor up to the highest one used runs a task
+  pub flat-running : (σ : Schedule) → planned s ≡ value σ → running s σ ≡ σ .opened
+  unfolding planned plannedBy running
+  flat-running σ e =
+      let d = dense-turns s flat proper true (taskCount s) (empty s) σ (empty-fair s proper) (λ k l. absurd (omega arith)) e in
+      omega (arith, count-dense s flat proper σ (d .0) (d .1) (s .processors) (omega arith), d .0 .opened)

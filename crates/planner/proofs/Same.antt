@@ -8,7 +8,7 @@ use mathlib.Core.Path.{_≡_, refl, ap, _∙_}
 use lib.Dec.{ltb}
 use Rattle.folds.specs.Folds.{pick, both, greatest, first, leading, least, prefer}
 use Rattle.folds.specs.Answers.{Answer, value, refused, andThen}
-use Rattle.folds.proofs.Laws.{greatest-cong}
+use Rattle.folds.proofs.Laws.{greatest-cong, first-cong}
 use Rattle.sheet.specs.Sheet.{Sheet, taskCount, linkCount, sourceOf, costOf}
 use Rattle.graph.specs.Graph.{level}
 use Rattle.graph.proofs.Proper.{Proper}
@@ -18,7 +18,7 @@ use Rattle.planner.specs.Planner.{plannedBy, planned}
 use Rattle.planner.specs.Flat.{startByFlat, startFromFlat, startOnFlat, startWithFlat, startAtFlat, bestStartFlat, endsWithFlat, delaysFlat, barredForFlat, barredFlat, opensFlat, anotherFlat, mayJoinFlat, joinFlat, mayTakeFlat, idleFlat, mayShareFlat, shareFlat, lastResortFlat, placeOnFlat, choiceFlat, placeTaskFlat, turnsFlat, plannedByFlat, plannedFlat}
 use Rattle.planner.specs.Before.{firstReadyThen, startThen, endsWithThen, delaysThen, barredForThen, barredThen, mayJoinThen, joinThen, mayTakeThen, idleThen, mayShareThen, shareThen, lastResortThen, choiceThen, placeOnThen, placeTaskThen, turnsThen, plannedByThen, plannedThen}
 use Rattle.planner.proofs.Unpacking.{unpacked-none, arrival-none}
-use Rattle.planner.proofs.Choosing.{leading-cong, least-cong, first-cong}
+use Rattle.planner.proofs.Choosing.{leading-cong, least-cong}
 use Rattle.planner.proofs.Flat.{flat-steps, flat-plans}
 
 greatest-max : (n : ℕ) (f g : ℕ → ℕ) → max (greatest n f) (greatest n g) ≡ greatest n (λ i. max (f i) (g i))

@@ -1,0 +1,2 @@
+-- The laws of `listing`.
+pub mod Flat
