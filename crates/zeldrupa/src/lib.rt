@@ -195,7 +195,7 @@ pub extern "C" fn zeldrupa_plan(
     ending::conclude(o, place)
 }
 
-// The bytes of the bundle of the least time, for a sheet of at most six tasks.
+// The bytes of the bundle of the least time, for a sheet of at most six tasks that is no cube.
 #[no_mangle]
 pub extern "C" fn zeldrupa_least(
     sheet: &[u8],
