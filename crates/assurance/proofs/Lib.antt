@@ -9,3 +9,4 @@ pub mod Choices
 pub mod Weighings
 pub mod Generated
 pub mod Searched
+pub mod Giving

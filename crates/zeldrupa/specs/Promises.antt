@@ -18,6 +18,7 @@ use Rattle.bundle.specs.Format.{readBundle}
 use Rattle.bundle.specs.Writing.{bundleValues}
 use Rattle.bundle.specs.Writing as bundles
 use Rattle.checker.specs.Checker.{check}
+use Rattle.releasing.specs.Passing.{pass}
 use Rattle.better.specs.Choices.{BetterIs}
 use Rattle.planner.specs.Planner.{plan}
 use Rattle.least.specs.Least.{leastBundle}
@@ -92,6 +93,13 @@ GivesCheck sheet bundle work = Ends no-place (checkAnswer sheet bundle (length w
 -- zeldrupa_better: the better one of two bundles itself, or the empty front of the first; the place is the length of what is handed back, or a refusal's
 abbrev pub GivesBetter : List ℕ → RefT (List ℕ) → RefT (List ℕ) → List ℕ → List ℕ → RefT (List ℕ) → ℕ → ℕ → Type 0
 GivesBetter sheet first second work work′ kept p r = BetterIs sheet first second work work′ r p kept
+
+-- zeldrupa_release: the bytes of an accepted bundle with its releases, or the checker's refusal
+unfoldable pub releaseAnswer : List ℕ → List ℕ → ℕ → ℕ → Answer (List ℕ)
+releaseAnswer sheet bundle work out = longEnough fixed work (andThen (pass sheet bundle) (fitting out))
+
+abbrev pub GivesRelease : List ℕ → List ℕ → List ℕ → List ℕ → List ℕ → List ℕ → ℕ → ℕ → Type 0
+GivesRelease sheet bundle work work′ out = Gives (releaseAnswer sheet bundle (length work) (length out)) work work′ out
 
 -- zeldrupa_plan: the bytes of the bundle that is planned
 unfoldable pub planAnswer : List ℕ → ℕ → ℕ → Answer (List ℕ)

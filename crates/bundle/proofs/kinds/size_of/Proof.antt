@@ -1,8 +1,8 @@
--- `bundle::values::size_of` meets its contract.
-use Rattle.bundle_writer.specs.Copies.{sizeBy}
+-- `bundle::kinds::size_of` meets its contract.
+use Rattle.bundle.specs.Kinds.{sizeBy}
 use borrow.Author.Needs.{needs}
-use Rattle.bundle_writer.proofs.values.size_of.Statement.{statement}
-use Rattle.bundle_writer.proofs.values.size_of.Tie as tie
+use Rattle.bundle.proofs.kinds.size_of.Statement.{statement}
+use Rattle.bundle.proofs.kinds.size_of.Tie as tie
 
 returns : tie.Need-returns
 unfolding sizeBy

@@ -1,9 +1,9 @@
--- `bundle_reader::bytes::run_at` meets its contract.
+-- `bundle_reader::bytes::task_at` meets its contract.
 use Rattle.bundle.proofs.Faults.{fault-run}
 use borrow.Author.Needs.{needs}
 use borrow.Author.Tests.{eq-eqb, le-leb, le-ltb, lt-leb, lt-ltb, ne-eqb}
-use Rattle.bundle_reader.proofs.bytes.run_at.Statement.{statement}
-use Rattle.bundle_reader.proofs.bytes.run_at.Tie as tie
+use Rattle.bundle_reader.proofs.bytes.task_at.Statement.{statement}
+use Rattle.bundle_reader.proofs.bytes.task_at.Tie as tie
 
 returns : tie.Need-returns
 returns c = simp (fault-run, eq-eqb _ _ (c .if1 .taken))
@@ -17,8 +17,8 @@ returns-3 c = simp (fault-run, ne-eqb _ _ (c .before .before .before .if1 .left)
 returns-4 : tie.Need-returns-4
 returns-4 c = simp (fault-run, ne-eqb _ _ (c .before .before .before .if1 .left), le-ltb _ _ (c .before .before .if2 .left), ← c .before .get8 .ensures .0, lt-leb _ _ (c .if3 .left))
 
-pub run-at-spec : {M : Type 1} → statement M
-run-at-spec =
+pub task-at-spec : {M : Type 1} → statement M
+task-at-spec =
     tie.close
     (tie.spec
     returns
