@@ -10,16 +10,17 @@ use lib.Dec.{eqb}
 use Rattle.folds.specs.Folds.{pick, bit, sum, gather, first, then}
 use Rattle.folds.proofs.Laws.{sum-front, sum-zeros}
 use Rattle.sheet.specs.Sheet.{Sheet, taskCount, linkCount}
-use Rattle.bundle.specs.Bundle.{Command, run, send, receive, Bundle, programmeCount, programmeOf}
+use Rattle.bundle.specs.Bundle.{Command, run, send, receive, release, discard, Bundle, programmeCount, programmeOf}
 use Rattle.bundle.specs.Fits.{Known, Each, Formed}
 use Rattle.admission.specs.Counting.{weigh, wholeOf, whole, each, is}
+use Rattle.admission.specs.Releases.{frees}
 use Rattle.admission.specs.Messages.{holds, home}
 use Rattle.admission.proofs.Weights.{weigh-append, weigh-gather}
 use Rattle.machine.specs.Machine.{State, freshState, next, travels, stated, stepIn, step, holdsSome, canStep}
 use Rattle.machine.specs.Runs.{onwards, settle, settled, latest}
 use Rattle.checker.proofs.Accepted.{Passes}
 use Rattle.planner.proofs.Schedules.{tally}
-use Rattle.least.specs.Written.{bringsIn, takesIn, receiveIn, sendIn, blockIn, blocksIn, programmeIn, programmesIn, Written}
+use Rattle.least.specs.Written.{bringsIn, takesIn, receiveIn, sendIn, blockIn, blocksIn, programmeIn, programmesIn, Written, NoRelease}
 use Rattle.least.specs.Least.{In, candidates, bundleIn}
 use Rattle.acceptance.proofs.Each.{each-gather}
 use Rattle.least.proofs.Standing.{once}
@@ -71,6 +72,37 @@ module _ (s : Sheet) where
   pub whole-list : (b : Bundle) (f : Command → ℕ) → whole b f ≡ weighAll f (b .programmes)
   unfolding whole wholeOf programmeCount programmeOf
   whole-list b f = sum-list f (b .programmes)
+
+  -- none of their commands is a release
+  one-plain : (x : Bool) (c : Command) → frees c ≡ 0 → weigh frees (pick x (c ∷ []) []) ≡ 0
+  unfolding weigh
+  one-plain true c e = omega (arith, e)
+  one-plain false c e = refl
+
+  block-plain : (ts : List ℕ) (u : ℕ) → weigh frees (blockIn s ts u) ≡ 0
+  unfolding blockIn receiveIn sendIn weigh
+  block-plain ts u =
+      omega (
+        arith,
+        weigh-append frees (gather (linkCount s) (receiveIn s ts u)) (run u ∷ gather (linkCount s) (sendIn s ts u)),
+        weigh-gather frees (linkCount s) (receiveIn s ts u),
+        weigh-gather frees (linkCount s) (sendIn s ts u),
+        sum-zeros (linkCount s) (λ l. weigh frees (receiveIn s ts u l)) (λ l h. one-plain (bringsIn s ts u l) (receive l) refl),
+        sum-zeros (linkCount s) (λ l. weigh frees (sendIn s ts u l)) (λ l h. one-plain (takesIn s ts u l) (send l) refl),
+      )
+
+  pub blocks-plain : (ts us : List ℕ) → weigh frees (blocksIn s ts us) ≡ 0
+  unfolding blocksIn weigh
+  blocks-plain ts [] = refl
+  blocks-plain ts (u ∷ us) = omega (arith, weigh-append frees (blockIn s ts u) (blocksIn s ts us), block-plain ts u, blocks-plain ts us)
+
+  all-plain : (a : List (List ℕ)) → weighAll frees (programmesIn s a) ≡ 0
+  unfolding programmesIn programmeIn
+  all-plain [] = refl
+  all-plain (ts ∷ a) = omega (arith, blocks-plain ts ts, all-plain a)
+
+  pub written-plain : (b : Bundle) → Written s b → NoRelease b
+  written-plain b w = whole-list b frees ∙ ap (weighAll frees) (w .written) ∙ all-plain (w .tasks)
 
   -- tasks of a programme whose commands are known are declared
   known-block : (ts : List ℕ) (u : ℕ) → Each (Known s) (blockIn s ts u) → u < taskCount s
@@ -137,6 +169,8 @@ module _ (s : Sheet) (ps : List (List Command)) (x y : ℕ) where
   same-stated k (run t) = refl
   same-stated k (send l) = refl
   same-stated k (receive l) = refl
+  same-stated k (release t) = refl
+  same-stated k (discard l) = refl
 
   same-step : (σ : State) (k : ℕ) → step s bx σ k ≡ step s by σ k
   unfolding step stepIn next programmeOf

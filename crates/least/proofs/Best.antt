@@ -29,13 +29,13 @@ use Rattle.checker.proofs.Accepted.{Passes, passes}
 use Rattle.machine.specs.Runs.{settled, latest}
 use Rattle.machine.proofs.Orders.{any-order, ended-still}
 use Rattle.machine.proofs.Runs.{leads-sound, fresh-sound}
-use Rattle.least.specs.Written.{Busy, Written}
+use Rattle.least.specs.Written.{Busy, Written, NoRelease}
 use Rattle.least.specs.Ranking.{ahead, choice}
 use Rattle.least.specs.Least.{In, opens, joins, amongAll, extended, completions, candidates, bundleIn, isValue, better, consider, bestFrom, best, most, bestOr11, leastTime}
 use Rattle.least.specs.Promise.{NoneAccepted, Found, LeastTime}
 use Rattle.least.proofs.Orders.{not-better, ahead-self, not-ahead, ahead-claim, choice-first, choice-second, choice-one}
 use Rattle.least.proofs.Standing.{home-below}
-use Rattle.least.proofs.Arranging.{all-known, length-in, is-candidate}
+use Rattle.least.proofs.Arranging.{all-known, length-in, is-candidate, written-plain}
 use Rattle.least.proofs.Normal.{Normal, normal}
 
 pub in-parts : {A : Type 0} (x : A) (ys zs : List A) → In x (ys ++ zs) → In x ys ⊎ In x zs
@@ -195,10 +195,10 @@ module _ (s : Sheet) where
         let z = best-holds (candidates s) none (w .tasks) (i .0) (subst (λ (y : Bundle). isValue (checked s y) ≡ true) (sym (i .1)) (checked-works c ok)) in
         (z .0, z .1, subst (λ (y : Bundle). ahead y (z .0) ≡ false) (i .1) (z .2))
 
-    -- where any bundle is accepted there is a best one, and it claims no more than that bundle brought into the written form
-    pub best-by : (c : Bundle) (formed : Formed s c) (ok : checked s c ≡ value c) → (m : Normal s c) × (x : Bundle) × (best s ≡ some x) × (x .claim ≤ m .bundle .claim)
-    best-by c formed ok =
-        let m = normal s proper sized c formed (passes s c c ok .0) in
+    -- where any bundle without releases is accepted there is a best one, and it claims no more than that bundle brought into the written form
+    pub best-by : (c : Bundle) (formed : Formed s c) (ok : checked s c ≡ value c) → NoRelease c → (m : Normal s c) × (x : Bundle) × (best s ≡ some x) × (x .claim ≤ m .bundle .claim)
+    best-by c formed ok plain =
+        let m = normal s proper sized c formed (passes s c c ok .0) plain in
         let z = not-behind (m .bundle) (m .fit .formed) (m .accepted) (m .form) in
         (m, z .0, z .1, ahead-claim (z .0) (m .bundle) (z .2))
 
@@ -206,13 +206,13 @@ module _ (s : Sheet) where
     pub best-fits : (b : Bundle) → best s ≡ some b → Fits s b
     best-fits b e =
         let z = found-is b e in
-        let l = best-by b (z .1) (z .2) in
+        let l = best-by b (z .1) (z .2) (written-plain s b (z .0)) in
         let same : l .1 ≡ b = (cc (l .2)) in
         record { formed = z .1; claimed = omega (arith, l .3, l .0 .fit .claimed, ap (λ (x : Bundle). x .claim) same) }
 
-    -- and on a sheet without `48` and `55` it claims no more than any accepted bundle, in any form
-    pub least-of : s .cube ≡ false → s .unpacking ≡ 0 → (c : Bundle) → Formed s c → checked s c ≡ value c → (x : Bundle) × (best s ≡ some x) × (x .claim ≤ c .claim)
-    least-of flat idle c formed ok = let l = best-by c formed ok in (l .1, l .2, omega (arith, l .3, l .0 .sooner flat idle))
+    -- and on a sheet without `48` and `55` it claims no more than any accepted bundle without releases, in any form
+    pub least-of : s .cube ≡ false → s .unpacking ≡ 0 → (c : Bundle) → Formed s c → checked s c ≡ value c → NoRelease c → (x : Bundle) × (best s ≡ some x) × (x .claim ≤ c .claim)
+    least-of flat idle c formed ok plain = let l = best-by c formed ok plain in (l .1, l .2, omega (arith, l .3, l .0 .sooner flat idle))
 
   -- of bytes
   module _ (sheet : List ℕ) (bytes-are : Bytes sheet) (reads : readSheet sheet ≡ value s) where
@@ -250,7 +250,7 @@ module _ (s : Sheet) where
         check-is out b (subst (λ (o : List ℕ). readBundle s o ≡ value b) q (read-back s b (omega (arith, isProper .form .links)) (best-fits isProper isSized b e))) ∙ z .2
 
     none-accepted : best s ≡ none → NoneAccepted sheet
-    none-accepted e bytes c h = let f = checks bytes c h in not-some (sym e ∙ best-by isProper isSized c (f .0) (f .1) .2)
+    none-accepted e bytes c h plain = let f = checks bytes c h in not-some (sym e ∙ best-by isProper isSized c (f .0) (f .1) plain .2)
 
     found-time : (out : List ℕ) → leastTime s ≡ value out → Found sheet s out
     found-time out e =
@@ -267,9 +267,9 @@ module _ (s : Sheet) where
               let same : z .0 ≡ r .0 = (cc (z .1, r .1)) in
               not-better c (r .0) (subst (λ (x : Bundle). ahead c x ≡ false) same (z .2));
           least =
-              λ idle other c h.
+              λ idle other c h plain.
               let f = checks other c h in
-              let z = least-of isProper isSized (r .3) idle c (f .0) (f .1) in
+              let z = least-of isProper isSized (r .3) idle c (f .0) (f .1) plain in
               let same : z .0 ≡ r .0 = (cc (z .1, r .1)) in
               subst (λ (x : Bundle). x .claim ≤ c .claim) same (z .2);
         }
@@ -293,4 +293,4 @@ module _ (s : Sheet) where
         nothing h flat none-is none q =
             let small : either (ltb most (taskCount s)) (s .cube) ≡ false = ap (λ (x : Bool). either x (s .cube)) (le-ltb most (taskCount s) h) ∙ flat in
             ap (λ (x : Bool). pick x (refused 38 (taskCount s)) (bestOr11 s (best s))) small ∙ ap (bestOr11 s) q
-        nothing h flat none-is (some b) q = absurd (none-is (bundleBytes b) b (accepted (bundleBytes b) b q refl))
+        nothing h flat none-is (some b) q = absurd (none-is (bundleBytes b) b (accepted (bundleBytes b) b q refl) (written-plain s b (found-is isProper isSized b q .0)))

@@ -10,7 +10,7 @@ use lib.ListN.{length}
 use Rattle.folds.specs.Folds.{pick}
 use Rattle.folds.proofs.Laws.{term-le-greatest}
 use Rattle.sheet.specs.Sheet.{Sheet, taskCount, workOf}
-use Rattle.bundle.specs.Bundle.{Command, run, send, receive, Bundle, programmeOf}
+use Rattle.bundle.specs.Bundle.{Command, run, send, receive, release, discard, Bundle, programmeOf}
 use Rattle.admission.specs.Counting.{weigh}
 use Rattle.admission.proofs.Weights.{programme-or, weigh-split}
 use Rattle.machine.specs.Machine.{State, processorOf, stated, takes, moved, step}
@@ -33,6 +33,8 @@ abbrev works : Sheet → Command → ℕ
 works s (run t) = workOf s t
 works s (send l) = 0
 works s (receive l) = 0
+works s (release t) = 0
+works s (discard l) = 0
 
 module _ (s : Sheet) (b : Bundle) where
   -- a command takes its work at least
@@ -41,6 +43,8 @@ module _ (s : Sheet) (b : Bundle) where
   works-take k (run t) = omega arith
   works-take k (send l) = omega arith
   works-take k (receive l) = omega arith
+  works-take k (release t) = omega arith
+  works-take k (discard l) = omega arith
 
   abbrev Timed : State → Type 0
   Timed σ = (k : ℕ) → doneOf b σ (works s) k ≤ processorOf σ k .clock

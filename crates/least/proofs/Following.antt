@@ -1,4 +1,4 @@
--- A run of any bundle, followed by a schedule: each task is placed as it runs, on the number that its programme gets. On a sheet without `48` and `55` the schedule
+-- A run of any bundle without releases, followed by a schedule: each task is placed as it runs, on the number that its programme gets. On a sheet without `48` and `55` the schedule
 -- is never later than the run: there it does not matter where the programmes are numbered to, nor in which order messages are received.
 use Prim.Native.Nat.{ℕ, _+_, _≤_, _<_, max}
 use native.Mathlib.Omega.{arith}
@@ -18,9 +18,9 @@ use Rattle.folds.proofs.Lists.{getD-replicate}
 use Rattle.sheet.specs.Sheet.{Sheet, taskCount, linkCount, sourceOf, targetOf, workOf, storeOf, costOf, bytesOf}
 use Rattle.sheet.proofs.Hopping.{flat-time}
 use Rattle.graph.proofs.Proper.{Proper}
-use Rattle.bundle.specs.Bundle.{Command, run, send, receive, Bundle, programmeCount, programmeOf}
+use Rattle.bundle.specs.Bundle.{Command, run, send, receive, release, discard, Bundle, programmeCount, programmeOf}
 use Rattle.bundle.specs.Fits.{Formed}
-use Rattle.admission.specs.Counting.{weigh, wholeOf, whole, each, is, need}
+use Rattle.admission.specs.Counting.{weigh, whole, each, is, inUse}
 use Rattle.admission.specs.Messages.{home, Published}
 use Rattle.admission.proofs.Weights.{programme-or, weigh-split, weigh-take, is-refl}
 use Rattle.admission.proofs.Messages.{inputs}
@@ -33,7 +33,8 @@ use Rattle.planner.specs.Placing.{comes, satisfied, ready, reachBy, reachOn, el
 use Rattle.planner.specs.Planner.{claimOf}
 use Rattle.planner.proofs.Unpacking.{unpacked-none, start-unpacked}
 use Rattle.planner.proofs.Schedules.{Fair, place, Placing, Built, built, placing, Whole, on-other, finish-same, finish-other, placed-other, fair-place, empty-free, empty-fair}
-use Rattle.least.proofs.Standing.{home-stands, home-below, known-programme, known-at, once, run-at, send-at, receive-stands, received, held, need-most}
+use Rattle.least.specs.Written.{NoRelease}
+use Rattle.least.proofs.Standing.{home-stands, home-below, known-programme, known-at, once, run-at, send-at, receive-stands, received, held, need-most, plain-use, plain-programme, no-release}
 
 bit-true : (x : Bool) → bit x ≡ 1 → x ≡ true
 bit-true true e = refl
@@ -85,7 +86,7 @@ module _ (s : Sheet) (b : Bundle) (σ : State) (sound : Sound s b σ) (k : ℕ) 
   pub clock-rises : (j : ℕ) → processorOf σ j .clock ≤ processorOf (moved s σ k c x w) j .clock
   clock-rises j = ⊎-elim (λ (q : j ≡ k). rw q (omega (arith, clock-self))) (λ d. rw (other s b σ k c x w j d) (omega arith)) (equal-or j k)
 
-module _ (s : Sheet) (proper : Proper s) (b : Bundle) (published : Published s b) (formed : Formed s b) (within : (k : ℕ) → wholeOf b (need s) k ≤ s .limit)
+module _ (s : Sheet) (proper : Proper s) (b : Bundle) (published : Published s b) (formed : Formed s b) (within : (k i : ℕ) → inUse s (programmeOf b k) i ≤ s .limit) (plain : NoRelease b)
     (number : ℕ → ℕ) (numbering : Numbering s b number) where
   -- the schedule has placed what the machine has run
   pub record Follows (σ : State) (φ : Schedule) : Type 0 where
@@ -150,14 +151,15 @@ module _ (s : Sheet) (proper : Proper s) (b : Bundle) (published : Published s b
         rw (lt-ltb 0 (weigh (is (receive l)) (programmeOf b k)) (apart l m (z .0) (not-true (stands φ (sourceOf s l) (number t)) (z .1)))) (omega arith))
 
     pub fits-there : storeOn s φ (number t) ≤ s .limit
-    unfolding storeOn wholeOf
+    unfolding storeOn
     fits-there =
         omega (
           arith,
           sum-mono (taskCount s) (storeBy s φ (number t)) (λ u. held s (programmeOf b k) (run u)) store-le,
           sum-mono (linkCount s) (bytesBy s φ (number t)) (λ l. held s (programmeOf b k) (receive l)) bytes-le,
           need-most s (programmeOf b k) (known-programme s b formed k),
-          within k,
+          plain-use s (programmeOf b k) (plain-programme b plain k),
+          within k (length (programmeOf b k)),
         )
 
   module _ {σ : State} (sound : Sound s b σ) {φ : Schedule} (follows : Follows σ φ) where
@@ -403,9 +405,12 @@ module _ (s : Sheet) (proper : Proper s) (b : Bundle) (published : Published s b
   Followed σ φ τ = (ψ : Schedule) × (ts : List ℕ) × Built s φ ψ ts × Follows τ ψ × (s .cube ≡ false → s .unpacking ≡ 0 → Early σ φ → Early τ ψ)
 
   follow-move : {σ : State} → Sound s b σ → {φ : Schedule} → Follows σ φ → (k : ℕ) (c : Command) (w : ℕ) → next b σ k ≡ some c → waits σ c ≡ some w → Followed σ φ (moved s σ k c (stated s b k c) w)
+  unfolding next
   follow-move sound {φ} f k (run t) w e g = (place s φ t (number t), t ∷ [], placing (is-placing sound f k t w e) built, follows-run sound f k t w e, early-run sound f k t w e)
   follow-move sound {φ} f k (send l) w e g = (φ, [], built, follows-send sound f k l w e, λ flat idle. early-send sound f k l w e flat)
   follow-move sound {φ} f k (receive l) w e g = (φ, [], built, follows-receive sound f k l w e g, λ flat idle. early-receive sound f k l w e g)
+  follow-move {σ} sound f k (release t) w e g = absurd (no-release b plain k (processorOf σ k .position) (release t) e refl)
+  follow-move {σ} sound f k (discard l) w e g = absurd (no-release b plain k (processorOf σ k .position) (discard l) e refl)
 
   built-on : {φ ψ χ : Schedule} {ts us : List ℕ} → Built s φ ψ ts → Built s ψ χ us → Built s φ χ (ts ++ us)
   built-on built q = q

@@ -65,18 +65,14 @@ lower-longer (a ∷ x) (b ∷ y) r q e h = go (decLt a b) (decLt b a) (lower-lon
     go (no l) (yes m) f = absurd (false≢true (sym (lower-more a b x y m) ∙ h))
     go (no l) (no m) f = let s : a ≡ b = omega arith in lower-rest a b (x ++ r) (y ++ q) s ∙ f (sym (lower-rest a b x y s) ∙ h)
 
--- no command's bytes begin another's
-command-lower : (c d : Command) (r q : List ℕ) → lower (commandBytes c) (commandBytes d) ≡ true → lower (commandBytes c ++ r) (commandBytes d ++ q) ≡ true
+-- the bytes of no run or receive begin another's
+command-lower : (u t : ℕ) (o v : Option ℕ) (r q : List ℕ) → lower (commandBytes (receiveOr u o)) (commandBytes (receiveOr t v)) ≡ true
+    → lower (commandBytes (receiveOr u o) ++ r) (commandBytes (receiveOr t v) ++ q) ≡ true
 unfolding lower byBytes
-command-lower (run t) (run u) r q h = lower-longer (commandBytes (run t)) (commandBytes (run u)) r q refl h
-command-lower (run t) (send l) r q h = refl
-command-lower (run t) (receive l) r q h = refl
-command-lower (send m) (run u) r q h = absurd (false≢true h)
-command-lower (send m) (send l) r q h = lower-longer (commandBytes (send m)) (commandBytes (send l)) r q refl h
-command-lower (send m) (receive l) r q h = refl
-command-lower (receive m) (run u) r q h = absurd (false≢true h)
-command-lower (receive m) (send l) r q h = absurd (false≢true h)
-command-lower (receive m) (receive l) r q h = lower-longer (commandBytes (receive m)) (commandBytes (receive l)) r q refl h
+command-lower u t none none r q h = lower-longer (commandBytes (run u)) (commandBytes (run t)) r q refl h
+command-lower u t none (some l) r q h = refl
+command-lower u t (some m) none r q h = absurd (false≢true h)
+command-lower u t (some m) (some l) r q h = lower-longer (commandBytes (receive m)) (commandBytes (receive l)) r q refl h
 
 pub programmesBytes-append : (k : ℕ) (xs ys : List (List Command)) → programmesBytes k (xs ++ ys) ≡ programmesBytes k xs ++ programmesBytes (k + length xs) ys
 programmesBytes-append k [] ys = let e : k ≡ k + 0 = omega arith in ap (λ (n : ℕ). programmesBytes n ys) e
@@ -261,7 +257,7 @@ module _ (s : Sheet) (proper : Proper s) (xs : List (List Command)) (t : ℕ) (t
       getD-at (xs ++ P ∷ []) Q zs [] (suc (length xs)) (length-append xs (P ∷ []) ∙ omega arith)
 
   pub swapped : s .cube ≡ false → Passes s first-order → lower (headBytes s u) (headBytes s t) ≡ true → Passes s second-order × (ahead second-order first-order ≡ true)
-  unfolding headBytes
+  unfolding headBytes headCommand
   swapped flat passes low =
       let hp = head-of s first-order passes (length xs) t ts at-t proper in
       let hq = head-of s first-order passes (suc (length xs)) u us at-u proper in
@@ -271,7 +267,7 @@ module _ (s : Sheet) (proper : Proper s) (xs : List (List Command)) (t : ℕ) (t
         passes-turned s proper xs P Q zs claim flat passes,
         ahead-bytes second-order first-order refl same-runners ∙
             ap₂ lower (y .1) (x .1) ∙ lower-front (programmesBytes 0 xs) _ _ ∙ lower-rest 0x50 0x50 _ _ refl ∙ lower-rest (0 + n) (0 + n) _ _ refl ∙
-            command-lower (headCommand s u) (headCommand s t) (y .0) (x .0) low,
+            command-lower u t (first (linkCount s) (leadsTo s u)) (first (linkCount s) (leadsTo s t)) (y .0) (x .0) low,
       )
     where
       same-runners : runners second-order ≡ runners first-order

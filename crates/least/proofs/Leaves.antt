@@ -15,6 +15,7 @@ use Rattle.folds.proofs.Tests.{not-value}
 use Rattle.sheet.specs.Sheet.{Sheet}
 use Rattle.bundle.specs.Bundle.{Bundle, programmeCount, programmeOf}
 use Rattle.admission.specs.Counting.{wholeOf, whole}
+use Rattle.admission.specs.Releases.{at37}
 use Rattle.admission.specs.Messages.{notOnce, holds, home, inside, sendFault, receiveFault, orderFault, messageFault, overStore, at26, atMessage, at28}
 use Rattle.admission.proofs.Splits.{message-number}
 use Rattle.machine.specs.Runs.{latest, settled}
@@ -49,21 +50,22 @@ module _ (s : Sheet) (a : List (List ℕ)) where
   clock = latest (settled s bare)
 
   unfoldable tests : Answer Bundle → Answer Bundle
-  tests r = unless 26 (at26 s bare) (unlessAt (atMessage s bare) (unless 28 (at28 s bare) (unless 29 (at29 bare (settled s bare)) r)))
+  tests r = unless 26 (at26 s bare) (unlessAt (atMessage s bare) (unless 37 (at37 s bare) (unless 28 (at28 s bare) (unless 29 (at29 bare (settled s bare)) r))))
 
   front : Front tests
   unfolding tests
   front =
       front-then (unless 26 (at26 s bare)) _ (one-front 26 (omega arith) (at26 s bare))
       (front-then (unlessAt (atMessage s bare)) _ (pair-front (atMessage s bare) (λ n at e q. omega (arith, message-number s bare n at e)))
-      (front-then (unless 28 (at28 s bare)) (unless 29 (at29 bare (settled s bare))) (one-front 28 (omega arith) (at28 s bare)) (one-front 29 (omega arith) (at29 bare (settled s bare)))))
+      (front-then (unless 37 (at37 s bare)) _ (one-front 37 (omega arith) (at37 s bare))
+      (front-then (unless 28 (at28 s bare)) (unless 29 (at29 bare (settled s bare))) (one-front 28 (omega arith) (at28 s bare)) (one-front 29 (omega arith) (at29 bare (settled s bare))))))
 
   checked-bare : checked s bare ≡ tests (unless 30 (pick (eqb 0 clock) none (some clock)) (value bare))
   unfolding checked closing at30 tests
   checked-bare = refl
 
   checked-in : checked s (bundleIn s a) ≡ tests (value (bundleIn s a))
-  unfolding checked closing at30 tests bundleIn at26 notOnce atMessage messageFault sendFault receiveFault orderFault inside home holds at28 overStore at29 unfinished whole wholeOf programmeCount programmeOf
+  unfolding checked closing at30 tests bundleIn at26 notOnce atMessage messageFault sendFault receiveFault orderFault inside home holds at37 at28 overStore at29 unfinished whole wholeOf programmeCount programmeOf
   checked-in = rw (same-settled s (programmesIn s a) clock 0, eq-eqb clock clock refl)
 
   -- 30 at c: accepted, with the claim c

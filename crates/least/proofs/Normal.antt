@@ -1,4 +1,4 @@
--- The bundle of a schedule is in the written form; so every accepted bundle has one in that form which is accepted, and which claims no more on a sheet without `48` and `55`.
+-- The bundle of a schedule is in the written form; so every accepted bundle without releases has one in that form which is accepted, and which claims no more on a sheet without `48` and `55`.
 use Prim.Native.Nat.{ℕ, zero, suc, _+_, _≤_, _<_}
 use native.Mathlib.Omega.{arith}
 use native.Mathlib.Decide.{decLt}
@@ -24,7 +24,7 @@ use Rattle.planner.specs.Placing.{startOn}
 use Rattle.planner.specs.Planner.{brings, takesAway, receiveOf, sendOf, blockOf, blocks, programme, bundleOf}
 use Rattle.planner.proofs.Ready.{ready-free}
 use Rattle.planner.proofs.Schedules.{Fair, place, Built, built, placing, tally, plan-of, Whole, on-same, on-other, placed-same, placed-other, fair-place, empty-fair, empty-free}
-use Rattle.least.specs.Written.{among, bringsIn, takesIn, receiveIn, sendIn, blockIn, blocksIn, programmeIn, programmesIn, Busy, Written}
+use Rattle.least.specs.Written.{among, bringsIn, takesIn, receiveIn, sendIn, blockIn, blocksIn, programmeIn, programmesIn, Busy, Written, NoRelease}
 use Rattle.acceptance.proofs.Each.{each-listed}
 use Rattle.acceptance.proofs.Written.{fits}
 use Rattle.acceptance.proofs.Planned.{accept}
@@ -149,10 +149,10 @@ pub record Normal (s : Sheet) (b : Bundle) : Type 0 where
   pub fit : Fits s bundle
   pub sooner : s .cube ≡ false → s .unpacking ≡ 0 → bundle .claim ≤ b .claim
 
-pub normal : (s : Sheet) → Proper s → Sized s → (b : Bundle) → Formed s b → Passes s b → Normal s b
+pub normal : (s : Sheet) → Proper s → Sized s → (b : Bundle) → Formed s b → Passes s b → NoRelease b → Normal s b
 unfolding bundleOf
-normal s proper sized b formed passes =
-    let z = followed-all s proper b (passes .published) formed (passes .within) (number s b) (numbered s b (passes .published) formed) (passes .end) (passes .leads) (passes .over) in
+normal s proper sized b formed passes plain =
+    let z = followed-all s proper b (passes .published) formed (passes .within) plain (number s b) (numbered s b (passes .published) formed) (passes .end) (passes .leads) (passes .over) in
     let ψ = z .0 in
     let how = z .2 in
     let complete = z .3 in

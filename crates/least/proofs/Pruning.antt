@@ -18,6 +18,7 @@ use Rattle.graph.proofs.Proper.{Proper}
 use Rattle.graph.proofs.Forms.{Sized}
 use Rattle.bundle.specs.Bundle.{Command, run, send, receive, Bundle, programmeOf}
 use Rattle.admission.specs.Counting.{weigh, wholeOf, whole, is, need}
+use Rattle.admission.specs.Releases.{frees}
 use Rattle.admission.specs.Messages.{home, before}
 use Rattle.admission.specs.Unsplit.{insideOk}
 use Rattle.admission.proofs.Weights.{weigh-append, weigh-gather, same-refl}
@@ -29,10 +30,10 @@ use Rattle.least.specs.Ranking.{lower}
 use Rattle.least.specs.Heads.{headBytes, headOf, rises}
 use Rattle.least.specs.Least.{In, opens, joins, amongAll, extended, completions, candidates, bundleIn, bestFrom, best}
 use Rattle.least.specs.Pruned.{prunedAt, pruned, lastOf, total, headsRise, feeds, inOrder, storeFits, mayOpen, mayJoin, lookedFrom, looked}
-use Rattle.least.proofs.Standing.{at-home, of-whole, once, inside}
+use Rattle.least.proofs.Standing.{at-home, of-whole, once, inside, plain-use}
 use Rattle.least.proofs.Candidates.{in-left, in-right, in-gather, tally-append, joins-last}
 use Rattle.least.proofs.Normal.{programmesIn-append}
-use Rattle.least.proofs.Arranging.{block-run, blocks-run, one-none, length-in}
+use Rattle.least.proofs.Arranging.{block-run, blocks-run, one-none, blocks-plain, length-in}
 use Rattle.least.proofs.Best.{in-parts, gathered, Works, works-checked}
 use Rattle.least.proofs.Heads.{among-tally, best-of-part}
 
@@ -171,7 +172,7 @@ module _ (s : Sheet) (x : List (List ℕ)) (works : Works s x) (f : List (List �
 
   pub store-le : total (storeOf s) ts ≤ s .limit
   unfolding wholeOf programmeIn
-  store-le = omega (arith, ok .within k, ap (weigh (need s)) text, total-le s (need s) ts ts)
+  store-le = omega (arith, ok .within k (length (programmeOf b k)), plain-use s (programmeOf b k) (ap (weigh frees) text ∙ blocks-plain s ts ts), ap (weigh (need s)) text, total-le s (need s) ts ts)
 
   runs-here : (u : ℕ) → wholeOf b (is (run u)) k ≡ tally u ts
   unfolding wholeOf programmeIn

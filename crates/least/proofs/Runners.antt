@@ -7,7 +7,7 @@ use mathlib.Core.List.{List, [], _∷_, _++_, append-assoc}
 use lib.ListN.{length}
 use Rattle.folds.specs.Folds.{bit, gather}
 use Rattle.sheet.specs.Sheet.{Sheet, linkCount}
-use Rattle.bundle.specs.Bundle.{Command, run, send, receive}
+use Rattle.bundle.specs.Bundle.{Command, run, send, receive, release, discard}
 use Rattle.bundle.specs.Fits.{Each}
 use Rattle.least.specs.Written.{receiveIn, sendIn, blockIn, blocksIn, programmeIn, programmesIn, Busy}
 use Rattle.better.specs.Ranks.{runsTask, runners}
@@ -20,6 +20,8 @@ runs-in [] t x = refl
 runs-in (run u ∷ r) t x = refl
 runs-in (send l ∷ r) t x = runs-in r t x
 runs-in (receive l ∷ r) t x = runs-in r t x
+runs-in (release u ∷ r) t x = runs-in r t x
+runs-in (discard l ∷ r) t x = runs-in r t x
 
 busy-runs : (s : Sheet) (ts : List ℕ) → Busy ts → runsTask (programmeIn s ts) ≡ true
 unfolding programmeIn blocksIn blockIn

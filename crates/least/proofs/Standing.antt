@@ -6,22 +6,26 @@ use mathlib.Core.Option.{Option, none, some}
 use mathlib.Core.Path.{_≡_, refl, sym, ap, _∙_, subst}
 use mathlib.Core.Logic.{_≢_, ⊎-elim}
 use mathlib.Core.List.{List, [], _∷_}
-use lib.ListN.{take, getD, getElem?}
+use lib.ListN.{length, take, getD, getElem?}
+use lib.Seq.{take-all}
 use lib.Dec.{ltb, eqb}
 use borrow.Author.Tests.{eqb-true, eq-eqb, ne-eqb, ltb-true, lt-ltb, ltb-false}
-use Rattle.folds.specs.Folds.{pick, sum, first, orValue}
+use Rattle.folds.specs.Folds.{pick, bit, sum, first, orValue}
 use Rattle.folds.proofs.Tests.{equal-or, both-parts, not-some}
 use Rattle.folds.proofs.Laws.{sum-mono, sum-add, sum-zeros, sum-only, term-le-sum, first-none, first-some}
 use Rattle.sheet.specs.Sheet.{Sheet, taskCount, linkCount, sourceOf, targetOf, storeOf, bytesOf}
-use Rattle.bundle.specs.Bundle.{Command, run, send, receive, Bundle, programmeCount, programmeOf}
+use Rattle.bundle.specs.Bundle.{Command, run, send, receive, release, discard, Bundle, programmeCount, programmeOf}
 use Rattle.bundle.specs.Fits.{Known, Each, Formed}
-use Rattle.admission.specs.Counting.{weigh, wholeOf, whole, same, is, need}
+use Rattle.admission.specs.Counting.{weigh, wholeOf, whole, same, is, need, gives, inUse}
+use Rattle.admission.specs.Releases.{isRelease, frees}
 use Rattle.admission.specs.Messages.{holds, home, before, Published}
 use Rattle.admission.specs.Unsplit.{insideOk, acrossOk, linkOk}
-use Rattle.admission.proofs.Weights.{programme-or, standing, weigh-split}
+use Rattle.admission.proofs.Weights.{programme-or, standing, weigh-split, weigh-drop}
+use Rattle.admission.proofs.Rights.{balance}
 use Rattle.admission.proofs.Splits.{link-right}
 use Rattle.admission.proofs.Before.{before-takes}
 use Rattle.admission.proofs.Messages.{home-is, run-once, inputs}
+use Rattle.least.specs.Written.{NoRelease}
 
 -- an element of a list each of whose elements has P
 each-at : {A : Type 0} (P : A → Type 0) (xs : List A) (i : ℕ) (x : A) → Each P xs → getElem? xs i ≡ some x → P x
@@ -56,9 +60,12 @@ before-first c d (x ∷ p) e = go (same d x) (same c x) refl refl e (before-firs
     go false false a f q r = omega (arith, r q)
 
 -- a command of the programme of k stands in the bundle
-pub of-whole : (b : Bundle) (c : Command) (k : ℕ) → wholeOf b (is c) k ≤ whole b (is c)
+part-whole : (b : Bundle) (f : Command → ℕ) (k : ℕ) → wholeOf b f k ≤ whole b f
 unfolding wholeOf whole weigh
-of-whole b c k = ⊎-elim (λ h. term-le-sum (programmeCount b) (wholeOf b (is c)) k h) (λ q. rw q (omega arith)) (programme-or b k)
+part-whole b f k = ⊎-elim (λ h. term-le-sum (programmeCount b) (wholeOf b f) k h) (λ q. rw q (omega arith)) (programme-or b k)
+
+pub of-whole : (b : Bundle) (c : Command) (k : ℕ) → wholeOf b (is c) k ≤ whole b (is c)
+of-whole b c k = part-whole b (is c) k
 
 -- a command that stands somewhere stands at home
 pub home-stands : (b : Bundle) (c : Command) → 0 < whole b (is c) → 0 < weigh (is c) (programmeOf b (home b c))
@@ -99,7 +106,7 @@ module _ (s : Sheet) (b : Bundle) (published : Published s b) where
   run-at k i t h e = run-home t k h (standing (run t) (programmeOf b k) i e)
 
   link-ok : (l : ℕ) → l < linkCount s → linkOk s b l (home b (run (sourceOf s l))) (home b (run (targetOf s l))) ≡ true
-  link-ok l h = link-right s b published l h
+  link-ok l h = link-right s b (published .messages) l h
 
   -- 27 of a link between processors
   pub across : (l : ℕ) → l < linkCount s → home b (run (sourceOf s l)) ≢ home b (run (targetOf s l))
@@ -187,6 +194,8 @@ module _ (s : Sheet) where
         sum-only (linkCount s) (λ l. heldBy (receive u) (receive l)) u h (λ j d. rw (ne-eqb j u d)),
         ap (λ v. pick v (bytesOf s u) 0) (eq-eqb u u refl),
       )
+  one-task (release u) h = omega (arith, sum-zeros (taskCount s) (λ t. heldBy (release u) (run t)) (λ l m. refl), sum-zeros (linkCount s) (λ l. heldBy (release u) (receive l)) (λ l m. refl))
+  one-task (discard u) h = omega (arith, sum-zeros (taskCount s) (λ t. heldBy (discard u) (run t)) (λ l m. refl), sum-zeros (linkCount s) (λ l. heldBy (discard u) (receive l)) (λ l m. refl))
 
   pub need-most : (p : List Command) → Each (Known s) p → tasksHeld p + linksHeld p ≤ weigh (need s) p
   unfolding weigh
@@ -201,3 +210,29 @@ module _ (s : Sheet) where
         one-task x (h .0),
         need-most p (h .1),
       )
+
+-- a programme without releases gives nothing back, so that behind all its commands everything is in use
+plain-at : (p : List Command) → weigh frees p ≡ 0 → (i : ℕ) (c : Command) → getElem? p i ≡ some c → isRelease c ≡ true → ⊥
+plain-at p h i c e f = omega (arith, weigh-split frees p i, weigh-drop frees p i c e, ap bit f)
+
+plain-gives : (s : Sheet) (p : List Command) → weigh frees p ≡ 0 → weigh (gives s) p ≡ 0
+unfolding weigh
+plain-gives s [] h = refl
+plain-gives s (run t ∷ p) h = omega (arith, plain-gives s p (omega arith))
+plain-gives s (send l ∷ p) h = omega (arith, plain-gives s p (omega arith))
+plain-gives s (receive l ∷ p) h = omega (arith, plain-gives s p (omega arith))
+plain-gives s (release t ∷ p) h = absurd (omega arith)
+plain-gives s (discard l ∷ p) h = absurd (omega arith)
+
+pub plain-use : (s : Sheet) (p : List Command) → weigh frees p ≡ 0 → inUse s p (length p) ≡ weigh (need s) p
+plain-use s p h =
+    let q : take (length p) p ≡ p = take-all (length p) p (omega arith) in
+    omega (arith, balance s p (λ i c e f. absurd (plain-at p h i c e f)) (length p), ap (weigh (gives s)) q, ap (weigh (need s)) q, plain-gives s p h)
+
+module _ (b : Bundle) (plain : NoRelease b) where
+  pub plain-programme : (k : ℕ) → weigh frees (programmeOf b k) ≡ 0
+  unfolding wholeOf
+  plain-programme k = omega (arith, part-whole b frees k)
+
+  pub no-release : (k i : ℕ) (c : Command) → getElem? (programmeOf b k) i ≡ some c → isRelease c ≡ true → ⊥
+  no-release k i c e f = plain-at (programmeOf b k) (plain-programme k) i c e f

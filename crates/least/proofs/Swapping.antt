@@ -13,11 +13,12 @@ use Rattle.folds.proofs.Laws.{first-none, none-first, sum-zeros, greatest-le, t
 use Rattle.sheet.specs.Sheet.{Sheet, taskCount, sourceOf, targetOf}
 use Rattle.sheet.proofs.Hopping.{flat-time}
 use Rattle.graph.proofs.Proper.{Proper}
-use Rattle.bundle.specs.Bundle.{Command, run, send, receive, Bundle, programmeCount, programmeOf}
+use Rattle.bundle.specs.Bundle.{Command, run, send, receive, release, discard, Bundle, programmeCount, programmeOf}
 use Rattle.admission.specs.Counting.{wholeOf, whole, each, is}
 use Rattle.admission.specs.Messages.{notOnce, home, at26, Published}
 use Rattle.admission.specs.Unsplit.{insideOk, acrossOk, linkOk}
 use Rattle.admission.proofs.Splits.{link-right, right-links}
+use Rattle.admission.proofs.Rights.{Right, all-right, right-all}
 use Rattle.machine.specs.Machine.{State, Processor, freshState, processorOf, stampOf, next, waits, travels, stated, after, posted, moved, step}
 use Rattle.machine.specs.Runs.{leftOf, left, clockOf, latest}
 use Rattle.machine.proofs.Steps.{step-move, move-step, other, self}
@@ -89,6 +90,9 @@ module _ (s : Sheet) (proper : Proper s) (xs : List (List Command)) (p q : List 
   unfolding programmeOf
   programme-turned k = get-turned [] xs p q zs k
 
+  turned-programme : (k : ℕ) → programmeOf c k ≡ programmeOf b (π k)
+  turned-programme k = ap (programmeOf c) (sym (turn-back i k)) ∙ programme-turned (π k)
+
   whole-turned : (f : Command → ℕ) → whole c f ≡ whole b f
   whole-turned f = omega (arith, whole-list s c f, whole-list s b f, weighAll-append s f xs (p ∷ q ∷ zs), weighAll-append s f xs (q ∷ p ∷ zs))
 
@@ -120,7 +124,8 @@ module _ (s : Sheet) (proper : Proper s) (xs : List (List Command)) (p q : List 
           messages =
               right-links s c
               (λ l h. rw (home-turned (sourceOf s l) (proper .form .source l h), home-turned (targetOf s l) (proper .form .target l h), link-turned l (home b (run (sourceOf s l))) (home b (run (targetOf s l))))
-              (link-right s b (passes .published) l h));
+              (link-right s b (passes .published .messages) l h));
+          releases = right-all s c (λ k. subst (Right s) (sym (turned-programme k)) (all-right s b (passes .published .releases) (π k)));
         }
 
     -- a command takes the same time: a message its cost, wherever it is sent
@@ -129,6 +134,8 @@ module _ (s : Sheet) (proper : Proper s) (xs : List (List Command)) (p q : List 
     stated-turned k (run t) = refl
     stated-turned k (send l) = flat-time s l (π k) (home c (run (targetOf s l))) flat ∙ sym (flat-time s l k (home b (run (targetOf s l))) flat)
     stated-turned k (receive l) = refl
+    stated-turned k (release t) = refl
+    stated-turned k (discard l) = refl
 
     -- the same state, with the processors turned
     record Turned (σ τ : State) : Type 0 where
@@ -148,6 +155,8 @@ module _ (s : Sheet) (proper : Proper s) (xs : List (List Command)) (p q : List 
         waits-turned : (x : Command) (w : ℕ) → waits σ x ≡ some w → waits τ x ≡ some w
         waits-turned (run t′) w f = f
         waits-turned (send l) w f = f
+        waits-turned (release t′) w f = f
+        waits-turned (discard l) w f = f
         waits-turned (receive l) w f = ap (λ (z : List (Option ℕ)). getD z l none) (t .stamped) ∙ f
 
         turned-move : (x : Command) (w : ℕ) → next b σ k ≡ some x → next c τ (π k) ≡ some x → Turned (moved s σ k x (stated s b k x) w) (moved s τ (π k) x (stated s c (π k) x) w)
@@ -205,12 +214,11 @@ module _ (s : Sheet) (proper : Proper s) (xs : List (List Command)) (p q : List 
         let t = z .2 in
         let σ = passes .end in
         let same : (j : ℕ) → processorOf τ j ≡ processorOf σ (π j) = λ j. ap (processorOf τ) (sym (turn-back i j)) ∙ t .each-one (π j) in
-        let text : (j : ℕ) → programmeOf c j ≡ programmeOf b (π j) = λ j. ap (programmeOf c) (sym (turn-back i j)) ∙ programme-turned (π j) in
         record {
           published = published-turned;
-          within = λ k. rw (text k) (passes .within (π k));
+          within = λ k j. rw (turned-programme k) (passes .within (π k) j);
           end = τ;
           leads = z .1;
-          over = sum-zeros (programmeCount c) (leftOf c τ each) (λ k h. rw (text k, same k) (ended s b σ (passes .over) each (π k)));
+          over = sum-zeros (programmeCount c) (leftOf c τ each) (λ k h. rw (turned-programme k, same k) (ended s b σ (passes .over) each (π k)));
           claimed = latest-turned σ τ t ∙ passes .claimed;
         }

@@ -9,13 +9,13 @@ use Rattle.bundle.specs.Bundle.{Bundle}
 use Rattle.bundle.specs.Writing.{bundleBytes}
 use Rattle.checker.specs.Checker.{check}
 use Rattle.better.specs.declared.order.Order.the-variants.{Less}
-use Rattle.least.specs.Written.{Written}
+use Rattle.least.specs.Written.{Written, NoRelease}
 use Rattle.least.specs.Ranking.{order}
 use Rattle.least.specs.Least.{most, leastTime}
 
--- no bundle is accepted for the sheet
+-- no bundle without releases is accepted for the sheet
 abbrev pub NoneAccepted : List ℕ → Type 0
-NoneAccepted sheet = (bytes : List ℕ) (c : Bundle) → check sheet bytes ≡ value c → ⊥
+NoneAccepted sheet = (bytes : List ℕ) (c : Bundle) → check sheet bytes ≡ value c → NoRelease c → ⊥
 
 -- "a bundle whose claim is least among all accepted bundles in the planner's written form .. Among equals C-12's order picks"
 pub record Found (sheet : List ℕ) (s : Sheet) (out : List ℕ) : Type 0 where
@@ -26,7 +26,7 @@ pub record Found (sheet : List ℕ) (s : Sheet) (out : List ℕ) : Type 0 where
   -- no accepted bundle in that form is better
   pub best : (other : List ℕ) (c : Bundle) → check sheet other ≡ value c → Written s c → order c bundle ≡ Less → ⊥
   -- "On a sheet without `55` no accepted bundle without releases claims less, in any form"
-  pub least : s .unpacking ≡ 0 → (other : List ℕ) (c : Bundle) → check sheet other ≡ value c → bundle .claim ≤ c .claim
+  pub least : s .unpacking ≡ 0 → (other : List ℕ) (c : Bundle) → check sheet other ≡ value c → NoRelease c → bundle .claim ≤ c .claim
 
 -- of the bytes of a sheet that are read as s
 pub record LeastTime (sheet : List ℕ) (s : Sheet) : Type 0 where
