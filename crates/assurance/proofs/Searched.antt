@@ -24,7 +24,7 @@ use Rattle.checker.specs.Checker.{checked, check}
 use Rattle.checker.proofs.Accepted.{passes}
 use Rattle.better.specs.Orders.{Rank, byRank}
 use Rattle.better.specs.Ranks.{runners, rankBy, rankOf}
-use Rattle.least.specs.Written.{Written}
+use Rattle.least.specs.Written.{Written, NoRelease}
 use Rattle.least.specs.Ranking.{order}
 use Rattle.least.specs.Least.{best, most, bestOr11, leastTime, leastBundle}
 use Rattle.least.specs.Promise.{NoneAccepted, Found, LeastTime}
@@ -95,14 +95,14 @@ best-of sheet out w other bytes a f h =
     l .found .best other (c .0) (c .1) form (sym (ap (λ (r : Rank). byRank r (h .y)) x ∙ ap (byRank _) y) ∙ h .less)
 
 least-claim : (sheet out : List ℕ) → Wrote sheet out → (other : List ℕ) → Accepted sheet other → (s : Sheet) (b c : Bundle)
-    → readSheet sheet ≡ value s → s .unpacking ≡ 0 → readBundle s out ≡ value b → readBundle s other ≡ value c → b .claim ≤ c .claim
-least-claim sheet out w other a s b c read idle is-b is-c =
+    → readSheet sheet ≡ value s → s .unpacking ≡ 0 → readBundle s out ≡ value b → readBundle s other ≡ value c → NoRelease c → b .claim ≤ c .claim
+least-claim sheet out w other a s b c read idle is-b is-c plain =
     let l = least-of sheet out w in
     let d = check-value sheet other (a .area) (a .area′) (a .place) (a .check) in
     let same : l .s ≡ s = value-same (sym (l .read) ∙ read) in
     let b-is : l .found .bundle ≡ b = value-same (sym (read-of sheet out s (l .found .bundle) read (l .found .accepted)) ∙ is-b) in
     let c-is : d .0 ≡ c = value-same (sym (read-of sheet other s (d .0) read (d .1)) ∙ is-c) in
-    omega (arith, l .found .least (ap (λ (z : Sheet). z .unpacking) same ∙ idle) other (d .0) (d .1), ap (λ (z : Bundle). z .claim) b-is, ap (λ (z : Bundle). z .claim) c-is)
+    omega (arith, l .found .least (ap (λ (z : Sheet). z .unpacking) same ∙ idle) other (d .0) (d .1) (subst NoRelease (sym c-is) plain), ap (λ (z : Bundle). z .claim) b-is, ap (λ (z : Bundle). z .claim) c-is)
 
 -- what a call on a sheet that is read answers
 module _ (sheet : List ℕ) (s : Sheet) (p r : ℕ) (a : Asked sheet s p r) where
@@ -119,8 +119,14 @@ module _ (sheet : List ℕ) (s : Sheet) (p r : ℕ) (a : Asked sheet s p r) wher
   time : LeastTime sheet s
   time = least-time s sheet (a .bytes) (a .read)
 
-  pub none-accepted : NoneAccepted sheet → (other : List ℕ) → Accepted sheet other → ⊥
-  none-accepted h other c = let v = check-value sheet other (c .area) (c .area′) (c .place) (c .check) in h other (v .0) (v .1)
+  -- no bundle without releases is accepted
+  abbrev Nothing : Type 0
+  Nothing = (other : List ℕ) (c : Bundle) → Accepted sheet other → readBundle s other ≡ value c → NoRelease c → ⊥
+
+  pub none-accepted : NoneAccepted sheet → Nothing
+  none-accepted h other c y is-c plain =
+      let v = check-value sheet other (y .area) (y .area′) (y .place) (y .check) in
+      h other (v .0) (v .1) (subst NoRelease (value-same (sym is-c ∙ read-of sheet other s (v .0) (a .read) (v .1))) plain)
 
   -- a return of 11 is the definition's 11
   eleven : taskCount s ≤ most → s .cube ≡ false → r ≡ 11 → (q : ℕ) × (leastTime s ≡ refused 11 q)
@@ -140,11 +146,11 @@ module _ (sheet : List ℕ) (s : Sheet) (p r : ℕ) (a : Asked sheet s p r) wher
           not-11 true q = omega arith
           not-11 false q = omega arith
 
-  pub exactly : taskCount s ≤ most → s .cube ≡ false → (r ≡ 11) ↔ ((other : List ℕ) → Accepted sheet other → ⊥)
+  pub exactly : taskCount s ≤ most → s .cube ≡ false → (r ≡ 11) ↔ Nothing
   unfolding checkAnswer
   exactly few flat = (
     (λ e. none-accepted (time .refused-11 (eleven few flat e .0) (eleven few flat e .1) .1)),
-    λ h. returned ∙ ap (λ (x : Answer (List ℕ)). number (andThen x (fitting (length (a .lent))))) (time .only-11 few flat (λ other c e. h other (accepting other c e))),
+    λ h. returned ∙ ap (λ (x : Answer (List ℕ)). number (andThen x (fitting (length (a .lent))))) (time .only-11 few flat (λ other c e plain. h other c (accepting other c e) (read-of sheet other s c (a .read) e) plain)),
   )
     where
       accepting : (other : List ℕ) (c : Bundle) → check sheet other ≡ value c → Accepted sheet other

@@ -12,7 +12,7 @@ use Rattle.sheet.specs.Sheet.{Sheet, taskCount}
 use Rattle.graph.specs.Graph.{readSheet}
 use Rattle.bundle.specs.Bundle.{Bundle}
 use Rattle.bundle.specs.Format.{readBundle}
-use Rattle.least.specs.Written.{Written}
+use Rattle.least.specs.Written.{Written, NoRelease}
 use Rattle.least.specs.Least.{most}
 use Rattle.zeldrupa.specs.Promises.{GivesCheck, GivesLeast}
 use Rattle.assurance.specs.Choosing.{Accepted, Before}
@@ -54,9 +54,10 @@ pub record LeastTimes : Type 0 where
   pub best : (sheet out : List ℕ) → Wrote sheet out → (other : List ℕ) → Bytes other → Accepted sheet other → InForm sheet other → Before sheet other out → ⊥
   -- "On a sheet without `55` no accepted bundle without releases claims less, in any form"
   pub least : (sheet out : List ℕ) → Wrote sheet out → (other : List ℕ) → Accepted sheet other →
-      (s : Sheet) (b c : Bundle) → readSheet sheet ≡ value s → s .unpacking ≡ 0 → readBundle s out ≡ value b → readBundle s other ≡ value c → b .claim ≤ c .claim
+      (s : Sheet) (b c : Bundle) → readSheet sheet ≡ value s → s .unpacking ≡ 0 → readBundle s out ≡ value b → readBundle s other ≡ value c → NoRelease c → b .claim ≤ c .claim
   -- "11 is given exactly if no bundle without releases is accepted; the task as place is the last one", of a sheet that is not refused by 38
-  pub exactly-11 : (sheet : List ℕ) (s : Sheet) (p r : ℕ) → Asked sheet s p r → taskCount s ≤ most → s .cube ≡ false → (r ≡ 11) ↔ ((other : List ℕ) → Accepted sheet other → ⊥)
+  pub exactly-11 : (sheet : List ℕ) (s : Sheet) (p r : ℕ) → Asked sheet s p r → taskCount s ≤ most → s .cube ≡ false
+      → (r ≡ 11) ↔ ((other : List ℕ) (c : Bundle) → Accepted sheet other → readBundle s other ≡ value c → NoRelease c → ⊥)
   pub at-11 : (sheet : List ℕ) (s : Sheet) (p r : ℕ) → Asked sheet s p r → taskCount s ≤ most → s .cube ≡ false → r ≡ 11 → p ≡ taskCount s - 1
   -- "38 for a seventh task or a sheet with `48`, place the task count"
   pub many : (sheet : List ℕ) (s : Sheet) (p r : ℕ) → Asked sheet s p r → (most < taskCount s) ⊎ (s .cube ≡ true) → (r ≡ 38) × (p ≡ taskCount s)
