@@ -22,10 +22,10 @@ extern "C" {
 /* The fixed length of work areas and states, in words of 32 bits. */
 #define ZELDRUPA_WORK_LENGTH 4992
 
-/* The greatest lengths in bytes: of a sheet that is read, of a bundle that is accepted, and of a listing.
- * A longer input may be lent: it is refused. */
+/* The greatest lengths in bytes: of a sheet that is read, of a bundle that is accepted, with all its releases,
+ * and of a listing. A longer input may be lent: it is refused. */
 #define ZELDRUPA_LONGEST_SHEET 8459
-#define ZELDRUPA_LONGEST_BUNDLE 6693
+#define ZELDRUPA_LONGEST_BUNDLE 10277
 #define ZELDRUPA_LONGEST_LISTING 7453
 
 /* The numbers of the refusals; the place is an offset where nothing else is said. */
@@ -48,7 +48,7 @@ enum zeldrupa_refusal {
     ZELDRUPA_BUNDLE_TAIL = 24,
     ZELDRUPA_UNKNOWN_NUMBER = 25,
     ZELDRUPA_RUN_COUNT = 26,       /* the lowest task */
-    ZELDRUPA_OVER_STORE = 28,      /* the lowest processor */
+    ZELDRUPA_OVER_STORE = 28,      /* the lowest processor whose highest store in use is above the limit */
     ZELDRUPA_STUCK = 29,           /* the lowest unfinished processor */
     ZELDRUPA_WRONG_CLAIM = 30,     /* the latest clock */
     ZELDRUPA_SEND = 31,            /* the lowest link with a wrong message: its send is wrong */
@@ -56,7 +56,8 @@ enum zeldrupa_refusal {
     ZELDRUPA_LOCAL_ORDER = 33,     /* that link, inside one processor: its source runs behind its target */
     ZELDRUPA_BOTH_REFUSED = 34,    /* 0 */
     ZELDRUPA_FORMULA = 35,         /* the first byte that no formula could have there, or the length */
-    ZELDRUPA_VALUE = 36            /* 0 */
+    ZELDRUPA_VALUE = 36,           /* 0 */
+    ZELDRUPA_WRONG_RELEASE = 37    /* the first wrong one; given behind 33 and before 28 */
 };
 
 /* Lent bytes: the first of them, and their number. */
@@ -102,6 +103,12 @@ uint8_t zeldrupa_write_bundle(const uint8_t *sheet, size_t sheet_length, const u
 /* Checks a bundle for a sheet: 0 if it is accepted. *place is then 0. */
 uint8_t zeldrupa_check(const uint8_t *sheet, size_t sheet_length, const uint8_t *bundle, size_t bundle_length,
                        uint32_t *work, size_t work_length, uint64_t *place);
+
+/* Writes an accepted bundle with a release of each result and each received message as early as it is right, or
+ * as it is if it has any release. It claims the same and never needs more store. Refused as zeldrupa_check
+ * refuses. *place is the number of bytes. */
+uint8_t zeldrupa_release(const uint8_t *sheet, size_t sheet_length, const uint8_t *bundle, size_t bundle_length,
+                         uint32_t *work, size_t work_length, uint8_t *out, size_t out_length, uint64_t *place);
 
 /* Checks two bundles for a sheet: *kept becomes the better one, the very bytes that were lent and no copy. An
  * accepted bundle is better than a refused one, then the smaller claim, then fewer processors that run a task,

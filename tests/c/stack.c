@@ -52,6 +52,7 @@ static void list(void) { zeldrupa_listing(SHEET, WORK, LENT(listing), &place); }
 static void read_bundle(void) { zeldrupa_read_bundle(SHEET, BUNDLE, WORK, LENT(commands), &claim, &values); }
 static void write_bundle(void) { zeldrupa_write_bundle(SHEET, commands, values, claim, WORK, LENT(listing), &place); }
 static void check(void) { zeldrupa_check(SHEET, BUNDLE, WORK, &place); }
+static void release(void) { zeldrupa_release(SHEET, BUNDLE, WORK, LENT(listing), &place); }
 static void better(void) { zeldrupa_better(SHEET, BUNDLE, BUNDLE, WORK, &kept, &place); }
 static void start(void) { zeldrupa_start(SHEET, BUNDLE, WORK, STATE, &place); }
 static void step(void) { zeldrupa_step(SHEET, BUNDLE, STATE, 0, &place); }
@@ -121,6 +122,7 @@ int main(void)
     judge("read_bundle", read_bundle);
     judge("write_bundle", write_bundle);
     judge("check", check);
+    judge("release", release);
     judge("better", better);
     judge("start", start);
     judge("step", step);

@@ -23,18 +23,22 @@ pub const WEIGHT: &str = "weight";
 pub const GENERATE: &str = "generate";
 pub const PLAN: &str = "plan";
 pub const CHECK: &str = "check";
+/// The calls on bundles with releases are these, the check and the step.
+pub const RELEASE: &str = "release";
+pub const START: &str = "start";
 
 /// The name of each call, and how it is measured.
-pub const CALLS: [(&str, Measure); 12] = [
+pub const CALLS: [(&str, Measure); 13] = [
     ("reading", reading),
     ("levels", levels),
     (PLAN, plan),
     (CHECK, check),
     (REFUSAL, refusal),
+    (RELEASE, release),
     ("better", better),
     (ONE_STEP, one_step),
     ("listing", listing),
-    ("start", start),
+    (START, start),
     ("run", run),
     (WEIGHT, weight),
     (GENERATE, generate),
@@ -100,6 +104,16 @@ fn refusal(case: &Case) -> Pair {
         case,
         |i| assert_eq!(black_box(product::check(&i.sheet, &i.wrong, &mut work)).0, 32),
         |i| assert!(black_box(interface::check(&i.sheet, &i.wrong)).is_err()),
+    )
+}
+
+/// The pass, which puts the releases in, or copies a bundle that has them.
+fn release(case: &Case) -> Pair {
+    let (mut work, mut out, mut own) = (area(), [0; MOST_BYTES], [0; MOST_BYTES]);
+    both(
+        case,
+        |i| succeeds(product::release(&i.sheet, &i.bundle, &mut work, &mut out)),
+        |i| passes(interface::release(&i.sheet, &i.bundle, &mut own)),
     )
 }
 

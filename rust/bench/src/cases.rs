@@ -10,10 +10,10 @@ use reference::trials;
 
 /// How many sheets a case has, but for K1.
 const SHEETS: usize = 8;
-/// Longer than any bundle or listing of a plan.
-pub const MOST_BYTES: usize = 8192;
+/// Longer than any bundle, with its releases or without, and any listing.
+pub const MOST_BYTES: usize = 12_288;
 
-/// A sheet with a plan.
+/// A sheet with a bundle that is accepted.
 pub struct Input {
     pub sheet: Vec<u8>,
     pub bundle: Vec<u8>,
@@ -31,19 +31,35 @@ impl Input {
         let mut bundle = vec![0; MOST_BYTES];
         let length = interface::plan(&sheet, &mut bundle).ok()?;
         bundle.truncate(length);
+        Some(Input::of(sheet, bundle))
+    }
+
+    /// The input of a sheet and its bundle.
+    fn of(sheet: Vec<u8>, bundle: Vec<u8>) -> Input {
         let wrong = one_receive_more(&sheet, &bundle);
         let choices = run_out(&sheet, &bundle);
-        Some(Input { sheet, copy: bundle.clone(), bundle, wrong, choices })
+        Input { sheet, copy: bundle.clone(), bundle, wrong, choices }
+    }
+
+    /// The same with the bundle's releases.
+    fn released(self) -> Input {
+        let mut bundle = vec![0; MOST_BYTES];
+        let length = interface::release(&self.sheet, &self.bundle, &mut bundle);
+        bundle.truncate(length.expect("an accepted bundle"));
+        Input::of(self.sheet, bundle)
     }
 }
 
 /// Sheets, or formulas, that are measured together.
+#[derive(Default)]
 pub struct Case {
     pub name: String,
     pub inputs: Vec<Input>,
     pub formulas: Vec<Vec<u8>>,
     /// What the sheets are made from, where they are test loads.
     pub loads: Vec<Load>,
+    /// Whether the bundles have their releases.
+    pub released: bool,
 }
 
 impl Case {
@@ -51,19 +67,25 @@ impl Case {
     fn made(name: impl Into<String>, make: impl Fn(&mut Random) -> sheets::Sheet) -> Case {
         let sheets = (1..).map(|seed| make(&mut Random::new(seed)).encode());
         let inputs = sheets.filter_map(Input::new).take(SHEETS).collect();
-        Case { name: name.into(), inputs, formulas: Vec::new(), loads: Vec::new() }
+        Case { name: name.into(), inputs, ..Case::default() }
+    }
+
+    /// The same sheets, whose bundles have their releases.
+    fn released(self, name: &str) -> Case {
+        let inputs = self.inputs.into_iter().map(Input::released).collect();
+        Case { name: name.into(), inputs, released: true, ..self }
     }
 
     /// One sheet that has a plan.
     fn of(name: &str, sheet: Vec<u8>) -> Case {
         let inputs = vec![Input::new(sheet).expect("it has a plan")];
-        Case { name: name.into(), inputs, formulas: Vec::new(), loads: Vec::new() }
+        Case { name: name.into(), inputs, ..Case::default() }
     }
 
     /// Formulas.
     fn weighed(name: &str, formulas: impl IntoIterator<Item = Vec<u8>>) -> Case {
         let formulas = formulas.into_iter().collect();
-        Case { name: name.into(), inputs: Vec::new(), formulas, loads: Vec::new() }
+        Case { name: name.into(), formulas, ..Case::default() }
     }
 
     /// The test loads of the first seeds, which all have a plan.
@@ -73,7 +95,7 @@ impl Case {
         let loads: Vec<Load> = loads.collect();
         let sheets = loads.iter().map(|load| load.to_bytes().expect("a load in range"));
         let inputs = sheets.map(|sheet| Input::new(sheet).expect("it has a plan")).collect();
-        Case { name: name.into(), inputs, formulas: Vec::new(), loads }
+        Case { name: name.into(), inputs, loads, ..Case::default() }
     }
 
     /// Whether there is a command to be stepped, or to be wrong.
@@ -117,7 +139,8 @@ fn long_formulas() -> impl Iterator<Item = Vec<u8>> {
 }
 
 /// Each shape of the largest sheet, the typical sheet, random and typical ones with unpacking, on a cube and
-/// with both, K1, a bare board; formulas; and test loads of seeds 1 to 8 of the largest and the typical size.
+/// with both, and with releases in their bundles, K1, a bare board; formulas; and test loads of seeds 1 to 8
+/// of the largest and the typical size.
 pub fn all() -> Vec<Case> {
     let largest = LARGEST.map(|shape| Case::made(shape.name(), |random| shape.sheet(random)));
     let typical = Case::made("typical", shapes::typical);
@@ -129,12 +152,16 @@ pub fn all() -> Vec<Case> {
         Case::made("typical cube", |random| shapes::cubed(shapes::typical(random))),
         Case::made("unpacked cube", |random| shapes::unpacked(shapes::cubed(any(random)))),
     ];
+    let released = [
+        Case::made("", |random| Largest::Random.sheet(random)).released("random released"),
+        Case::made("", shapes::typical).released("typical released"),
+    ];
     let small = [Case::of("K1", trials::k1_sheet()), Case::of("bare", trials::bare_sheet())];
     let short = Case::weighed("formulas", FORMULAS.map(|text| text.as_bytes().to_vec()));
     let formulas = [short, Case::weighed("long formulas", long_formulas())];
     let loads =
         [Case::loads("largest loads", 256, 1024, 16), Case::loads("typical loads", 40, 80, 8)];
-    let others = dressed.into_iter().chain(small).chain(formulas).chain(loads);
+    let others = dressed.into_iter().chain(released).chain(small).chain(formulas).chain(loads);
     largest.into_iter().chain([typical]).chain(others).collect()
 }
 

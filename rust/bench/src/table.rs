@@ -1,6 +1,9 @@
 //! The tables that are measured: calls on cases, a line for each.
 
-use crate::calls::{self, Measure, CALLS, CHECK, GENERATE, ONE_STEP, PLAN, REFUSAL, WEIGHT};
+use crate::calls::WEIGHT;
+use crate::calls::{
+    self, Measure, CALLS, CHECK, GENERATE, ONE_STEP, PLAN, REFUSAL, RELEASE, START,
+};
 use crate::cases::{self, Case};
 
 /// The numbers of tasks by which growth is shown.
@@ -42,7 +45,8 @@ impl Table {
     }
 
     /// Its lines, case by case, but for calls that need a command where there is none; formulas are
-    /// weighed, and nothing else is; test loads are made, planned and checked.
+    /// weighed, and nothing else is; test loads are made, planned and checked; bundles with releases are
+    /// checked, passed, started and stepped.
     pub fn lines(&self) -> impl Iterator<Item = Line<'_>> {
         let of = |case| self.calls.iter().map(move |&(call, measure)| Line { case, call, measure });
         let lines = self.cases.iter().flat_map(of);
@@ -50,6 +54,9 @@ impl Table {
             match (line.case.formulas.is_empty(), line.case.loads.is_empty()) {
                 (false, _) => line.call == WEIGHT,
                 (true, false) => [GENERATE, PLAN, CHECK].contains(&line.call),
+                (true, true) if line.case.released => {
+                    [CHECK, RELEASE, START, ONE_STEP].contains(&line.call)
+                }
                 (true, true) => ![WEIGHT, GENERATE].contains(&line.call),
             }
         });

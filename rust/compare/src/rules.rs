@@ -10,6 +10,7 @@ use reference::better::better;
 use reference::bundle::{from_values, Bundle};
 use reference::checker::merits;
 use reference::planner::{plan_with, Turn};
+use reference::release::pass;
 use reference::sheet::Sheet;
 use reference::{graph, listing};
 
@@ -28,6 +29,7 @@ pub trait Rules {
     fn read_bundle(sheet: &[u8], bundle: &[u8]) -> Answered<(Vec<u16>, u32)>;
     fn write_bundle(sheet: &[u8], values: &bundles::Bundle) -> Answered<Vec<u8>>;
     fn check(sheet: &[u8], bundle: &[u8]) -> Answered<()>;
+    fn release(sheet: &[u8], bundle: &[u8]) -> Answered<Vec<u8>>;
     fn weight(text: &[u8], letters: &[u32]) -> Answered<u16>;
 
     /// The better of two bundles, one of the slices themselves; counts what decided.
@@ -114,6 +116,10 @@ impl Rules for Fast {
 
     fn check(sheet: &[u8], bundle: &[u8]) -> Answered<()> {
         reference::interface::check(sheet, bundle).map_err(refusal)
+    }
+
+    fn release(sheet: &[u8], bundle: &[u8]) -> Answered<Vec<u8>> {
+        pass(&read(sheet)?, bundle).map_err(refusal)
     }
 
     fn better<'a>(
@@ -245,6 +251,10 @@ impl Rules for Literal {
 
     fn check(sheet: &[u8], bundle: &[u8]) -> Answered<()> {
         literal::interface::check(sheet, bundle)
+    }
+
+    fn release(sheet: &[u8], bundle: &[u8]) -> Answered<Vec<u8>> {
+        literal::interface::release(sheet, bundle)
     }
 
     fn better<'a>(

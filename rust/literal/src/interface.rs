@@ -12,6 +12,7 @@ use crate::load;
 use crate::machine::Machine;
 use crate::placing::{place, Placed, Rules};
 use crate::refusal::{output, Refusal};
+use crate::release;
 use crate::sheet::{Link, Sheet, Task};
 
 /// The tables of a sheet, as docs/INTERFACE.md has them.
@@ -106,6 +107,14 @@ pub fn write_bundle(sheet: &[u8], commands: &[u16], claim: u32) -> Result<Vec<u8
 pub fn check(sheet: &[u8], bundle: &[u8]) -> Result<(), Refusal> {
     let sheet = Sheet::read(sheet)?;
     checker::check(&sheet, &Bundle::read(&sheet, bundle)?)
+}
+
+/// The bytes of a bundle with its releases: "a refused one gets the checker's refusal".
+pub fn release(sheet: &[u8], bundle: &[u8]) -> Result<Vec<u8>, Refusal> {
+    let sheet = Sheet::read(sheet)?;
+    let read = Bundle::read(&sheet, bundle)?;
+    checker::check(&sheet, &read)?;
+    Ok(release::passed(&sheet, &read, bundle))
 }
 
 /// The better of two bundles, and what decided.

@@ -19,6 +19,7 @@ pub mod load;
 pub mod machine;
 pub mod placing;
 pub mod refusal;
+pub mod release;
 pub mod sheet;
 
 pub use refusal::Refusal;

@@ -3,6 +3,7 @@
 use crate::bundle::{self, Bundle};
 use crate::load::Load;
 use crate::refusal::{lend, Refusal};
+use crate::release::pass;
 use crate::sheet::Sheet;
 use crate::{better, checker, formula, graph, listing, planner};
 
@@ -69,9 +70,14 @@ pub fn write_bundle(
     lend(&bundle::from_values(&Sheet::read(sheet)?, commands, claim)?, out)
 }
 
-/// Checks a bundle against its sheet (1 to 8, 10, 21 to 33).
+/// Checks a bundle against its sheet (1 to 8, 10, 21 to 33, 37).
 pub fn check(sheet: &[u8], bundle: &[u8]) -> Result<(), Refusal> {
     checker::check(&Sheet::read(sheet)?, bundle)
+}
+
+/// Writes an accepted bundle with its releases and gives its length (1 to 8, 10, 21 to 33, 37, 12).
+pub fn release(sheet: &[u8], bundle: &[u8], out: &mut [u8]) -> Result<usize, Refusal> {
+    lend(&pass(&Sheet::read(sheet)?, bundle)?, out)
 }
 
 /// The better of two bundles for a sheet, one of the two slices themselves (1 to 8, 10, 34).

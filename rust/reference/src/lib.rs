@@ -20,6 +20,7 @@ pub mod messages;
 pub mod planner;
 mod processor_set;
 pub mod refusal;
+pub mod release;
 pub mod sheet;
 mod task_set;
 pub mod trials;

@@ -68,6 +68,8 @@ pub const LOCAL_ORDER: u8 = 33;
 pub const FORMULA: u8 = 35;
 /// A formula's value, or the list of the letters' values, is out of range.
 pub const VALUE: u8 = 36;
+/// What is released is not held, or is still needed.
+pub const WRONG_RELEASE: u8 = 37;
 
 /// Of two bundles both are refused.
 pub const BOTH_REFUSED: u8 = 34;

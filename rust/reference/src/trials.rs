@@ -5,7 +5,7 @@ use crate::bundle::{write_claim, Command};
 use crate::load::Load;
 use crate::sheet::Sheet;
 use crate::{figures, listing, planner};
-use Command::{Open, Receive, Run, Send};
+use Command::{Discard, Open, Receive, Release, Run, Send};
 
 /// K1: four tasks of store 10 and three links of 4 bytes on three processors.
 pub fn k1_sheet() -> Vec<u8> {
@@ -138,6 +138,64 @@ link 0 -> 4 cost 1 bytes 4
 link 1 -> 4 cost 2 bytes 4
 ";
 
+/// K1's bundle behind the pass: each result and each message is released behind its last use.
+pub const K1_RELEASED: [u8; 43] = [
+    0x50, 0x00, 0x52, 0x03, 0x53, 0x00, 0x00, 0x56, 0x02, 0x00, 0x52, 0x01, // processor 0
+    0x46, 0x01, 0x46, 0x03, 0x47, 0x02, 0x00, // its releases
+    0x50, 0x01, 0x52, 0x00, 0x53, 0x02, 0x00, 0x46, 0x00, // processor 1
+    0x56, 0x00, 0x00, 0x52, 0x02, 0x46, 0x02, 0x47, 0x00, 0x00, // its other half
+    0x5A, 0x05, 0x00, 0x00, 0x00,
+];
+
+/// Five tasks whose stores fit two processors only if results are released once they are read.
+pub fn release_sheet() -> Vec<u8> {
+    let tasks = [4, 60, 6, 40, 8, 50, 3, 30, 2, 10];
+    let links = [0, 1, 9, 60, 0, 3, 2, 60, 1, 2, 9, 40, 2, 4, 9, 50];
+    valid_sheet(2, 100, &tasks, &links)
+}
+
+/// The programmes that fit it.
+pub fn release_bundle() -> Vec<u8> {
+    let chain = [Run(0), Send(1), Run(1), Release(0), Run(2), Release(1), Run(4)];
+    let beside = [Receive(1), Run(3), Discard(1), Release(3)];
+    let ends = [Release(2), Release(4)];
+    bundle(&[&[Open(0)], &chain[..], &ends, &[Open(1)], &beside].concat(), 20)
+}
+
+/// Both as text.
+const RELEASE_TEXT: &str = "\
+# The stores of the chain come to 160, but never more than 100 of them are in use.
+board processors 2 store 100
+
+task record   work 4 store 60
+task filter   work 6 store 40
+task spectrum work 8 store 50
+task archive  work 3 store 30
+task report   work 2 store 10
+
+link record -> filter   cost 9 bytes 60
+link record -> archive  cost 2 bytes 60
+link filter -> spectrum cost 9 bytes 40
+link spectrum -> report cost 9 bytes 50
+
+processor 0
+  run record
+  send record -> archive
+  run filter
+  release record
+  run spectrum
+  release filter
+  run report
+  release spectrum
+  release report
+processor 1
+  receive record -> archive
+  run archive
+  discard record -> archive
+  release archive
+claim 20
+";
+
 /// A load whose six tries have each way to go: 2 to 2 twice, 2 to 1, 1 to 2, which is written, 1 to 2
 /// again, and 0 to 2.
 pub const SMALL_LOAD: Load = Load { seed: 3, tasks: 3, tries: 6, processors: 2, limit: 100 };
@@ -237,6 +295,10 @@ pub fn files() -> Vec<(String, Vec<u8>)> {
         ("cube.sheet", cube_sheet()),
         ("cube.bundle", planned(&cube_sheet())),
         ("cube.txt", CUBE_TEXT.into()),
+        ("k1-released.bundle", K1_RELEASED.to_vec()),
+        ("release.sheet", release_sheet()),
+        ("release.bundle", release_bundle()),
+        ("release.txt", RELEASE_TEXT.into()),
         ("load-small.sheet", load_sheet(SMALL_LOAD)),
         ("load.sheet", load_sheet(LOAD)),
         ("figures/001-F6.1.bundle", figures::gauss_jordan_bundle()),

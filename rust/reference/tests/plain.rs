@@ -179,13 +179,37 @@ fn any_choices(
     assert!(!machine.step(u64::MAX).stepped());
 }
 
+/// A pair through checker, pass and machine; the number that the checker gave.
+fn judged(random: &mut Random, values: &sheets::Sheet, bundle: &[u8]) -> usize {
+    let sheet = values.encode();
+    let verdict = interface::check(&sheet, bundle);
+    let literal = literal::interface::check(&sheet, bundle);
+    assert_eq!(verdict.map_err(same), literal, "{values:?} {bundle:02X?}");
+    let passed = whole(|out| interface::release(&sheet, bundle, out));
+    let literal = literal::interface::release(&sheet, bundle);
+    assert_eq!(passed, literal, "{values:?} {bundle:02X?}");
+
+    let valid = Sheet::read(&sheet).unwrap();
+    literal::interface::start(&sheet, bundle, |literal| {
+        match (Machine::start(&valid, bundle), literal) {
+            (Ok(machine), Ok(literal)) => {
+                any_choices(random, values.limit, machine, literal, verdict)
+            }
+            (machine, literal) => {
+                assert_eq!(machine.err().map(same), literal.err());
+                assert!(verdict.is_err_and(|refusal| !matches!(refusal.number, 29 | 30)));
+            }
+        }
+    });
+    verdict.err().map_or(0, |refusal| refusal.number.into())
+}
+
 #[test]
 fn verdicts_and_machines() {
     let mut random = Random::new(4);
-    let mut counts = [0; 34];
+    let mut counts = [0; 38];
     for _ in 0..8000 {
         let values = sheets::small(&mut random);
-        let sheet = values.encode();
         let bundle = match random.below(3) {
             0 => bundles::tangled(&mut random, &values),
             _ => bundles::orderly(&mut random, &values),
@@ -194,26 +218,63 @@ fn verdicts_and_machines() {
         for _ in 0..random.below(3) {
             damage::bytes(&mut random, &mut bundle, damage::bundle_command);
         }
-        let verdict = interface::check(&sheet, &bundle);
-        let literal = literal::interface::check(&sheet, &bundle);
-        assert_eq!(verdict.map_err(same), literal, "{values:?} {bundle:02X?}");
-        counts[verdict.err().map_or(0, |refusal| usize::from(refusal.number))] += 1;
-
-        let valid = Sheet::read(&sheet).unwrap();
-        literal::interface::start(&sheet, &bundle, |literal| {
-            match (Machine::start(&valid, &bundle), literal) {
-                (Ok(machine), Ok(literal)) => {
-                    any_choices(&mut random, values.limit, machine, literal, verdict)
-                }
-                (machine, literal) => {
-                    assert_eq!(machine.err().map(same), literal.err());
-                    assert!(verdict.is_err_and(|refusal| !matches!(refusal.number, 29 | 30)));
-                }
-            }
-        });
+        counts[judged(&mut random, &values, &bundle)] += 1;
     }
     for number in [0, 21, 22, 23, 24, 25, 26, 28, 29, 30, 31, 32, 33] {
         assert!(counts[number] > 10, "{number} came {} times", counts[number]);
+    }
+}
+
+/// Releases at right positions, moved, doubled, dropped, with another number and of the other kind.
+#[test]
+fn releases() {
+    let mut random = Random::new(10);
+    let mut counts = [0; 38];
+    for _ in 0..12_000 {
+        let mut values = sheets::small(&mut random);
+        let mut bundle = match random.once_in(4) {
+            true => bundles::tangled(&mut random, &values),
+            false => bundles::orderly(&mut random, &values),
+        };
+        bundles::release(&mut random, &values, &mut bundle);
+        let need = bundles::needs(&values, &bundle).into_iter().max().unwrap_or(0);
+        values.limit = (need + random.below(3) as u32).saturating_sub(1);
+        for _ in 0..random.below(3) {
+            bundles::unsettle(&mut random, &values, &mut bundle);
+        }
+        counts[judged(&mut random, &values, &bundle.encode())] += 1;
+    }
+    for number in [0, 23, 25, 28, 29, 30, 37] {
+        assert!(counts[number] > 10, "{number} came {} times", counts[number]);
+    }
+}
+
+/// What is passed is accepted, needs no more store, and is passed to itself.
+#[test]
+fn passed_bundles() {
+    let mut random = Random::new(11);
+    for round in 0..3000 {
+        let mut values = match round % 64 {
+            0 => sheets::valid(&mut random),
+            _ => sheets::small(&mut random),
+        };
+        let bundle = bundles::orderly(&mut random, &values);
+        let needs = bundles::needs(&values, &bundle);
+        values.limit = needs.iter().copied().max().unwrap_or(0);
+        let sheet = values.encode();
+        let mut out = vec![0; 10_277];
+        let length = interface::release(&sheet, &bundle.encode(), &mut out).unwrap();
+        let passed = &out[..length];
+        assert_eq!(interface::check(&sheet, passed), Ok(()));
+        let mut commands = vec![0; 2 * length];
+        let (count, claim) = interface::read_bundle(&sheet, passed, &mut commands).unwrap();
+        commands.truncate(count);
+        assert_eq!(claim, bundle.claim);
+        let after = bundles::needs(&values, &bundles::Bundle { commands, claim });
+        assert!(after.iter().zip(&needs).all(|(after, before)| after <= before));
+        let mut again = vec![0; length];
+        assert_eq!(interface::release(&sheet, passed, &mut again), Ok(length));
+        assert_eq!(again, passed);
     }
 }
 
@@ -221,7 +282,7 @@ fn verdicts_and_machines() {
 #[test]
 fn bare_boards() {
     let mut random = Random::new(7);
-    let mut counts = [0; 34];
+    let mut counts = [0; 38];
     for _ in 0..8000 {
         let values = sheets::bare(&mut random);
         let sheet = values.encode();
@@ -235,22 +296,7 @@ fn bare_boards() {
         let literal = literal::interface::write_bundle(&sheet, &bundle.commands, bundle.claim);
         assert_eq!(written, literal, "{values:?} {bundle:?}");
         let bytes = bundles::frayed(&mut random, &bundle);
-        let verdict = interface::check(&sheet, &bytes);
-        assert_eq!(
-            verdict.map_err(same),
-            literal::interface::check(&sheet, &bytes),
-            "{bytes:02X?}"
-        );
-        counts[verdict.err().map_or(0, |refusal| usize::from(refusal.number))] += 1;
-        let valid = Sheet::read(&sheet).unwrap();
-        literal::interface::start(&sheet, &bytes, |literal| {
-            match (Machine::start(&valid, &bytes), literal) {
-                (Ok(machine), Ok(literal)) => {
-                    any_choices(&mut random, values.limit, machine, literal, verdict)
-                }
-                (machine, literal) => assert_eq!(machine.err().map(same), literal.err()),
-            }
-        });
+        counts[judged(&mut random, &values, &bytes)] += 1;
     }
     for number in [0, 21, 23, 24, 25, 30] {
         assert!(counts[number] > 100, "{number} came {} times", counts[number]);

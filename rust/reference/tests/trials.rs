@@ -5,6 +5,7 @@ use reference::graph::levels;
 use reference::listing;
 use reference::machine::{Machine, Step};
 use reference::planner::{plan, Plan};
+use reference::release::pass;
 use reference::sheet::Sheet;
 use reference::trials::*;
 use reference::Refusal;
@@ -191,6 +192,33 @@ fn cube() {
     assert_eq!(rows(&planned(&plain))[4], (2, 3, 4));
     assert_eq!(levels(&sheet), levels(&read(&plain)));
     assert_eq!(check(&read(&plain), &plan.to_bundle(&sheet)), refused(30, 4));
+}
+
+/// C-18: K1 behind the pass, and a sheet that only fits with releases.
+#[test]
+fn released() {
+    let k1 = read(&k1_sheet());
+    assert_eq!(pass(&k1, &K1_BUNDLE), Ok(K1_RELEASED.to_vec()));
+    assert_eq!(pass(&k1, &K1_RELEASED), Ok(K1_RELEASED.to_vec()));
+    assert_eq!(check(&k1, &K1_RELEASED), Ok(()));
+    assert_eq!(pass(&k1, &k7_bundle()), refused(30, 5));
+    // Processor 1 holds task 0's result no more when it receives: 14 where it needed 24.
+    let store = |sheet: &Sheet, bundle: &[u8]| {
+        let mut machine = Machine::start(sheet, bundle).unwrap();
+        let mut highest = 0;
+        while (0..2).any(|k| machine.step(k).stepped()) {
+            highest = highest.max(machine.processors()[1].store);
+        }
+        highest
+    };
+    assert_eq!([store(&k1, &K1_BUNDLE), store(&k1, &K1_RELEASED)], [24, 14]);
+
+    let (sheet, bundle) = (read(&release_sheet()), release_bundle());
+    assert_eq!(plan(&sheet).err(), refused::<()>(11, 3).err());
+    assert_eq!(check(&sheet, &bundle), Ok(()));
+    // Without the release of task 0, 150 are in use behind the run of task 2.
+    let kept = [&bundle[..9], &bundle[11..]].concat();
+    assert_eq!((bundle[9..11].to_vec(), check(&sheet, &kept)), (vec![0x46, 0], refused(28, 0)));
 }
 
 #[test]

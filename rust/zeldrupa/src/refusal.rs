@@ -37,7 +37,7 @@ impl Refusal {
         }
     }
 
-    /// Its number in documents 01 and 02: 1 to 13 without 9, or 21 to 36 without 27.
+    /// Its number in documents 01 and 02: 1 to 13 without 9, or 21 to 37 without 27.
     pub fn number(self) -> u8 {
         self.number
     }

@@ -9,6 +9,7 @@ mod levels;
 mod list;
 mod pack;
 mod plan;
+mod release;
 mod run;
 mod show;
 mod weight;
@@ -35,10 +36,11 @@ pub struct Command {
     pub answer: fn(&mut Loader, &Arguments) -> Result<Answer, Fault>,
 }
 
-pub static COMMANDS: [Command; 12] = [
+pub static COMMANDS: [Command; 13] = [
     plan::COMMAND,
     check::COMMAND,
     better::COMMAND,
+    release::COMMAND,
     list::COMMAND,
     run::COMMAND,
     gantt::COMMAND,

@@ -11,6 +11,7 @@ mod formulas;
 mod loads;
 mod machine;
 mod plans;
+mod releases;
 mod small;
 mod unpacking;
 
@@ -78,6 +79,11 @@ pub const FAST: &[Family<Fast>] = &[
     ("cut pairs", machine::cut),
     ("largest pairs", machine::largest),
     ("any words as state", machine::any_states),
+    ("releases", releases::many),
+    ("releases everywhere", releases::everywhere),
+    ("passes", releases::passes),
+    ("trial passes", releases::trials),
+    ("large passes", releases::large),
     ("rivals", choices::rivals),
     ("even rivals", choices::even),
     ("bare rivals", choices::bare),
@@ -123,6 +129,10 @@ pub const LITERAL: &[Family<Literal>] = &[
     ("damaged small bundles", small::damaged_bundles),
     ("small sheets in fault", small::sheets_in_fault),
     ("early ends", early::ends),
+    ("releases", releases::small_ones),
+    ("releases everywhere", releases::everywhere),
+    ("passes", releases::passes),
+    ("trial passes", releases::trials),
     ("even rivals", choices::even),
     ("bare rivals", choices::bare),
     ("every short text", formulas::every_short),
