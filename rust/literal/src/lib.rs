@@ -12,6 +12,7 @@ pub mod checker;
 pub mod commands;
 pub mod formulas;
 pub mod interface;
+pub mod least;
 pub mod levels;
 pub mod listing;
 pub mod load;
