@@ -13,6 +13,7 @@ pub(crate) enum Counts {
     Nothing,
     FormulaBytes,
     Value,
+    Size,
 }
 
 /// A refusal: its number, its word in the trade, a sentence on why there is no result, and a remedy.
@@ -30,7 +31,7 @@ pub(crate) fn kind(number: u8) -> Option<&'static Kind> {
 }
 
 /// All of them; docs/FORMAT.md has the same sentences.
-pub(crate) static KINDS: [Kind; 27] = [
+pub(crate) static KINDS: [Kind; 28] = [
     Kind {
         number: 1,
         word: "cut sheet",
@@ -236,6 +237,13 @@ pub(crate) static KINDS: [Kind; 27] = [
                 4,294,967,295, or the list of the letters' values has not 26 of them.",
         remedy:
             "Correct the formula or the values; count work in a coarser unit if it is too large.",
+    },
+    Kind {
+        number: 38,
+        word: "not small",
+        counts: Counts::Size,
+        cause: "The least time is found for sheets of at most six tasks that are no cube.",
+        remedy: "Plan the sheet, or take the tasks that matter most into a sheet of their own.",
     },
 ];
 
