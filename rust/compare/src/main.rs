@@ -32,6 +32,8 @@ const FEWEST_PAIRS: usize = 200_000;
 const FEWEST_STUCK: usize = 3000;
 /// The fewest formulas that are weighed.
 const FEWEST_FORMULAS: usize = 1_000_000;
+/// The fewest sheets whose least time is found.
+const FEWEST_LEAST: usize = 20_000;
 /// The fewest test loads.
 const FEWEST_LOADS: usize = 50_000;
 /// The fewest sheets with unpacking, of cubes, and with a number that is skipped, that are planned,
@@ -112,6 +114,7 @@ fn fast_shortfalls(tally: &Tally) -> Vec<String> {
         ("pairs", tally.calls_of(Function::Check), FEWEST_PAIRS),
         ("pairs that get stuck", tally.answers(Function::Check, STUCK), FEWEST_STUCK),
         ("formulas", tally.calls_of(Function::Weight), FEWEST_FORMULAS),
+        ("least times", tally.answers(Function::Least, 0), FEWEST_LEAST),
         ("test loads", tally.calls_of(Function::Generate), FEWEST_LOADS),
     ];
     counts.into_iter().chain(tally.dressed(FEWEST_DRESSED[0])).filter_map(shortfall).collect()

@@ -9,6 +9,7 @@ pub enum Function {
     Generate,
     Levels,
     Plan,
+    Least,
     Listing,
     ReadBundle,
     WriteBundle,
@@ -24,12 +25,13 @@ pub enum Function {
 }
 
 /// Every function that is compared.
-pub const FUNCTIONS: [Function; 17] = [
+pub const FUNCTIONS: [Function; 18] = [
     Function::ReadSheet,
     Function::WriteSheet,
     Function::Generate,
     Function::Levels,
     Function::Plan,
+    Function::Least,
     Function::Listing,
     Function::ReadBundle,
     Function::WriteBundle,
@@ -56,6 +58,7 @@ impl Function {
             Function::Generate => "generate",
             Function::Levels => "levels",
             Function::Plan => "plan",
+            Function::Least => "least",
             Function::Listing => "listing",
             Function::ReadBundle => "read_bundle",
             Function::WriteBundle => "write_bundle",
@@ -79,6 +82,7 @@ impl Function {
             Function::WriteSheet => matches!(number, 0 | 1 | 5..=8 | 10 | 12 | 13),
             Function::Generate => matches!(number, 0 | 6 | 12 | 13),
             Function::Plan => sheet || matches!(number, 11 | 12),
+            Function::Least => sheet || matches!(number, 11 | 12 | 38),
             Function::Listing => matches!(number, 0 | 12 | 13),
             Function::ReadBundle | Function::WriteBundle => {
                 sheet || number == 12 || matches!(number, 21..=25)
@@ -95,7 +99,7 @@ impl Function {
 }
 
 /// The greatest number of a refusal, and every number that an answer can have.
-const GREATEST: u8 = 36;
+const GREATEST: u8 = 38;
 const NUMBERS: std::ops::RangeInclusive<u8> = 0..=GREATEST;
 
 /// The rules that give a task its processor: the steps, and the guard where it bars the processor that

@@ -1,7 +1,7 @@
 //! The refusals of the least time: a sheet that is not small, and one for which no arrangement fits.
 
 use super::explanation::{counted, counts};
-use super::{seen, About, Explanation, Refusal};
+use super::{seen, About, Explanation, Refusal, Subject};
 
 /// The number of a sheet without store enough, and what it means where all arrangements were tried.
 const NO_STORE: u8 = 11;
@@ -36,6 +36,7 @@ impl Refusal {
             cause: CAUSE,
             place: stores(&about),
             remedy: "Raise the store limit or the processors, or make the tasks smaller.",
+            subject: Subject::Other,
             ..explained
         }
     }
