@@ -33,7 +33,7 @@ const FEWEST_STUCK: usize = 3000;
 /// The fewest formulas that are weighed.
 const FEWEST_FORMULAS: usize = 1_000_000;
 /// The fewest sheets whose least time is found.
-const FEWEST_LEAST: usize = 20_000;
+const FEWEST_LEAST: usize = 15_000;
 /// The fewest test loads.
 const FEWEST_LOADS: usize = 50_000;
 /// The fewest sheets with unpacking, of cubes, and with a number that is skipped, that are planned,
