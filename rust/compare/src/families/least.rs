@@ -73,7 +73,7 @@ pub fn every_three<R: Rules>(c: &mut Comparison<R>) -> Outcome {
 pub fn not_small<R: Rules>(c: &mut Comparison<R>) -> Outcome {
     for round in 0..16_000 {
         let random = &mut c.random;
-        let tasks = random.within(0..=2);
+        let tasks = random.within(0..=3);
         let small = sheets::compact(random, tasks);
         let sheet = match round % 4 {
             0 => {
@@ -82,7 +82,11 @@ pub fn not_small<R: Rules>(c: &mut Comparison<R>) -> Outcome {
             }
             1 => sheets::Sheet { cube: 1, ..small }.encode(),
             2 => sheets::bare(random).encode(),
-            _ => faulty_sheet(random, &small, if round % 64 == 3 { 2 } else { round / 4 % 2 }),
+            // Of three tasks in full order a damage doubles a link now and then.
+            _ => {
+                let linked = sheets::with_shape(random, 3, sheets::Shape::Dense);
+                faulty_sheet(random, &linked, if round % 64 == 3 { 2 } else { round / 4 % 2 })
+            }
         };
         c.least(&sheet)?;
     }
