@@ -1,5 +1,5 @@
-/* The functions of the static library libzeldrupa.a: planner, checker, the better of two bundles, stepping
- * machine, test loads and weights as formulas.
+/* The functions of the static library libzeldrupa.a: planner, least time of small sheets, checker, the better of two
+ * bundles, stepping machine, test loads and weights as formulas.
  *
  * docs/INTERFACE.md has each of them in full. Of all of them it holds that:
  * - A slice is a pointer and then its length in elements. The memory has to be valid, no part of it that is
@@ -39,7 +39,7 @@ enum zeldrupa_refusal {
     ZELDRUPA_LOOSE_LINK = 7,
     ZELDRUPA_DOUBLED_LINK = 8,
     ZELDRUPA_LOOP = 10,            /* the lowest task on a circle */
-    ZELDRUPA_NO_STORE = 11,        /* that task */
+    ZELDRUPA_NO_STORE = 11,        /* that task; of zeldrupa_least the last task */
     ZELDRUPA_SHORT_OUTPUT = 12,    /* the length needed */
     ZELDRUPA_SHORT_WORK_AREA = 13, /* ZELDRUPA_WORK_LENGTH */
     ZELDRUPA_CUT_BUNDLE = 21,
@@ -57,7 +57,8 @@ enum zeldrupa_refusal {
     ZELDRUPA_BOTH_REFUSED = 34,    /* 0 */
     ZELDRUPA_FORMULA = 35,         /* the first byte that no formula could have there, or the length */
     ZELDRUPA_VALUE = 36,           /* 0 */
-    ZELDRUPA_WRONG_RELEASE = 37    /* the first wrong one; given behind 33 and before 28 */
+    ZELDRUPA_WRONG_RELEASE = 37,   /* the first wrong one; given behind 33 and before 28 */
+    ZELDRUPA_NOT_SMALL = 38        /* the number of tasks */
 };
 
 /* Lent bytes: the first of them, and their number. */
@@ -124,6 +125,13 @@ uint8_t zeldrupa_better(const uint8_t *sheet, size_t sheet_length, const uint8_t
  * bare board, a sheet without tasks. */
 uint8_t zeldrupa_plan(const uint8_t *sheet, size_t sheet_length, uint32_t *work, size_t work_length,
                       uint8_t *out, size_t out_length, uint64_t *place);
+
+/* Writes the best bundle of a sheet of at most six tasks that is no cube, in the form in which a plan is written and
+ * without an empty programme: the least claim, then fewest processors, then the lowest bytes. ZELDRUPA_NOT_SMALL
+ * behind the refusals of the sheet, then ZELDRUPA_NO_STORE if no bundle without releases is accepted. *place is the
+ * number of bytes. */
+uint8_t zeldrupa_least(const uint8_t *sheet, size_t sheet_length, uint32_t *work, size_t work_length,
+                       uint8_t *out, size_t out_length, uint64_t *place);
 
 /* Writes the listing of a sheet's plan, or of its refusal. *place is the number of bytes. */
 uint8_t zeldrupa_listing(const uint8_t *sheet, size_t sheet_length, uint32_t *work, size_t work_length,

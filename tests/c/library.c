@@ -1,5 +1,5 @@
 /* The library from C: each of its functions on the trial sheet K1 and on a bare board, the plan of a free link, a board
- * with unpacking, a cube, releases, formulas, test loads, and refusals with number and place. */
+ * with unpacking, a cube, releases, the least time, formulas, test loads, and refusals with number and place. */
 
 #include <stdio.h>
 #include <string.h>
@@ -330,6 +330,33 @@ static void releases(const char *folder)
     ANSWERS(zeldrupa_check(five, five_length, fits, fits_length - 2, WORK, &place), ZELDRUPA_OVER_STORE, 0);
 }
 
+/* The least time: K1's best bundle, K5's, which has no plan, and what is refused. */
+static void least(const char *folder)
+{
+    static const uint8_t bare[] = {0x4D, 3, 100, 0, 0, 0, 0x51}, bare_cube[] = {0x4D, 3, 100, 0, 0, 0, 0x48, 0x51};
+    static uint8_t small[ZELDRUPA_LONGEST_SHEET];
+    uint8_t stored[64], best[64], out[64];
+    size_t length = read_file(folder, "k1-least.bundle", best, sizeof best);
+    memset(out, 0xAA, sizeof out);
+    ANSWERS(zeldrupa_least(SHEET, WORK, LENT(out), &place), 0, 29);
+    EXPECT(length == 29 && memcmp(out, best, 29) == 0 && out[29] == 0xAA);
+    ANSWERS(zeldrupa_least(SHEET, WORK, out, 28, &place), ZELDRUPA_SHORT_OUTPUT, 29);
+    ANSWERS(zeldrupa_least(SHEET, work, ZELDRUPA_WORK_LENGTH - 1, LENT(out), &place), ZELDRUPA_SHORT_WORK_AREA,
+            ZELDRUPA_WORK_LENGTH);
+    ANSWERS(zeldrupa_least(sheet, 47, WORK, LENT(out), &place), ZELDRUPA_CUT_SHEET, 47);
+    size_t k5 = read_file(folder, "k5.sheet", small, sizeof small);
+    length = read_file(folder, "k5.bundle", stored, sizeof stored);
+    ANSWERS(zeldrupa_plan(small, k5, WORK, LENT(out), &place), ZELDRUPA_NO_STORE, 4);
+    ANSWERS(zeldrupa_least(small, k5, WORK, LENT(out), &place), 0, length);
+    EXPECT(memcmp(out, stored, length) == 0);
+    small[2] = 5;
+    ANSWERS(zeldrupa_least(small, k5, WORK, LENT(out), &place), ZELDRUPA_NO_STORE, 4);
+    ANSWERS(zeldrupa_least(LENT(bare), WORK, LENT(out), &place), 0, 5);
+    ANSWERS(zeldrupa_least(LENT(bare_cube), WORK, LENT(out), &place), ZELDRUPA_NOT_SMALL, 0);
+    ANSWERS(zeldrupa_generate(1, 7, 0, 2, 100, WORK, LENT(small), &place), 0, 42);
+    ANSWERS(zeldrupa_least(small, 42, WORK, LENT(out), &place), ZELDRUPA_NOT_SMALL, 7);
+}
+
 /* Formulas: the weight is the place. */
 static void weights(void)
 {
@@ -395,6 +422,7 @@ int main(int count, char **arguments)
         unpacking(folder);
         cube(folder);
         releases(folder);
+        least(folder);
         weights();
         loads(folder);
     }

@@ -17,6 +17,8 @@ pub type Measure = fn(&Case) -> Pair;
 /// The calls that need a command.
 pub const REFUSAL: &str = "check, 32";
 pub const ONE_STEP: &str = "one step";
+/// The call on sheets of six tasks, which is the only one on them.
+pub const LEAST: &str = "least";
 /// The call on formulas, which is the only one on them.
 pub const WEIGHT: &str = "weight";
 /// The calls on test loads, of which the first needs them.
@@ -28,7 +30,7 @@ pub const RELEASE: &str = "release";
 pub const START: &str = "start";
 
 /// The name of each call, and how it is measured.
-pub const CALLS: [(&str, Measure); 13] = [
+pub const CALLS: [(&str, Measure); 14] = [
     ("reading", reading),
     ("levels", levels),
     (PLAN, plan),
@@ -40,6 +42,7 @@ pub const CALLS: [(&str, Measure); 13] = [
     ("listing", listing),
     (START, start),
     ("run", run),
+    (LEAST, least),
     (WEIGHT, weight),
     (GENERATE, generate),
 ];
@@ -157,6 +160,15 @@ fn run(case: &Case) -> Pair {
         case,
         |i| succeeds(product::run(&i.sheet, &i.bundle, &i.choices, &mut work, &mut state)),
         |i| run_through(i, &i.choices),
+    )
+}
+
+fn least(case: &Case) -> Pair {
+    let (mut work, mut out, mut own) = (area(), [0; MOST_BYTES], [0; MOST_BYTES]);
+    both(
+        case,
+        |i| succeeds(product::least(&i.sheet, &mut work, &mut out)),
+        |i| passes(interface::least(&i.sheet, &mut own)),
     )
 }
 

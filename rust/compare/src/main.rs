@@ -34,6 +34,8 @@ const FEWEST_PAIRS: usize = 200_000;
 const FEWEST_STUCK: usize = 3000;
 /// The fewest formulas that are weighed.
 const FEWEST_FORMULAS: usize = 1_000_000;
+/// The fewest sheets whose least time is found.
+const FEWEST_LEAST: usize = 15_000;
 /// The fewest test loads.
 const FEWEST_LOADS: usize = 50_000;
 /// The fewest sheets with unpacking, of cubes, and with a number that is skipped, that are planned,
@@ -118,6 +120,7 @@ fn fast_shortfalls(tally: &Tally) -> Vec<String> {
         ("pairs", tally.calls_of(Function::Check), FEWEST_PAIRS),
         ("pairs that get stuck", tally.answers(Function::Check, STUCK), FEWEST_STUCK),
         ("formulas", tally.calls_of(Function::Weight), FEWEST_FORMULAS),
+        ("least times", tally.answers(Function::Least, 0), FEWEST_LEAST),
         ("test loads", tally.calls_of(Function::Generate), FEWEST_LOADS),
         ("bundles with releases", tally.with_releases(), FEWEST_RELEASES),
     ];

@@ -31,6 +31,7 @@ pub trait Rules {
     fn check(sheet: &[u8], bundle: &[u8]) -> Answered<()>;
     fn release(sheet: &[u8], bundle: &[u8]) -> Answered<Vec<u8>>;
     fn weight(text: &[u8], letters: &[u32]) -> Answered<u16>;
+    fn least(sheet: &[u8]) -> Answered<Vec<u8>>;
 
     /// The better of two bundles, one of the slices themselves; counts what decided.
     fn better<'a>(
@@ -142,6 +143,10 @@ impl Rules for Fast {
 
     fn weight(text: &[u8], letters: &[u32]) -> Answered<u16> {
         reference::interface::weight(text, letters).map_err(refusal)
+    }
+
+    fn least(sheet: &[u8]) -> Answered<Vec<u8>> {
+        reference::least::least(&read(sheet)?).map_err(refusal)
     }
 
     fn plan(sheet: &[u8], tally: &mut Tally) -> (Answered<Vec<u8>>, Vec<u8>) {
@@ -274,6 +279,10 @@ impl Rules for Literal {
 
     fn weight(text: &[u8], letters: &[u32]) -> Answered<u16> {
         literal::interface::weight(text, letters)
+    }
+
+    fn least(sheet: &[u8]) -> Answered<Vec<u8>> {
+        literal::interface::least(sheet)
     }
 
     fn plan(sheet: &[u8], tally: &mut Tally) -> (Answered<Vec<u8>>, Vec<u8>) {

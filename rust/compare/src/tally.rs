@@ -11,6 +11,7 @@ pub enum Function {
     Generate,
     Levels,
     Plan,
+    Least,
     Listing,
     ReadBundle,
     WriteBundle,
@@ -27,12 +28,13 @@ pub enum Function {
 }
 
 /// Every function that is compared.
-pub const FUNCTIONS: [Function; 18] = [
+pub const FUNCTIONS: [Function; 19] = [
     Function::ReadSheet,
     Function::WriteSheet,
     Function::Generate,
     Function::Levels,
     Function::Plan,
+    Function::Least,
     Function::Listing,
     Function::ReadBundle,
     Function::WriteBundle,
@@ -60,6 +62,7 @@ impl Function {
             Function::Generate => "generate",
             Function::Levels => "levels",
             Function::Plan => "plan",
+            Function::Least => "least",
             Function::Listing => "listing",
             Function::ReadBundle => "read_bundle",
             Function::WriteBundle => "write_bundle",
@@ -84,6 +87,7 @@ impl Function {
             Function::WriteSheet => matches!(number, 0 | 1 | 5..=8 | 10 | 12 | 13),
             Function::Generate => matches!(number, 0 | 6 | 12 | 13),
             Function::Plan => sheet || matches!(number, 11 | 12),
+            Function::Least => sheet || matches!(number, 11 | 12 | 38),
             Function::Listing => matches!(number, 0 | 12 | 13),
             Function::ReadBundle | Function::WriteBundle => {
                 sheet || number == 12 || matches!(number, 21..=25)
@@ -103,7 +107,7 @@ impl Function {
 }
 
 /// The greatest number of a refusal, and every number that an answer can have.
-const GREATEST: u8 = 37;
+const GREATEST: u8 = 38;
 const NUMBERS: std::ops::RangeInclusive<u8> = 0..=GREATEST;
 
 /// The rules that give a task its processor: the steps, and the guard where it bars the processor that

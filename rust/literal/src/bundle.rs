@@ -181,35 +181,40 @@ impl Bundle {
         BUNDLE.bytes(&text)
     }
 
-    /// The bytes of a plan. "Programmes list tasks in placing order." "Each programme is written
-    /// directly behind the one before it. The claim is the latest finish." "Numbers skipped below the
-    /// highest one used are written as empty programmes."
+    /// The bytes of a plan. "Programmes list tasks in placing order." "The claim is the latest finish."
+    /// "Numbers skipped below the highest one used are written as empty programmes."
     pub fn of_plan(sheet: &Sheet, placed: &[Placed]) -> Vec<u8> {
-        let mut text = Text::default();
         let highest = placed.iter().map(|placed| placed.processor).max();
-        for k in 0..highest.map_or(0, |k| k + 1) {
+        let tasks = |k| placed.iter().filter(move |placed| placed.processor == k);
+        let programmes = (0..highest.map_or(0, |k| k + 1))
+            .map(|k| tasks(k).map(|placed| placed.task).collect())
+            .collect::<Vec<Vec<usize>>>();
+        Bundle::written(sheet, &programmes, latest_finish(placed))
+    }
+
+    /// The bytes of programmes that list these tasks: "Each programme is written directly behind the one
+    /// before it."
+    pub fn written(sheet: &Sheet, programmes: &[Vec<usize>], claim: u64) -> Vec<u8> {
+        let mut text = Text::default();
+        for (k, programme) in programmes.iter().enumerate() {
             BUNDLE.push(&mut text, OPEN.into(), &[k as u32]);
-            for one in placed.iter().filter(|placed| placed.processor == k) {
-                push_task(&mut text, sheet, placed, one);
+            for &task in programme {
+                push_task(&mut text, sheet, programme, task);
             }
         }
-        BUNDLE.push(&mut text, CLAIM.into(), &[latest_finish(placed) as u32]);
+        BUNDLE.push(&mut text, CLAIM.into(), &[claim as u32]);
         BUNDLE.bytes(&text)
     }
 }
 
 /// "For each task: receives of its links from other processors in rising link number, run, sends of
-/// its links to other processors likewise."
-fn push_task(text: &mut Text, sheet: &Sheet, placed: &[Placed], one: &Placed) {
-    let elsewhere = |task| {
-        let there = placed.iter().find(|placed| placed.task == task);
-        there.is_some_and(|there| there.processor != one.processor)
-    };
-    for (link, _) in sheet.links_into(one.task).filter(|(_, link)| elsewhere(link.from)) {
+/// its links to other processors likewise." The programme holds all tasks of its processor.
+fn push_task(text: &mut Text, sheet: &Sheet, programme: &[usize], task: usize) {
+    for (link, _) in sheet.links_into(task).filter(|(_, link)| !programme.contains(&link.from)) {
         BUNDLE.push(text, RECEIVE.into(), &[link as u32]);
     }
-    BUNDLE.push(text, RUN.into(), &[one.task as u32]);
-    for (link, _) in sheet.links_out_of(one.task).filter(|(_, link)| elsewhere(link.to)) {
+    BUNDLE.push(text, RUN.into(), &[task as u32]);
+    for (link, _) in sheet.links_out_of(task).filter(|(_, link)| !programme.contains(&link.to)) {
         BUNDLE.push(text, SEND.into(), &[link as u32]);
     }
 }

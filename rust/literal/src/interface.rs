@@ -6,6 +6,7 @@ use crate::better::{self, Decided};
 use crate::bundle::Bundle;
 use crate::checker;
 use crate::formulas;
+use crate::least;
 use crate::levels;
 use crate::listing::lines;
 use crate::load;
@@ -140,6 +141,11 @@ pub fn plan(sheet: &[u8]) -> Result<Vec<u8>, Refusal> {
 /// The listing of a plan or of its refusal.
 pub fn listing(sheet: &[u8]) -> Vec<u8> {
     lines(&placed(sheet)).into_bytes()
+}
+
+/// The bytes of the best bundle of a small sheet.
+pub fn least(sheet: &[u8]) -> Result<Vec<u8>, Refusal> {
+    least::least(&Sheet::read(sheet)?)
 }
 
 /// Starts the machine, and shows it or its refusal.

@@ -13,6 +13,7 @@ pub mod commands;
 pub mod early;
 pub mod formulas;
 pub mod interface;
+pub mod least;
 pub mod levels;
 pub mod listing;
 pub mod load;

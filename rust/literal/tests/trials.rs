@@ -1,7 +1,8 @@
 //! The trial sheets of document 01 on the literal rules.
 
 use literal::better::Decided;
-use literal::interface::{better, check, levels, listing, placed, plan, read_bundle, read_sheet};
+use literal::interface::{better, check, least, levels, listing, placed, plan};
+use literal::interface::{read_bundle, read_sheet};
 use literal::interface::{release, start, write_bundle, write_sheet};
 use literal::placing::{place, Rules};
 use literal::sheet::Sheet;
@@ -227,6 +228,25 @@ fn releases() {
     assert_eq!(check(&sheet, &bundle), Ok(()));
     let kept = [&bundle[..9], &bundle[11..]].concat();
     assert_eq!(check(&sheet, &kept), refused(28, 0));
+}
+
+/// C-22: K1's best bundle, K5's, which has no plan, and what is refused.
+#[test]
+fn least_time() {
+    assert_eq!(least(&example("k1.sheet")), Ok(example("k1-least.bundle")));
+    let mut k5 = example("k5.sheet");
+    assert_eq!(least(&k5), Ok(example("k5.bundle")));
+    k5[2] = 5;
+    assert_eq!(least(&k5), refused(11, 4));
+    // "11 is given exactly if no bundle without releases is accepted": one with releases is.
+    assert_eq!(least(&example("release.sheet")), refused(11, 4));
+    assert_eq!(least(&example("bare.sheet")), Ok(example("bare.bundle")));
+    assert_eq!(least(&example("cube.sheet")), refused(38, 5));
+    assert_eq!(least(b"\x4D\x03\x64\0\0\0\x48\x51"), refused(38, 0));
+    let seven = [&b"\x4D\x02\0\0\0\0"[..], &b"\x54\x01\0\0\0".repeat(7), b"\x51"].concat();
+    assert_eq!(least(&seven), refused(38, 7));
+    assert_eq!(least(&seven[..40]), refused(1, 36));
+    assert_eq!(least(&example("k8-circle.sheet")), refused(10, 1));
 }
 
 /// C-12: two tasks of work 1 joined by a free link, and bundles of them.

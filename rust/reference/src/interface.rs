@@ -5,7 +5,7 @@ use crate::load::Load;
 use crate::refusal::{lend, Refusal};
 use crate::release::pass;
 use crate::sheet::Sheet;
-use crate::{better, checker, formula, graph, listing, planner};
+use crate::{better, checker, formula, graph, least, listing, planner};
 
 /// Reads a sheet into tables of values; gives its board (1 to 8, 10, 12).
 pub fn read_sheet(sheet: &[u8], tasks: &mut [u16], links: &mut [u16]) -> Result<[u32; 6], Refusal> {
@@ -47,6 +47,11 @@ pub fn plan(sheet: &[u8], out: &mut [u8]) -> Result<usize, Refusal> {
 /// Writes the listing of a sheet's plan, or of its refusal, and gives its length (12).
 pub fn listing(sheet: &[u8], out: &mut [u8]) -> Result<usize, Refusal> {
     lend(&listing::lines(&Sheet::read(sheet).and_then(|sheet| planner::plan(&sheet))), out)
+}
+
+/// Writes the best bundle of a small sheet and gives its length (1 to 8, 10, 38, 11, 12).
+pub fn least(sheet: &[u8], out: &mut [u8]) -> Result<usize, Refusal> {
+    lend(&least::least(&Sheet::read(sheet)?)?, out)
 }
 
 /// Reads a bundle into a table of values; gives their count and the claim (1 to 8, 10, 21 to 25, 12).

@@ -13,6 +13,7 @@ pub mod figures;
 pub mod formula;
 pub mod graph;
 pub mod interface;
+pub mod least;
 pub mod listing;
 pub mod load;
 pub mod machine;

@@ -2,9 +2,10 @@
 //! prints.
 
 use crate::bundle::{write_claim, Command};
+use crate::least::MOST_ARRANGED;
 use crate::load::Load;
 use crate::sheet::Sheet;
-use crate::{figures, listing, planner};
+use crate::{figures, least, listing, planner};
 use Command::{Discard, Open, Receive, Release, Run, Send};
 
 /// K1: four tasks of store 10 and three links of 4 bytes on three processors.
@@ -93,8 +94,7 @@ pub fn free_link_sheet() -> Vec<u8> {
 
 /// K1 on a board on which each receive takes 1: a third processor is opened.
 pub fn unpacking_sheet() -> Vec<u8> {
-    let k1 = Sheet::read(&k1_sheet()).expect("the trial sheet is valid");
-    Sheet { unpacking: 1, ..k1 }.to_bytes()
+    Sheet { unpacking: 1, ..read(&k1_sheet()) }.to_bytes()
 }
 
 /// The same as text.
@@ -270,6 +270,7 @@ pub fn files() -> Vec<(String, Vec<u8>)> {
     let mut files = vec![
         ("k1.sheet", k1_sheet()),
         ("k1.bundle", K1_BUNDLE.to_vec()),
+        ("k1-least.bundle", best(&read(&k1_sheet()))),
         ("k2.sheet", k2_sheet()),
         ("k2.bundle", planned(&k2_sheet())),
         ("k3.sheet", k3_sheet()),
@@ -306,11 +307,13 @@ pub fn files() -> Vec<(String, Vec<u8>)> {
     .into_iter()
     .map(|(name, bytes)| (name.to_string(), bytes))
     .collect::<Vec<_>>();
-    files.extend(
-        figures::all()
-            .into_iter()
-            .map(|figure| (format!("figures/{}.sheet", figure.name), figure.sheet().to_bytes())),
-    );
+    for figure in figures::all() {
+        let (name, sheet) = (figure.name, figure.sheet());
+        if sheet.tasks.len() <= MOST_ARRANGED {
+            files.push((format!("figures/{name}-least.bundle"), best(&sheet)));
+        }
+        files.push((format!("figures/{name}.sheet"), sheet.to_bytes()));
+    }
     files
 }
 
@@ -347,7 +350,15 @@ fn bundle(commands: &[Command], claim: u32) -> Vec<u8> {
     bundle
 }
 
+fn read(sheet: &[u8]) -> Sheet {
+    Sheet::read(sheet).expect("the trial sheet is valid")
+}
+
 fn planned(sheet: &[u8]) -> Vec<u8> {
-    let sheet = Sheet::read(sheet).expect("the trial sheet is valid");
+    let sheet = read(sheet);
     planner::plan(&sheet).expect("the trial sheet has a plan").to_bundle(&sheet)
+}
+
+fn best(sheet: &Sheet) -> Vec<u8> {
+    least::least(sheet).expect("the trial sheet has a plan")
 }

@@ -80,6 +80,66 @@ fn plans() {
     assert!((100..6000).contains(&refusals));
 }
 
+/// The best of all arrangements, of which no other is better by C-12's order; and what is not small.
+#[test]
+fn least_times() {
+    let mut random = Random::new(22);
+    let (mut counts, mut shorter) = ([0; 39], 0);
+    for round in 0..4000 {
+        let tasks = match round % 16 {
+            0 => random.within(7..=9),
+            1 => 0,
+            2 if round % 256 == 2 => 5,
+            _ => random.within(1..=4),
+        };
+        let mut sheet = sheets::compact(&mut random, tasks);
+        if random.once_in(32) {
+            sheet.cube = 1;
+        }
+        let bytes = sheet.encode();
+        let bundle = whole(|out| interface::least(&bytes, out));
+        assert_eq!(bundle, literal::interface::least(&bytes), "{sheet:?}");
+        counts[bundle.as_ref().err().map_or(0, |refusal| usize::from(refusal.number))] += 1;
+        let Ok(bundle) = bundle else { continue };
+        assert_eq!(interface::check(&bytes, &bundle), Ok(()));
+        if let Ok(planned) = whole(|out| interface::plan(&bytes, out)) {
+            assert_eq!(interface::better(&bytes, &planned, &bundle), Ok(&bundle[..]), "{sheet:?}");
+            shorter += usize::from(claim(&planned) > claim(&bundle));
+        }
+    }
+    assert!(
+        shorter > 30 && [0, 11, 38].iter().all(|&number| counts[number] > 100),
+        "{shorter} {counts:?}"
+    );
+}
+
+/// The claim at the end of a bundle.
+fn claim(bundle: &[u8]) -> u32 {
+    u32::from_le_bytes(*bundle.last_chunk().expect("a claim"))
+}
+
+/// On a sheet without unpacking no accepted bundle without releases, of whatever form, claims less.
+#[test]
+fn least_of_any_form() {
+    let mut random = Random::new(23);
+    let mut as_short = 0;
+    for _ in 0..3000 {
+        let tasks = random.within(1..=5);
+        let sheet = sheets::Sheet { unpacking: 0, ..sheets::compact(&mut random, tasks) };
+        let bytes = sheet.encode();
+        let least = whole(|out| interface::least(&bytes, out)).map(|bundle| claim(&bundle));
+        for _ in 0..20 {
+            let bundle = bundles::orderly(&mut random, &sheet);
+            if interface::check(&bytes, &bundle.encode()).is_ok() {
+                let least = least.expect("a bundle is accepted");
+                assert!(least <= bundle.claim, "{sheet:?} {bundle:?}");
+                as_short += usize::from(least == bundle.claim);
+            }
+        }
+    }
+    assert!(as_short > 1000, "{as_short}");
+}
+
 #[test]
 fn large_plans_are_accepted() {
     let mut random = Random::new(2);

@@ -1,7 +1,9 @@
 //! The trial sheets K1 to K10, with every number that is published for them.
 
-use reference::checker::check;
+use reference::better::better;
+use reference::checker::{check, merits};
 use reference::graph::levels;
+use reference::least::least;
 use reference::listing;
 use reference::machine::{Machine, Step};
 use reference::planner::{plan, Plan};
@@ -219,6 +221,33 @@ fn released() {
     // Without the release of task 0, 150 are in use behind the run of task 2.
     let kept = [&bundle[..9], &bundle[11..]].concat();
     assert_eq!((bundle[9..11].to_vec(), check(&sheet, &kept)), (vec![0x46, 0], refused(28, 0)));
+}
+
+/// C-22: of K1's bundles that claim 5 on two processors the one with the lowest bytes begins with task 0.
+#[test]
+fn least_time() {
+    let sheet = read(&k1_sheet());
+    let bundle = least(&sheet).unwrap();
+    assert_eq!(bundle[..4], [0x50, 0, 0x52, 0]);
+    assert_eq!(better(&sheet, &K1_BUNDLE, &bundle), Ok(&bundle[..]));
+    assert_eq!(merits(&sheet, &bundle), merits(&sheet, &K1_BUNDLE));
+    // K5 has no plan, but a bundle: the one that is published is the best of them.
+    assert_eq!(least(&read(&k5_sheet())), Ok(k5_bundle()));
+    let with = |bytes: &[u8], edit: fn(&mut Sheet)| {
+        let mut sheet = read(bytes);
+        edit(&mut sheet);
+        least(&sheet)
+    };
+    assert_eq!(with(&k5_sheet(), |sheet| sheet.limit = 5), refused(11, 4));
+    // Only a bundle with releases fits.
+    assert_eq!(least(&read(&release_sheet())), refused(11, 4));
+    // A bare board has its five bytes; a cube has none, bare or not.
+    assert_eq!(least(&read(&bare_sheet())), Ok(BARE_BUNDLE.to_vec()));
+    assert_eq!(with(&bare_sheet(), |sheet| sheet.cube = true), refused(38, 0));
+    assert_eq!(least(&read(&cube_sheet())), refused(38, 5));
+    // With unpacking another claim is the least.
+    let unpacked = read(&unpacking_sheet());
+    assert_eq!(merits(&unpacked, &least(&unpacked).unwrap()).unwrap().claim, 6);
 }
 
 #[test]

@@ -52,6 +52,9 @@ interface! {
     /// Plans a sheet and writes the bundle; the place is its length.
     plan = zeldrupa_plan(sheet: &[u8], work: &mut [u32], out: &mut [u8]);
 
+    /// Writes the best bundle of a sheet of at most six tasks; the place is its length.
+    least = zeldrupa_least(sheet: &[u8], work: &mut [u32], out: &mut [u8]);
+
     /// Writes the listing of a sheet's plan, or of its refusal; the place is its length.
     listing = zeldrupa_listing(sheet: &[u8], work: &mut [u32], out: &mut [u8]);
 

@@ -1,5 +1,5 @@
-//! The work area, lent to every call: reading, writing, levels, planning, checking, releasing, choosing
-//! and listing.
+//! The work area, lent to every call: reading, writing, levels, planning, the least time, checking,
+//! releasing, choosing and listing.
 
 use crate::bundle::from_values;
 use crate::{
@@ -153,6 +153,28 @@ impl WorkArea {
     pub fn plan(&mut self, sheet: &Sheet) -> Result<Bundle, Refusal> {
         let words = &mut self.words;
         let bytes = filled(&mut self.bytes, |out| raw::plan(sheet.bytes(), words, out))?;
+        let bytes = bytes.to_vec();
+        self.read_bundle(sheet, &bytes)
+    }
+
+    /// The best bundle of a sheet of at most six tasks that is no cube (38, 11), in the planner's written
+    /// form: the least claim, then fewest processors, then the lowest bytes.
+    ///
+    /// ```
+    /// # use zeldrupa::WorkArea;
+    /// let mut work = WorkArea::new();
+    /// // K5 has no plan, but a bundle that is accepted.
+    /// let sheet = work.read_sheet(include_bytes!("../../../examples/k5.sheet")).unwrap();
+    /// assert_eq!(work.plan(&sheet).unwrap_err().number(), 11);
+    /// assert_eq!(work.least(&sheet).unwrap().claim(), 3);
+    ///
+    /// let cube = work.read_sheet(include_bytes!("../../../examples/cube.sheet")).unwrap();
+    /// let refusal = work.least(&cube).unwrap_err();
+    /// assert_eq!((refusal.number(), refusal.place(), refusal.word()), (38, 5, "not small"));
+    /// ```
+    pub fn least(&mut self, sheet: &Sheet) -> Result<Bundle, Refusal> {
+        let words = &mut self.words;
+        let bytes = filled(&mut self.bytes, |out| raw::least(sheet.bytes(), words, out))?;
         let bytes = bytes.to_vec();
         self.read_bundle(sheet, &bytes)
     }

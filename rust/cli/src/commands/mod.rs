@@ -5,6 +5,7 @@ mod check;
 mod compare;
 mod gantt;
 mod generate;
+mod least;
 mod levels;
 mod list;
 mod pack;
@@ -36,8 +37,9 @@ pub struct Command {
     pub answer: fn(&mut Loader, &Arguments) -> Result<Answer, Fault>,
 }
 
-pub static COMMANDS: [Command; 13] = [
+pub static COMMANDS: [Command; 14] = [
     plan::COMMAND,
+    least::COMMAND,
     check::COMMAND,
     better::COMMAND,
     release::COMMAND,

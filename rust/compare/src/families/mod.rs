@@ -8,6 +8,7 @@ mod dressed;
 mod early;
 mod formats;
 mod formulas;
+mod least;
 mod loads;
 mod machine;
 mod plans;
@@ -66,6 +67,10 @@ pub const FAST: &[Family<Fast>] = &[
     ("bundles on cubes", cubes::small_bundles),
     ("damaged cubes", cubes::damaged),
     ("cubes everywhere", cubes::every_offset),
+    ("least times", least::up_to_six),
+    ("least times of three", least::every_three),
+    ("least times of trials", least::trials),
+    ("what is not small", least::not_small),
     ("trial pairs", machine::trial_pairs),
     ("right pairs", machine::right),
     ("wrong claims", machine::wrong_claims),
@@ -121,6 +126,9 @@ pub const LITERAL: &[Family<Literal>] = &[
     ("bundles on cubes", cubes::small_bundles),
     ("damaged cubes", cubes::damaged),
     ("cubes everywhere", cubes::every_offset),
+    ("least times", least::up_to_five),
+    ("least times of three", least::every_three),
+    ("what is not small", least::not_small),
     ("damaged small sheets", small::damaged_sheets),
     ("over-full sheets", small::over_full_sheets),
     ("small circles", small::circles),

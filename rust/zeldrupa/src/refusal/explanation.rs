@@ -2,7 +2,7 @@
 //! library's, and what is told of them is looked up in the same bytes by this module.
 
 use super::kinds::{kind, Counts};
-use super::{form, programmes, seen, Refusal};
+use super::{form, least, programmes, seen, Refusal};
 use crate::{Bundle, Sheet, WorkArea};
 use std::fmt::{self, Display, Formatter};
 
@@ -89,6 +89,7 @@ impl Refusal {
                 without((format!("{} elements are needed", self.place), Subject::Other))
             }
             (Counts::Nothing, _) => without(("both bundles".into(), Subject::Other)),
+            (Counts::Size, _) => without((least::size(&about), Subject::Other)),
             (_, Some(read)) => programmes::place(self, counts, &read),
             (_, None) => without((format!("place {}", self.place), Subject::Other)),
         };

@@ -15,6 +15,7 @@ pub(crate) enum Counts {
     Value,
     /// Bytes of a bundle whose form is right.
     Releases,
+    Size,
 }
 
 /// A refusal: its number, its word in the trade, a sentence on why there is no result, and a remedy.
@@ -32,7 +33,7 @@ pub(crate) fn kind(number: u8) -> Option<&'static Kind> {
 }
 
 /// All of them; docs/FORMAT.md has the same sentences.
-pub(crate) static KINDS: [Kind; 28] = [
+pub(crate) static KINDS: [Kind; 29] = [
     Kind {
         number: 1,
         word: "cut sheet",
@@ -246,6 +247,13 @@ pub(crate) static KINDS: [Kind; 28] = [
         counts: Counts::Releases,
         cause: "A result or a message is released where its processor does not hold it, or still needs it.",
         remedy: "Move the release behind the last command that needs what it releases, or remove it.",
+    },
+    Kind {
+        number: 38,
+        word: "not small",
+        counts: Counts::Size,
+        cause: "The least time is found for sheets of at most six tasks that are no cube.",
+        remedy: "Plan the sheet, or take the tasks that matter most into a sheet of their own.",
     },
 ];
 
