@@ -1,1 +1,2 @@
 // The listing of a plan.
+#![tactic(auto)]

@@ -1,1 +1,2 @@
 // The planner.
+#![tactic(auto)]

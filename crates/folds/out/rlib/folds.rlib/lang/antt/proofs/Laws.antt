@@ -8,7 +8,7 @@ use mathlib.Core.Bool.{Bool, true, false, false≢true, true≢false}
 use mathlib.Core.Option.{Option, none, some}
 use mathlib.Core.Path.{◌≡◌, refl, sym, ap, ap₂, ◌∙◌}
 use mathlib.Core.Logic.{◌≢◌, inl, inr, ⊎_elim}
-use Rattle.folds.specs.Folds.{both, either, all, any, sum, greatest, first, keep, firstWith, keepWith, then, is_some}
+use Rattle.folds.specs.Folds.{both, either, all, any, sum, greatest, first, keep, first_with, keep_with, then, is_some}
 use Rattle.folds.proofs.Tests.{below_suc, both-parts, either-part, part-either, either-none, not_some}
 
 -- some, and every
@@ -323,38 +323,38 @@ first-lowest (suc n) p k e j l = go (first n p) (p n) refl e (λ h. first-lowest
 
 -- a place with the test, and none lower
 -- the least index where something is held, behind what is held there
-pub none-with : (n : ℕ) (f : ℕ → Option ℕ) → ((k : ℕ) → k < n → f k ≡ none) → firstWith n f ≡ none
-unfolding firstWith
+pub none-with : (n : ℕ) (f : ℕ → Option ℕ) → ((k : ℕ) → k < n → f k ≡ none) → first_with n f ≡ none
+unfolding first_with
 none-with zero f h = refl
 none-with (suc n) f h = rw (none-with n f (λ k l. h k (omega arith)), h n (omega arith))
 
-pub with-found : (n : ℕ) (f : ℕ → Option ℕ) (i x : ℕ) → ((j : ℕ) → j < i → f j ≡ none) → f i ≡ some x → i < n → firstWith n f ≡ some (x, i)
-unfolding firstWith
+pub with-found : (n : ℕ) (f : ℕ → Option ℕ) (i x : ℕ) → ((j : ℕ) → j < i → f j ≡ none) → f i ≡ some x → i < n → first_with n f ≡ some (x, i)
+unfolding first_with
 with-found zero f i x h e l = absurd (omega arith)
 with-found (suc n) f i x h e l = go (ℕ_discrete i n) (with-found n f i x h e)
   where
-    go : Dec (i ≡ n) → (i < n → firstWith n f ≡ some (x, i)) → keepWith (firstWith n f) (f n) n ≡ some (x, i)
+    go : Dec (i ≡ n) → (i < n → first_with n f ≡ some (x, i)) → keep_with (first_with n f) (f n) n ≡ some (x, i)
     go (yes q) ih =
         let t : f n ≡ some x = ap f (sym q) ∙ e in
         rw (none-with n f (λ j k. h j (omega arith)), t) (ap (λ (j : ℕ). some (x, j)) (sym q))
     go (no q) ih = rw (ih (omega arith))
 
-pub with_none : (n : ℕ) (f : ℕ → Option ℕ) → firstWith n f ≡ none → (k : ℕ) → k < n → f k ≡ none
-unfolding firstWith
+pub with_none : (n : ℕ) (f : ℕ → Option ℕ) → first_with n f ≡ none → (k : ℕ) → k < n → f k ≡ none
+unfolding first_with
 with_none zero f e k h = absurd (omega arith)
-with_none (suc n) f e k h = go (firstWith n f) (f n) refl refl e (λ a l. with_none n f a k l)
+with_none (suc n) f e k h = go (first_with n f) (f n) refl refl e (λ a l. with_none n f a k l)
   where
-    go : (o : Option (ℕ × ℕ)) (x : Option ℕ) → firstWith n f ≡ o → f n ≡ x → keepWith o x n ≡ none → (firstWith n f ≡ none → k < n → f k ≡ none) → f k ≡ none
+    go : (o : Option (ℕ × ℕ)) (x : Option ℕ) → first_with n f ≡ o → f n ≡ x → keep_with o x n ≡ none → (first_with n f ≡ none → k < n → f k ≡ none) → f k ≡ none
     go none none a c q r = ⊎_elim (λ l. r a l) (λ g. ap f g ∙ c) (below_suc h)
     go none (some y) a c q r = not_some (sym q)
     go (some p) x a c q r = not_some (sym q)
 
-pub with-some : (n : ℕ) (f : ℕ → Option ℕ) (x i : ℕ) → firstWith n f ≡ some (x, i) → (i < n) × (f i ≡ some x)
-unfolding firstWith
+pub with-some : (n : ℕ) (f : ℕ → Option ℕ) (x i : ℕ) → first_with n f ≡ some (x, i) → (i < n) × (f i ≡ some x)
+unfolding first_with
 with-some zero f x i e = not_some e
-with-some (suc n) f x i e = go (firstWith n f) (f n) refl refl e (λ q. with-some n f x i q)
+with-some (suc n) f x i e = go (first_with n f) (f n) refl refl e (λ q. with-some n f x i q)
   where
-    go : (o : Option (ℕ × ℕ)) (y : Option ℕ) → firstWith n f ≡ o → f n ≡ y → keepWith o y n ≡ some (x, i) → (firstWith n f ≡ some (x, i) → (i < n) × (f i ≡ some x)) → (i < suc n) × (f i ≡ some x)
+    go : (o : Option (ℕ × ℕ)) (y : Option ℕ) → first_with n f ≡ o → f n ≡ y → keep_with o y n ≡ some (x, i) → (first_with n f ≡ some (x, i) → (i < n) × (f i ≡ some x)) → (i < suc n) × (f i ≡ some x)
     go none none a c q r = not_some q
     go none (some y) a c q r =
         let pair : ◌≡◌ {A = ℕ × ℕ} (y, n) (x, i) = cc in
@@ -364,12 +364,12 @@ with-some (suc n) f x i e = go (firstWith n f) (f n) refl refl e (λ q. with-som
     go (some p) y a c q r = let z = r (a ∙ q) in (omega (arith, z.0), z.1)
 
 -- its place is where the first of them holds something
-pub with-place : (n : ℕ) (f : ℕ → Option ℕ) (p : ℕ → Bool) → ((i : ℕ) → i < n → is_some (f i) ≡ p i) → then (firstWith n f) (λ x. some x.1) ≡ first n p
-unfolding firstWith first
+pub with-place : (n : ℕ) (f : ℕ → Option ℕ) (p : ℕ → Bool) → ((i : ℕ) → i < n → is_some (f i) ≡ p i) → then (first_with n f) (λ x. some x.1) ≡ first n p
+unfolding first_with first
 with-place zero f p h = refl
-with-place (suc n) f p h = by (firstWith n f) (f n) (with-place n f p (λ i l. h i (omega arith))) (h n (omega arith))
+with-place (suc n) f p h = by (first_with n f) (f n) (with-place n f p (λ i l. h i (omega arith))) (h n (omega arith))
   where
-    by : (o : Option (ℕ × ℕ)) (x : Option ℕ) → then o (λ y. some y.1) ≡ first n p → is_some x ≡ p n → then (keepWith o x n) (λ y. some y.1) ≡ keep (first n p) (p n) n
+    by : (o : Option (ℕ × ℕ)) (x : Option ℕ) → then o (λ y. some y.1) ≡ first n p → is_some x ≡ p n → then (keep_with o x n) (λ y. some y.1) ≡ keep (first n p) (p n) n
     by none none e g = rw (← e, ← g)
     by none (some x) e g = rw (← e, ← g)
     by (some y) x e g = rw (← e)

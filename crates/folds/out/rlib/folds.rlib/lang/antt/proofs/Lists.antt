@@ -16,11 +16,11 @@ unfolding listed
 length-listed zero f = refl
 length-listed (suc n) f = length-append (listed n f) (f n ∷ []) ∙ omega (arith, length-listed n f)
 
-pub getD-listed : {X : Type 0} (n : ℕ) (f : ℕ → X) (i : ℕ) (d : X) → i < n → get_or (listed n f) i d ≡ f i
+pub get_or-listed : {X : Type 0} (n : ℕ) (f : ℕ → X) (i : ℕ) (d : X) → i < n → get_or (listed n f) i d ≡ f i
 unfolding listed
-getD-listed zero f i d h = absurd (omega arith)
-getD-listed (suc n) f i d h =
-    ⊎_elim (λ l. get_or-append (listed n f) (f n ∷ []) d i (omega (arith, length-listed n f)) ∙ getD-listed n f i d l)
+get_or-listed zero f i d h = absurd (omega arith)
+get_or-listed (suc n) f i d h =
+    ⊎_elim (λ l. get_or-append (listed n f) (f n ∷ []) d i (omega (arith, length-listed n f)) ∙ get_or-listed n f i d l)
     (λ e. rw e (get_or_at (listed n f) (f n) [] d n (length-listed n f))) (below_suc h)
 
 pub listed-cong : {X : Type 0} (n : ℕ) (f g : ℕ → X) → ((i : ℕ) → i < n → f i ≡ g i) → listed n f ≡ listed n g
@@ -49,8 +49,8 @@ set-listed n f g t v e h =
     at : (i : ℕ) → i < n → Dec (i ≡ t) → get_or (listed n g) i 0 ≡ get_or (set (listed n f) t v) i 0
     at i l (yes q) =
         let m : t < length (listed n f) = rw (length-listed n f) (rw q at l) in
-        getD-listed n g i 0 l ∙ ap g q ∙ e ∙ sym (ap (λ (x : ℕ). get_or (set (listed n f) t v) x 0) q ∙ get_or-set_same (listed n f) t v 0 m)
-    at i l (no q) = getD-listed n g i 0 l ∙ h i l q ∙ sym (get_or-set_other (listed n f) t i v 0 q ∙ getD-listed n f i 0 l)
+        get_or-listed n g i 0 l ∙ ap g q ∙ e ∙ sym (ap (λ (x : ℕ). get_or (set (listed n f) t v) x 0) q ∙ get_or-set_same (listed n f) t v 0 m)
+    at i l (no q) = get_or-listed n g i 0 l ∙ h i l q ∙ sym (get_or-set_other (listed n f) t i v 0 q ∙ get_or-listed n f i 0 l)
 
 pub get_d_replicate : {A : Type 0} (n i : ℕ) (a : A) → get_or (replicate n a) i a ≡ a
 get_d_replicate zero i a = refl

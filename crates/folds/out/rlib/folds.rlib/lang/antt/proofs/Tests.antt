@@ -9,7 +9,7 @@ use mathlib.Core.Option.{Option, none, some}
 use mathlib.Core.Path.{◌≡◌, refl, sym, ◌∙◌}
 use mathlib.Core.Logic.{◌≢◌, ◌⊎◌, inl, inr, ⊎_elim}
 use Rattle.folds.specs.Folds.{pick, bit, both, either}
-use Rattle.folds.specs.Answers.{Answer, value, refused, and_then, unless, unlessAt}
+use Rattle.folds.specs.Answers.{Answer, value, refused, and_then, unless, unless_at}
 
 pub below_suc : {m n : ℕ} → m < suc n → (m < n) ⊎ (m ≡ n)
 below_suc {m} {n} h = go (ℕ_discrete m n)
@@ -95,10 +95,10 @@ pub unless-value : {A : Type 0} (n : ℕ) (o : Option ℕ) (a : Answer A) (x : A
 unless-value n none a x e = (refl, e)
 unless-value n (some k) a x e = not-value e
 
-pub unlessAt-value : {A : Type 0} (o : Option (ℕ × ℕ)) (a : Answer A) (x : A) → unlessAt o a ≡ value x → (o ≡ none) × (a ≡ value x)
-unlessAt-value none a x e = (refl, e)
-unlessAt-value (some k) a x e = not-value e
+pub unless_at-value : {A : Type 0} (o : Option (ℕ × ℕ)) (a : Answer A) (x : A) → unless_at o a ≡ value x → (o ≡ none) × (a ≡ value x)
+unless_at-value none a x e = (refl, e)
+unless_at-value (some k) a x e = not-value e
 
-pub andThen-value : {A B : Type 0} (a : Answer A) (f : A → Answer B) (y : B) → and_then a f ≡ value y → (x : A) × (a ≡ value x) × (f x ≡ value y)
-andThen-value (value x) f y e = (x, refl, e)
-andThen-value (refused n at) f y e = not-value e
+pub and_then-value : {A B : Type 0} (a : Answer A) (f : A → Answer B) (y : B) → and_then a f ≡ value y → (x : A) × (a ≡ value x) × (f x ≡ value y)
+and_then-value (value x) f y e = (x, refl, e)
+and_then-value (refused n at) f y e = not-value e

@@ -18,13 +18,13 @@ unless n none a = a
 unless n (some at) a = refused n at
 
 -- refused with the number and at the place that o holds, and a where it holds none
-abbrev pub unlessAt : {A : Type 0} → Option (ℕ × ℕ) → Answer A → Answer A
-unlessAt none a = a
-unlessAt (some x) a = refused x.0 x.1
+abbrev pub unless_at : {A : Type 0} → Option (ℕ × ℕ) → Answer A → Answer A
+unless_at none a = a
+unless_at (some x) a = refused x.0 x.1
 
 -- 13: a lent area of so many words is shorter than the fixed length
-abbrev pub longEnough : {A : Type 0} → ℕ → ℕ → Answer A → Answer A
-longEnough fixed lent a = pick (ltb lent fixed) (refused 13 fixed) a
+abbrev pub long_enough : {A : Type 0} → ℕ → ℕ → Answer A → Answer A
+long_enough fixed lent a = pick (ltb lent fixed) (refused 13 fixed) a
 
 -- 12: the result r is longer than what was lent for it
 abbrev pub fitting : {A : Type 0} → ℕ → List A → Answer (List A)
@@ -36,9 +36,9 @@ number (value a) = 0
 number (refused n at) = n
 
 -- the place of a refusal, or what stands for a value
-abbrev pub placeOr : {A : Type 0} → (A → ℕ) → Answer A → ℕ
-placeOr f (value a) = f a
-placeOr f (refused n at) = at
+abbrev pub place_or : {A : Type 0} → (A → ℕ) → Answer A → ℕ
+place_or f (value a) = f a
+place_or f (refused n at) = at
 
 -- lent output afterwards: the result and what stood behind it, or as it was
 unfoldable pub written : {A : Type 0} → List A → Answer (List A) → List A

@@ -46,15 +46,15 @@ unfoldable pub first : ℕ → (ℕ → Bool) → Option ℕ
 first zero p = none
 first (suc n) p = keep (first n p) (p n) n
 
-abbrev pub keepWith : Option (ℕ × ℕ) → Option ℕ → ℕ → Option (ℕ × ℕ)
-keepWith none none i = none
-keepWith none (some x) i = some (x, i)
-keepWith (some p) o i = some p
+abbrev pub keep_with : Option (ℕ × ℕ) → Option ℕ → ℕ → Option (ℕ × ℕ)
+keep_with none none i = none
+keep_with none (some x) i = some (x, i)
+keep_with (some p) o i = some p
 
 -- of the i below n where f i holds something, the least, behind what it holds there
-unfoldable pub firstWith : ℕ → (ℕ → Option ℕ) → Option (ℕ × ℕ)
-firstWith zero f = none
-firstWith (suc n) f = keepWith (firstWith n f) (f n) n
+unfoldable pub first_with : ℕ → (ℕ → Option ℕ) → Option (ℕ × ℕ)
+first_with zero f = none
+first_with (suc n) f = keep_with (first_with n f) (f n) n
 
 abbrev pub prefer : (ℕ → ℕ → Bool) → ℕ → Option ℕ → Option ℕ
 prefer ahead i none = some i
@@ -90,9 +90,9 @@ then none f = none
 then (some x) f = f x
 
 -- what o holds, or x
-abbrev pub orValue : {X : Type 0} → Option X → X → X
-orValue none x = x
-orValue (some y) x = y
+abbrev pub or_value : {X : Type 0} → Option X → X → X
+or_value none x = x
+or_value (some y) x = y
 
 abbrev pub is_some : {X : Type 0} → Option X → Bool
 is_some none = false

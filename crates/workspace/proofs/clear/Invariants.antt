@@ -1,0 +1,14 @@
+-- `clear` (src/lib.rt) keeps its contract: its loops.
+use Prim.Native.Nat.{◌-◌, ◌≤◌}
+use mathlib.Core.Path.{◌∙◌}
+use native.Mathlib.Omega.{arith}
+use lib.ListN.{length}
+use Rattle.workspace.specs.Area.{ClearIs}
+use Rattle.workspace.proofs.Clearing.{cleared-none, cleared-then, cleared-all}
+use Rattle.workspace.proofs.clear.Given as goal
+
+abbrev pub invariant-loop-work : goal.invariant-loop-work
+invariant-loop-work l = (l.i ≤ length l.initial.work) × ClearIs l.initial.work l.work 0 l.i
+
+abbrev pub measure-loop-work : goal.measure-loop-work
+measure-loop-work l = length l.initial.work - l.i
