@@ -8,5 +8,5 @@ use Rattle.workspace.proofs.clear_words.Given as goal
 abbrev pub invariant-loop-i : goal.invariant-loop-i
 invariant-loop-i l = Clearing l.initial.w l.w l.a l.e l.i
 
-abbrev pub measure-loop-i : goal.measure-loop-i
-measure-loop-i l = l.e - l.i
+abbrev pub decreases-loop-i : goal.decreases-loop-i
+decreases-loop-i l = l.e - l.i

@@ -8,5 +8,5 @@ use Rattle.workspace.proofs.united.Given as goal
 abbrev pub invariant-loop-i : goal.invariant-loop-i
 invariant-loop-i l = (l.a ≤ l.i) × (l.i ≤ max l.a l.e) × UnitedIs l.w l.a l.i l.bits
 
-abbrev pub measure-loop-i : goal.measure-loop-i
-measure-loop-i l = l.e - l.i
+abbrev pub decreases-loop-i : goal.decreases-loop-i
+decreases-loop-i l = l.e - l.i

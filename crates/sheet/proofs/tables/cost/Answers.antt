@@ -1,0 +1,15 @@
+-- `cost` (src/tables.rt) keeps its contract.
+use Prim.Native.Nat.{ℕ, ◌/◌}
+use mathlib.Core.Path.{ap}
+use native.Mathlib.Omega.{arith}
+use Rattle.sheet.proofs.Rows.{cost-in, field-small, link-below, link-index}
+use Rattle.sheet.proofs.tables.cost.Goals as goal
+
+pub overflow_add-l : goal.overflow_add-l
+overflow_add-l c = omega (arith, link-index c.args.w.now c.args.l c.requires.loaded c.requires.l_bound)
+
+pub word-requires : goal.word-requires
+word-requires c = omega (arith, link-index c.args.w.now c.args.l c.requires.loaded c.requires.l_bound, c.requires.loaded.long)
+
+pub returns : goal.returns
+returns c = field-small (ap (λ (x : ℕ). x / 65536) c.word.ensures.0) (cost-in c.args.w.now c.args.l c.requires.l_bound) (c.requires.loaded.costs c.args.l (link-below c.args.w.now c.args.l c.requires.l_bound))
