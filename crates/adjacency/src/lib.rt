@@ -9,7 +9,7 @@ use sheet::tables;
 use workspace::{HEADS, NEXTS};
 
 // The end of a link by which it is chained: its source, for the links out of a task, or its target, for those into one.
-#[derive(Drop)]
+#[derive(Clone, Copy)]
 pub enum End {
     Source,
     Target,

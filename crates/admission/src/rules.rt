@@ -10,7 +10,7 @@ use crate::view::View;
 use workspace::total::Found;
 
 // The number of a link's fault and the link, or none.
-#[derive(Drop)]
+#[derive(Clone, Copy)]
 pub enum Fault {
     At(u8, usize),
     Nothing,

@@ -6,7 +6,7 @@ ghost use Rattle.admission.specs.Views.{ViewIs};
 
 use sheet::{LINK_SIZE, TASK_SIZE};
 
-#[derive(Drop)]
+#[derive(Clone, Copy)]
 pub struct View {
     pub processors: usize,
     pub limit: usize,

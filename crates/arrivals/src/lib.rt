@@ -46,7 +46,7 @@ pub const PACKED: usize = 1376;
 pub const LENGTH: usize = 2400;
 
 // When the latest message to a task is there, and the processor that it comes from.
-#[derive(Drop)]
+#[derive(Clone, Copy)]
 pub struct Reach {
     pub at: usize,
     pub most: usize,
@@ -168,7 +168,7 @@ fn survey_link(w: &[u32], kept: &mut [u32], t: usize, l: usize)
 }
 
 // The start of a task on each of the sixteen processors.
-#[derive(Drop)]
+#[derive(Clone, Copy)]
 pub struct Starts {
     pub at: [u32; 16],
 }
@@ -233,7 +233,7 @@ fn starts_unpacked(starts: Starts, source: usize, reach: u32, unpacking: u32) ->
 }
 
 // How many hops each processor is from one: in a row of its own, since a loop over bytes is a few vector instructions.
-#[derive(Drop)]
+#[derive(Clone, Copy)]
 pub struct Row {
     pub at: [u8; 16],
 }

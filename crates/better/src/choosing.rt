@@ -15,7 +15,7 @@ use sheet_reader::Reading;
 use stepping_machine::BOARD;
 
 // The bundle that was lent first or second, or a refusal's number and place.
-#[derive(Drop)]
+#[derive(Clone, Copy)]
 pub enum Choice {
     First,
     Second,

@@ -14,7 +14,7 @@ use stepping_machine::steps::counted;
 use stepping_machine::{COUNT, FIRSTS, KINDS, LASTS};
 
 // A claim and a count of processors, of an accepted bundle.
-#[derive(Drop)]
+#[derive(Clone, Copy)]
 pub enum Standing {
     Accepted(usize, usize),
     Refused,

@@ -12,14 +12,14 @@ use bundle::kinds::{is_message, is_task};
 use bundle::{CLAIM_SIZE, LONG_SIZE, SHORT_SIZE};
 
 // How many programmes a bundle has, how many commands stand in them and the time that it claims; or a refusal's number and place.
-#[derive(Drop)]
+#[derive(Clone, Copy)]
 pub enum Reading {
     Read(usize, usize, u32),
     Refused(u8, usize),
 }
 
 // The next command: one in a programme, with its length; one that opens a programme; the claim; or the number that refuses it.
-#[derive(Drop)]
+#[derive(Clone, Copy)]
 pub enum Next {
     Step(usize),
     Open,

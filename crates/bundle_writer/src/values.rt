@@ -8,7 +8,7 @@ use bundle::kinds::{is_message, size_of};
 use bundle_reader::bytes::{Reading, read};
 
 // How many values a bundle has and the time that it claims, or a refusal's number and place.
-#[derive(Drop)]
+#[derive(Clone, Copy)]
 pub enum Copied {
     Values(usize, u32),
     Refused(u8, usize),

@@ -77,7 +77,7 @@ fn cut_number(command: u16, opened: usize, tasks: usize) -> u8
 }
 
 // A command that nothing refuses, with the offset behind it and the programmes open there; or how the judging ends.
-#[derive(Drop)]
+#[derive(Clone, Copy)]
 pub enum Next {
     On(usize, usize),
     Out(Written),

@@ -4,7 +4,7 @@ pub mod bytes; // bytes.rt: of any bytes
 pub mod whole; // whole.rt: 29, 30 and the whole
 
 // A bundle passes, or is refused with a number and a place.
-#[derive(Drop)]
+#[derive(Clone, Copy)]
 pub enum Verdict {
     Good,
     Refused(u8, usize),

@@ -22,7 +22,7 @@ const LETTERS: usize = 26;
 const HEAVIEST: u64 = 65535;
 
 // A weight, or a refusal's number and place.
-#[derive(Drop)]
+#[derive(Clone, Copy)]
 pub enum Weight {
     Of(u64),
     Refused(u8, usize),

@@ -7,7 +7,7 @@ ghost use Rattle.formulas.specs.Parts.{stands_at, digit_at, closed_by, SimpleIs,
 const MOST_DIGITS: usize = 10;
 
 // A part of the text: its value (values.rt says which) and the offset behind it; or the offset at which reading stops.
-#[derive(Drop)]
+#[derive(Clone, Copy)]
 pub enum Part {
     At(u64, usize),
     Outside(usize),

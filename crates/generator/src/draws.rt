@@ -6,7 +6,7 @@ ghost use Rattle.generator.specs.Draw.{xorshift, start_of, next_of, draw_of};
 const GROWTH: u32 = 362437;
 
 // The xorshift's state, and the one that grows.
-#[derive(Drop)]
+#[derive(Clone, Copy)]
 pub struct Draws {
     pub shifted: u32,
     pub grown: u32,

@@ -17,7 +17,7 @@ use workspace::total::Found;
 use workspace::{MARKS, QUEUE};
 
 // A circle through the goal was closed, or the queue has so many tasks.
-#[derive(Drop)]
+#[derive(Clone, Copy)]
 pub enum Spread {
     Back,
     On(usize),

@@ -18,7 +18,7 @@ mod fields;
 mod rows;
 
 // The length of the listing that was written, or of one that the output is too short for (12).
-#[derive(Drop)]
+#[derive(Clone, Copy)]
 pub enum Listed {
     Long(usize),
     Short(usize),

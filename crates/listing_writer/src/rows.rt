@@ -13,7 +13,7 @@ use crate::fields::{digits, put_decimal, put_field, put_fields, put_word};
 use sheet::tables;
 
 // The processors: 1 for each on which a task stands.
-#[derive(Drop)]
+#[derive(Clone, Copy)]
 pub struct Runs {
     pub at: [u32; 16],
 }

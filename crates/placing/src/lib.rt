@@ -56,7 +56,7 @@ fn is_open(w: &[u32], kept: &[u32], k: usize) -> bool
 }
 
 // From where links are counted: from one processor, from all, or from processors 4 j to 4 j + 3, a byte for each.
-#[derive(Drop)]
+#[derive(Clone, Copy)]
 pub enum Senders {
     One(usize),
     All,
@@ -95,7 +95,7 @@ fn due_from(w: &[u32], kept: &[u32], t: usize, from: Senders) -> usize
 }
 
 // Sixteen counts, a byte for each: those of processors 0 to 3 in a, of 4 to 7 in b, and so on.
-#[derive(Drop)]
+#[derive(Clone, Copy)]
 pub struct Counts {
     pub a: usize,
     pub b: usize,
@@ -440,7 +440,7 @@ fn lowest(set: u16) -> Found
 }
 
 // The least start so far, and the set of those processors that have it.
-#[derive(Drop)]
+#[derive(Clone, Copy)]
 pub struct Tied {
     pub least: u32,
     pub set: u16,

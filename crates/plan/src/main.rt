@@ -8,7 +8,7 @@ ghost use Rattle.plan.specs.Pieces.{GotIs, InputIs};
 use libc::{STDIN_FILENO, STDOUT_FILENO};
 
 // What a read brought.
-#[derive(Drop)]
+#[derive(Clone, Copy)]
 enum Got {
     More(usize),
     End,
@@ -16,7 +16,7 @@ enum Got {
 }
 
 // How much input there was, up to what the buffer holds.
-#[derive(Drop)]
+#[derive(Clone, Copy)]
 enum Input {
     Bytes(usize),
     Failed,

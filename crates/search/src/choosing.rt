@@ -12,7 +12,7 @@ use admission::view::View;
 use better::order::{Order, by_bytes, by_number, then_by};
 
 // The best arrangement so far, if one was accepted, with its claim and how many programmes it has.
-#[derive(Drop)]
+#[derive(Clone, Copy)]
 pub struct Best {
     pub found: bool,
     pub claim: usize,

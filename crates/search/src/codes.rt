@@ -25,7 +25,7 @@ pub fn stands(code: usize, len: usize, t: usize) -> bool
 }
 
 // The last programme: how many tasks it has, and the number without it.
-#[derive(Drop)]
+#[derive(Clone, Copy)]
 pub struct Last {
     pub tasks: usize,
     pub front: usize,

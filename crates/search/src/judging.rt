@@ -12,7 +12,7 @@ use checker::Verdict;
 use checker::whole::judgement;
 
 // Whether it is accepted, and with which claim.
-#[derive(Drop)]
+#[derive(Clone, Copy)]
 pub struct Judgement {
     pub accepted: bool,
     pub claim: usize,

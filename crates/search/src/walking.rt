@@ -19,7 +19,7 @@ pub const RECEIVES: usize = 256;
 
 // An arrangement of some tasks: its code, how many tasks and programmes it has, how many of the tasks are in the last programme, the least key of a programme behind
 // them, and the stores and works of the last programme.
-#[derive(Drop)]
+#[derive(Clone, Copy)]
 pub struct Begun {
     pub code: usize,
     pub tasks: usize,

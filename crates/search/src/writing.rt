@@ -158,7 +158,7 @@ fn put_tasks(
 }
 
 // Programmes in the buffer: where they end, and how many they are.
-#[derive(Drop)]
+#[derive(Clone, Copy)]
 pub struct Laid {
     pub at: usize,
     pub count: usize,

@@ -15,7 +15,7 @@ use crate::Reading;
 use sheet::{BOARD_SIZE, CUBE_SIZE, LINK_SIZE, TASK_SIZE, UNPACKING_SIZE, pairs, tables};
 
 // The next command behind the board command: its kind, or the number that refuses it.
-#[derive(Drop)]
+#[derive(Clone, Copy)]
 pub enum Next {
     Unpacking,
     Cube,

@@ -9,7 +9,7 @@ use admission::view::View;
 use bundle::{LONG_SIZE, SHORT_SIZE};
 
 // A command's word, how many bytes it has, what it adds to the store in use and what it gives back of it.
-#[derive(Drop)]
+#[derive(Clone, Copy)]
 pub struct Coded {
     pub word: usize,
     pub size: usize,

@@ -12,7 +12,7 @@ use admission::view::View;
 use workspace::total::Found;
 
 // The index behind a programme, and its highest store in use.
-#[derive(Drop)]
+#[derive(Clone, Copy)]
 struct Extent {
     end: usize,
     highest: usize,

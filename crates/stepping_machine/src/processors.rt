@@ -3,7 +3,7 @@ ghost use Rattle.std.specs.Prelude.{◌≡◌};
 ghost use Rattle.stepping_machine.specs.Advance.{Narrow, Small, after};
 
 // The clock, the position in the programme and the store in use.
-#[derive(Drop)]
+#[derive(Clone, Copy)]
 pub struct Processor {
     pub clock: usize,
     pub position: usize,

@@ -7,7 +7,7 @@ ghost use Rattle.trials.specs.Records.{record_at};
 use libc::{STDIN_FILENO, STDOUT_FILENO};
 
 // A record of the input, by the ends of its name and of its sheet.
-#[derive(Drop)]
+#[derive(Clone, Copy)]
 enum Record {
     Whole(usize, usize),
     Cut,

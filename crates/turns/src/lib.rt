@@ -19,7 +19,7 @@ use workspace::total::Found;
 use workspace::{FINISHES, OPENED, PLACED, PLACES};
 
 // Done, or refused for want of store (11) at a task.
-#[derive(Drop)]
+#[derive(Clone, Copy)]
 pub enum Planned {
     Done,
     Refused(usize),

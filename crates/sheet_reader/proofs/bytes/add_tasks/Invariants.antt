@@ -1,0 +1,16 @@
+-- `add_tasks` (src/bytes.rt) keeps its contract: its loops.
+use Prim.Native.Nat.{◌+◌, ◌-◌, ◌*◌}
+use Rattle.sheet_reader.proofs.Scans.{task-added, task-comes, task-few, tasks-end, walk-room}
+use Rattle.sheet_reader.specs.Scanning.{BoardRead, Walking}
+use Rattle.sheet.specs.Format.{task, read_form}
+use Rattle.sheet.specs.Sizes.{task_size}
+use lib.ListN.{length}
+use mathlib.Core.Path.{◌≡◌, ◌∙◌, sym}
+use native.Mathlib.Omega.{arith}
+use Rattle.sheet_reader.proofs.bytes.add_tasks.Given as goal
+
+abbrev pub invariant-loop-w : goal.invariant-loop-w
+invariant-loop-w l = Walking (read_form l.bytes) l.bytes l.initial.w l.w l.tasks 0 l.at × BoardRead l.bytes l.w l.at × (l.at ≡ l.start + task_size * l.tasks)
+
+abbrev pub decreases-loop-w : goal.decreases-loop-w
+decreases-loop-w l = length l.bytes - l.at

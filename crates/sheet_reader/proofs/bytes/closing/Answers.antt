@@ -1,0 +1,12 @@
+-- `closing` (src/bytes.rt) keeps its contract.
+use Rattle.sheet_reader.specs.Answers.{closed_of}
+use borrow.Author.Tests.{le-ltb, lt-ltb}
+use Rattle.sheet_reader.proofs.bytes.closing.Goals as goal
+
+pub returns-then-past-bytes : goal.returns-then-past-bytes
+unfolding closed_of
+returns-then-past-bytes c = simp (lt-ltb _ _ c.if-past-bytes.true)
+
+pub returns : goal.returns
+unfolding closed_of
+returns c = simp (le-ltb _ _ c.if-past-bytes.false)
