@@ -34,4 +34,4 @@ pub shape_of-w : goal.shape_of-w
 shape_of-w c = c.add_links-links.ensures.0.walking.scanning.long ∙ c.blank.ensures.long ∙ c.add_tasks-tasks.ensures.0.scanning.long ∙ c.add_board-start.ensures.0.scanning.long
 
 pub returns : goal.returns
-returns c = read_through c.rest.ensures (same_length c)
+returns c = read_through c.rest.ensures (shape_of-w c)

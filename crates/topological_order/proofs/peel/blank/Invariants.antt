@@ -1,0 +1,16 @@
+-- `blank` (src/peel.rt) keeps its contract: its loops.
+use Rattle.topological_order.specs.Words.{Outside}
+use Rattle.topological_order.specs.Peeling.{Counted}
+use Prim.Native.Nat.{◌-◌, ◌≤◌}
+use native.Mathlib.Omega.{arith}
+use Rattle.topological_order.proofs.Frames.{outside-none}
+use Rattle.topological_order.proofs.Starts.{blank-outside, blank-more, blank_none, counted-at}
+use mathlib.Core.Path.{refl}
+use Rattle.sheet.specs.Tables.{sheet_in}
+use Rattle.topological_order.proofs.peel.blank.Given as goal
+
+abbrev pub invariant-loop-t : goal.invariant-loop-t
+invariant-loop-t l = (l.t ≤ l.n) × Outside l.initial.w l.w × Counted (sheet_in l.initial.w) l.t 0 l.w
+
+abbrev pub decreases-loop-t : goal.decreases-loop-t
+decreases-loop-t l = l.n - l.t

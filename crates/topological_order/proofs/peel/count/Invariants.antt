@@ -1,0 +1,17 @@
+-- `count` (src/peel.rt) keeps its contract: its loops.
+use Rattle.topological_order.specs.Words.{Outside}
+use Rattle.topological_order.specs.Peeling.{Counted}
+use Prim.Native.Nat.{◌-◌, ◌≤◌}
+use native.Mathlib.Omega.{arith}
+use Rattle.topological_order.proofs.Frames.{outside-none, loaded-declared}
+use Rattle.topological_order.proofs.Starts.{count-asks, count-turns, counted-at, filled_none}
+use mathlib.Core.Path.{refl}
+use Rattle.sheet.specs.Tables.{sheet_in}
+use Rattle.sheet.specs.Sheet.{task_count}
+use Rattle.topological_order.proofs.peel.count.Given as goal
+
+abbrev pub invariant-loop-l : goal.invariant-loop-l
+invariant-loop-l l = (l.l ≤ l.m) × Outside l.initial.w l.w × Counted (sheet_in l.initial.w) (task_count (sheet_in l.initial.w)) l.l l.w
+
+abbrev pub decreases-loop-l : goal.decreases-loop-l
+decreases-loop-l l = l.m - l.l

@@ -1,0 +1,30 @@
+-- `fill` (src/peel.rt) keeps its contract.
+use Rattle.topological_order.specs.Words.{Outside}
+use Rattle.topological_order.specs.Peeling.{Filled}
+use Prim.Native.Nat.{◌-◌, ◌≤◌}
+use native.Mathlib.Omega.{arith}
+use Rattle.topological_order.proofs.Frames.{outside-none}
+use Rattle.topological_order.proofs.Starts.{fill-asks, fill-turns, filled-done}
+use Rattle.sheet.specs.Tables.{sheet_in}
+use Rattle.topological_order.proofs.peel.fill.Goals as goal
+
+pub loop-t-init : goal.loop-t-init
+loop-t-init c = (omega arith, outside-none _, c.requires.filled)
+
+pub offer-k-requires : goal.offer-k-requires
+offer-k-requires c = let v = c.loop-t.invariant in fill-asks c.requires.held v.1 (omega (arith, c.loop-t-test.true, c.tasks-n.ensures.0)) v.2
+
+pub overflow_add-t : goal.overflow_add-t
+overflow_add-t c = omega (arith, c.loop-t-test.true, c.tasks-n.ensures)
+
+pub loop-t-smaller : goal.loop-t-smaller
+loop-t-smaller c = omega (arith, c.loop-t-test.true)
+
+pub loop-t-preserved : goal.loop-t-preserved
+loop-t-preserved c = let t = fill-turns c.requires.held c.loop-t.invariant.1 c.offer-k.ensures in (omega (arith, c.loop-t-test.true), t.0, t.1)
+
+pub shape_of-w : goal.shape_of-w
+shape_of-w c = c.loop-t.invariant.1.kept.long
+
+pub returns : goal.returns
+returns c = let v = c.loop-t.invariant in (v.1, filled-done v.2 (omega (arith, c.loop-t-test.false, c.tasks-n.ensures.0)))
