@@ -18,9 +18,9 @@ module _ {s : Sheet} {i : ℕ} {a : List ℕ} where
   steps-order (then p q) j h = q.order j (omega (arith, steps-more p)) ∙ steps-order p j h
 
 -- no later step sets the same level
-steps-level : {s : Sheet} {i k : ℕ} {b c d : List ℕ} → LevelSet s i c d → Steps s (i + 1) d k b → level_in b (task_at c i) ≡ level_in d (task_at c i)
+steps-level : {s : Sheet} {i : ℕ} {c d : List ℕ} {k : ℕ} {b : List ℕ} → LevelSet s i c d → Steps s (i + 1) d k b → level_in b (task_at c i) ≡ level_in d (task_at c i)
 steps-level x here = refl
-steps-level {s} {i} {k} {b} {c} {d} x (then {b = e} p q) =
+steps-level {s} {i} {c} {d} {k} {b} x (then {b = e} p q) =
     let same : task_at e i ≡ task_at c i = steps-order p i (omega arith) ∙ x.order i (omega arith) in
     q.one (task_at c i) x.task (λ z. q.new (record { step = i; early = omega (arith, steps-more p); is = same ∙ z })) ∙ steps-level x p
 

@@ -14,7 +14,10 @@ pub loop-l-init : goal.loop-l-init
 loop-l-init c = (omega arith, outside-none _, c.requires.counted)
 
 pub count_one-requires : goal.count_one-requires
-count_one-requires c = let v = c.loop-l.invariant in count-asks c.requires.held v.1 (omega (arith, c.loop-l-test.true, c.links-m.ensures.0)) v.2
+count_one-requires c =
+    let v = c.loop-l.invariant in
+    let all = count-asks c.requires.held v.1 (omega (arith, c.loop-l-test.true, c.links-m.ensures.0)) v.2 in
+    record { held = all.0; l_bound = all.1.0; counted = all.1.1 }
 
 pub overflow_add-l : goal.overflow_add-l
 overflow_add-l c = omega (arith, c.loop-l-test.true, c.links-m.ensures)

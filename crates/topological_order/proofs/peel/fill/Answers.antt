@@ -12,7 +12,10 @@ pub loop-t-init : goal.loop-t-init
 loop-t-init c = (omega arith, outside-none _, c.requires.filled)
 
 pub offer-k-requires : goal.offer-k-requires
-offer-k-requires c = let v = c.loop-t.invariant in fill-asks c.requires.held v.1 (omega (arith, c.loop-t-test.true, c.tasks-n.ensures.0)) v.2
+offer-k-requires c =
+    let v = c.loop-t.invariant in
+    let all = fill-asks c.requires.held v.1 (omega (arith, c.loop-t-test.true, c.tasks-n.ensures.0)) v.2 in
+    record { held = all.0; t_bound = all.1.0; filled = all.1.1 }
 
 pub overflow_add-t : goal.overflow_add-t
 overflow_add-t c = omega (arith, c.loop-t-test.true, c.tasks-n.ensures)

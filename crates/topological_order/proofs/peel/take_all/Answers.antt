@@ -10,7 +10,9 @@ pub loop-i-init : goal.loop-i-init
 loop-i-init c = take-starts c.args.w.now c.args.k c.requires.peeled
 
 pub take-q-requires : goal.take-q-requires
-take-q-requires c = take-asks c.requires.held c.requires.chained c.loop-i.invariant c.loop-i-test.true
+take-q-requires c =
+    let all = take-asks c.requires.held c.requires.chained c.loop-i.invariant c.loop-i-test.true in
+    record { held = all.0; chained = all.1.0; i_lt_k = all.1.1.0; peeled = all.1.1.1 }
 
 pub overflow_add-i : goal.overflow_add-i
 overflow_add-i c = omega (arith, c.loop-i-test.true, peeled-few c.loop-i.invariant.peeled, c.requires.held.few_tasks)

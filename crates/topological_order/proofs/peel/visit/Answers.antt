@@ -15,7 +15,7 @@ pub overflow_add-result : goal.overflow_add-result
 overflow_add-result c = omega (arith, visit-room c.args.w.now c.requires.held c.args.k c.args.v c.args.l c.requires.l_bound.0 c.requires.l_bound.1 c.requires.walking)
 
 pub shape_of-w-then-d-eq1 : goal.shape_of-w-then-d-eq1
-shape_of-w-then-d-eq1 c = c.push.auto.0 ∙ simp length-set
+shape_of-w-then-d-eq1 c = c.push.auto.w ∙ simp length-set
 
 pub returns-then-d-eq1 : goal.returns-then-d-eq1
 returns-then-d-eq1 c = visit-goes c.args.w.now c.requires.held c.args.k c.args.v c.args.l c.requires.l_bound.0 c.requires.l_bound.1 c.requires.walking c.source-u.ensures.0 c.word-d.ensures.0 c.narrow.ensures _ _ refl c.push.ensures c.if-d-eq1.true

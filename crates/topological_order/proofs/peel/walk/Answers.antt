@@ -12,10 +12,14 @@ pub loop-l-init : goal.loop-l-init
 loop-l-init c = walk-starts c.args.w.now c.args.v c.args.k c.first-l.result c.requires.held c.requires.chained c.requires.walking c.first-l.ensures.0
 
 pub visit-q-requires : goal.visit-q-requires
-visit-q-requires c = walk-asks c.requires.held c.loop-l.invariant (omega (arith, c.loop-l-test.true, c.links-m.ensures.0))
+visit-q-requires c =
+    let all = walk-asks c.requires.held c.loop-l.invariant (omega (arith, c.loop-l-test.true, c.links-m.ensures.0)) in
+    record { held = all.0; l_bound = all.1.0; walking = all.1.1 }
 
 pub next-l-requires : goal.next-l-requires
-next-l-requires c = next-asks c.requires.held c.requires.chained (outside_trans (grown-outside c.loop-l.invariant.grown) (grown-outside c.visit-q.ensures.0)) (omega (arith, c.loop-l-test.true, c.links-m.ensures.0))
+next-l-requires c =
+    let all = next-asks c.requires.held c.requires.chained (outside_trans (grown-outside c.loop-l.invariant.grown) (grown-outside c.visit-q.ensures.0)) (omega (arith, c.loop-l-test.true, c.links-m.ensures.0)) in
+    record { loaded = all.0; chained = all.1.0; l_bound = all.1.1 }
 
 pub loop-l-smaller : goal.loop-l-smaller
 loop-l-smaller c = omega (arith, c.loop-l-test.true, c.next-l.ensures, walk-less c.requires.held c.requires.chained c.loop-l.invariant (omega (arith, c.loop-l-test.true, c.links-m.ensures.0)) (grown-outside c.visit-q.ensures.0) c.next-l.ensures.0)
