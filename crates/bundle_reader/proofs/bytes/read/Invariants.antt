@@ -1,0 +1,12 @@
+-- `bundle_reader::bytes::read` meets its contract: its loops.
+use Prim.Native.Nat.{◌-◌, ◌<◌}
+use Rattle.bundle_reader.proofs.Scans.{Scan, claim-on, claim-room, open-on, open-room, refused-at, scan-starts, step-on}
+use lib.ListN.{length}
+use native.Mathlib.Omega.{arith}
+use Rattle.bundle_reader.proofs.bytes.read.Given as goal
+
+abbrev pub invariant-loop-size : goal.invariant-loop-size
+invariant-loop-size l = Scan l.bytes l.processors l.tasks l.links l.initial.words l.words l.opened l.commands l.at × (l.processors < length l.initial.words)
+
+abbrev pub decreases-loop-size : goal.decreases-loop-size
+decreases-loop-size l = length l.bytes - l.at

@@ -1,0 +1,13 @@
+-- `walk_into` (src/search.rt) keeps its contract: its loops.
+use Rattle.levelling.proofs.Spreads.{SpreadTo, spread-asks, spread-closes, spread-ends, spread-goes, spread-is-back, spread-is-on, spread-less, spread-source, spread-starts}
+use Prim.Native.Nat.{◌-◌}
+use native.Mathlib.Omega.{arith}
+use Rattle.topological_order.proofs.Frames.{outside-held, outside_trans}
+use Rattle.topological_order.proofs.Turns.{next-asks}
+use Rattle.levelling.proofs.search.walk_into.Given as goal
+
+abbrev pub invariant-loop-l : goal.invariant-loop-l
+invariant-loop-l l = SpreadTo l.initial.w l.goal l.v l.q l.l l.w
+
+abbrev pub decreases-loop-l : goal.decreases-loop-l
+decreases-loop-l l = l.m - l.l
