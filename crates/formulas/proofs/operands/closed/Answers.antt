@@ -9,7 +9,7 @@ use Rattle.formulas.proofs.operands.closed.Goals as goal
 pub overflow_add-result : goal.overflow_add-result
 overflow_add-result c =
     let end = c.in-At.e in
-    omega (arith, stands-true c.args.text.now end closer (sym c.stands.ensures ∙ c.if-stands.true), c.well-formed.0.0)
+    omega (arith, stands-true c.args.text.now end closer (sym c.stands.ensures ∙ c.if-stands.true), c.well_formed.0.0)
 
 pub returns-then-stands : goal.returns-then-stands
 returns-then-stands c = closed-yes _ _ _ _ c.in-At.is (sym c.stands.ensures ∙ c.if-stands.true)

@@ -20,7 +20,7 @@ pub put_link-requires : goal.put_link-requires
 put_link-requires c = record { loaded = c.requires.loaded; l_bound = (omega (arith, c.links-m.ensures.0, c.loop-l-test.true), omega (arith, c.links-m.ensures.0, c.requires.w_in_bounds, c.loop-l.invariant.1, c.loop-l-test.true)) }
 
 pub loop-l-preserved : goal.loop-l-preserved
-loop-l-preserved c = (omega (arith, c.loop-l-test.true), c.put_link.auto.out.1.0 ∙ c.loop-l.invariant.1, link_values-next (link_in c.args.w.now) _ _ _ c.loop-l.l c.loop-l.invariant.2 c.put_link.ensures)
+loop-l-preserved c = (omega (arith, c.loop-l-test.true), c.put_link.auto.out ∙ c.loop-l.invariant.1, link_values-next (link_in c.args.w.now) _ _ _ c.loop-l.l c.loop-l.invariant.2 c.put_link.ensures)
 
 pub shape_of-out : goal.shape_of-out
 shape_of-out c = c.loop-l.invariant.1

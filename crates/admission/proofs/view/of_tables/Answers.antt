@@ -1,0 +1,32 @@
+-- `of_tables` (src/view.rt) keeps its contract.
+use mathlib.Core.Path.{refl, ap₂, ◌∙◌}
+use native.Mathlib.Omega.{arith}
+use Rattle.sheet.specs.Sizes.{front_by}
+use Rattle.admission.proofs.view.of_tables.Goals as goal
+
+pub overflow_add-result : goal.overflow_add-result
+overflow_add-result c = omega (arith, c.front-front.ensures.1, c.tasks-tasks.ensures.1)
+
+pub returns : goal.returns
+returns c =
+    let cube = c.cube-cube.ensures in
+    let unpacking = c.unpacking-unpacking.ensures in
+    let tasks = c.tasks-tasks.ensures in
+    record {
+      bounded =
+          record {
+            few_processors = c.processors.ensures.1;
+            few_tasks = tasks.1;
+            few_links = c.links.ensures.1;
+            unpacks = omega (arith, unpacking.1);
+            near = omega (arith, c.front-front.ensures.1);
+            behind = refl;
+          };
+      c = c.processors.ensures.0;
+      limit = c.limit.ensures.0;
+      unpacking = unpacking.0;
+      cube = cube;
+      tasks = tasks.0;
+      links = c.links.ensures.0;
+      c = c.front-front.ensures.0 ∙ ap₂ front_by unpacking.0 cube;
+    }

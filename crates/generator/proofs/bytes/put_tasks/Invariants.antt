@@ -1,0 +1,16 @@
+-- `put_tasks` (src/bytes.rt) keeps its contract: its loops.
+use Rattle.std.proofs.Common.{◌≡◌, ◌-◌, ◌≤◌, List, length, refl, ap, ◌∙◌, arith, rules}
+use Rattle.folds.specs.Folds.{listed}
+use Rattle.numbers.specs.Number.{stored}
+use Rattle.sheet.specs.Sheet.{Task}
+use Rattle.sheet.specs.Tables.{task_in}
+use Rattle.sheet.specs.Writing.{task_bytes}
+use Rattle.sheet.proofs.Rows.{all-tasks}
+use Rattle.sheet_writer.proofs.Stores.{tasks-next, tasks-none}
+use Rattle.generator.proofs.bytes.put_tasks.Given as goal
+
+abbrev pub invariant-loop-i : goal.invariant-loop-i
+invariant-loop-i l = (l.i ≤ l.n) × (length l.out ≡ length l.initial.out) × (l.out ≡ stored l.initial.out 0 (task_bytes (listed l.i (task_in l.w))))
+
+abbrev pub decreases-loop-i : goal.decreases-loop-i
+decreases-loop-i l = l.n - l.i
