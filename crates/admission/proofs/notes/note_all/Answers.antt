@@ -50,15 +50,15 @@ pub overflow_cast-c : goal.overflow_cast-c
 overflow_cast-c c = omega (arith, c.if-c-lt80.true)
 
 pub overflow_add-at-then-c-lt80 : goal.overflow_add-at-then-c-lt80
-overflow_add-at-then-c-lt80 c = omega (arith, c.type_size.ensures, size-between c.get8-c.result, c.minus-end.ensures, c.loop-at-test.true)
+overflow_add-at-then-c-lt80 c = omega (arith, c.size_of-at.ensures, size-between c.get8-c.result, c.minus-end.ensures, c.loop-at-test.true)
 
 pub loop-at-smaller-then-c-lt80 : goal.loop-at-smaller-then-c-lt80
-loop-at-smaller-then-c-lt80 c = omega (arith, c.type_size.ensures, size-between c.get8-c.result, c.loop-at-test.true)
+loop-at-smaller-then-c-lt80 c = omega (arith, c.size_of-at.ensures, size-between c.get8-c.result, c.loop-at-test.true)
 
 pub loop-at-preserved-then-c-lt80 : goal.loop-at-preserved-then-c-lt80
 loop-at-preserved-then-c-lt80 c =
     let e = c.get8-c.ensures.0 in
-    noting-release _ c.minus-end.ensures c.loop-at.invariant c.loop-at-test.true (omega (arith, e, c.if-c-lt80.true)) _ (c.type_size.ensures ∙ ap size_by e) (omega (arith, c.type_size.ensures, size-between c.get8-c.result))
+    noting-release _ c.minus-end.ensures c.loop-at.invariant c.loop-at-test.true (omega (arith, e, c.if-c-lt80.true)) _ (c.size_of-at.ensures ∙ ap size_by e) (omega (arith, c.size_of-at.ensures, size-between c.get8-c.result))
 
 pub message-requires : goal.message-requires
 message-requires c = omega (arith, c.minus-end.ensures, c.loop-at-test.true)

@@ -20,15 +20,15 @@ pub overflow_add-k : goal.overflow_add-k
 overflow_add-k c = omega (arith, c.loop-at.invariant.few, c.minus-end.ensures, c.loop-at-test.true)
 
 pub overflow_add-at : goal.overflow_add-at
-overflow_add-at c = omega (arith, c.type_size.ensures, size-between c.get8-c.result, c.minus-end.ensures, c.loop-at-test.true)
+overflow_add-at c = omega (arith, c.size_of-size.ensures, size-between c.get8-c.result, c.minus-end.ensures, c.loop-at-test.true)
 
 pub loop-at-smaller-then-c-eq80 : goal.loop-at-smaller-then-c-eq80
-loop-at-smaller-then-c-eq80 c = omega (arith, c.type_size.ensures, size-between c.get8-c.result, c.loop-at-test.true)
+loop-at-smaller-then-c-eq80 c = omega (arith, c.size_of-size.ensures, size-between c.get8-c.result, c.loop-at-test.true)
 
 pub loop-at-preserved-then-c-eq80 : goal.loop-at-preserved-then-c-eq80
 loop-at-preserved-then-c-eq80 c =
     let b = c.get8-c.ensures.0 in
-    freeing-open _ c.minus-end.ensures c.loop-at.invariant c.loop-at-test.true (sym b ∙ c.if-c-eq80.true) _ (c.type_size.ensures ∙ ap size_by b)
+    freeing-open _ c.minus-end.ensures c.loop-at.invariant c.loop-at-test.true (sym b ∙ c.if-c-eq80.true) _ (c.size_of-size.ensures ∙ ap size_by b)
 
 pub freed_at-x-requires : goal.freed_at-x-requires
 freed_at-x-requires c = omega (arith, c.minus-end.ensures, c.loop-at-test.true)
@@ -37,17 +37,17 @@ pub overflow_add-k-then-c-lt80-2 : goal.overflow_add-k-then-c-lt80-2
 overflow_add-k-then-c-lt80-2 c = omega (arith, c.loop-at.invariant.less, c.minus-end.ensures, c.loop-at-test.true)
 
 pub overflow_add-at-then-precedes : goal.overflow_add-at-then-precedes
-overflow_add-at-then-precedes c = omega (arith, c.type_size.ensures, size-between c.get8-c.result, c.minus-end.ensures, c.loop-at-test.true)
+overflow_add-at-then-precedes c = omega (arith, c.size_of-size.ensures, size-between c.get8-c.result, c.minus-end.ensures, c.loop-at-test.true)
 
 pub loop-at-smaller-then-precedes : goal.loop-at-smaller-then-precedes
-loop-at-smaller-then-precedes c = omega (arith, c.type_size.ensures, size-between c.get8-c.result, c.loop-at-test.true)
+loop-at-smaller-then-precedes c = omega (arith, c.size_of-size.ensures, size-between c.get8-c.result, c.loop-at-test.true)
 
 pub loop-at-preserved-then-precedes : goal.loop-at-preserved-then-precedes
 loop-at-preserved-then-precedes c =
     let b = c.get8-c.ensures.0 in
     freeing-right _ c.minus-end.ensures c.loop-at.invariant c.loop-at-test.true (omega (arith, b, c.if-c-lt80.true)) _ refl _ c.freed_at-x.ensures.0 _ c.word.ensures.0
-    (sym c.precedes.ensures ∙ c.if-precedes.true) _ c.put.ensures _ (c.type_size.ensures ∙ ap size_by b)
-    (omega (arith, c.type_size.ensures, size-between c.get8-c.result))
+    (sym c.precedes.ensures ∙ c.if-precedes.true) _ c.put.ensures _ (c.size_of-size.ensures ∙ ap size_by b)
+    (omega (arith, c.size_of-size.ensures, size-between c.get8-c.result))
 
 pub shape_of-w-else-precedes : goal.shape_of-w-else-precedes
 shape_of-w-else-precedes c = c.loop-at.invariant.kept.long ∙ c.keep_lasts.ensures.apart.long
@@ -63,16 +63,16 @@ pub overflow_add-r : goal.overflow_add-r
 overflow_add-r c = omega (arith, c.loop-at.invariant.less, c.minus-end.ensures, c.loop-at-test.true)
 
 pub overflow_add-at-else-c-lt80 : goal.overflow_add-at-else-c-lt80
-overflow_add-at-else-c-lt80 c = omega (arith, c.type_size.ensures, size-between c.get8-c.result, c.minus-end.ensures, c.loop-at-test.true)
+overflow_add-at-else-c-lt80 c = omega (arith, c.size_of-size.ensures, size-between c.get8-c.result, c.minus-end.ensures, c.loop-at-test.true)
 
 pub loop-at-smaller : goal.loop-at-smaller
-loop-at-smaller c = omega (arith, c.type_size.ensures, size-between c.get8-c.result, c.loop-at-test.true)
+loop-at-smaller c = omega (arith, c.size_of-size.ensures, size-between c.get8-c.result, c.loop-at-test.true)
 
 pub loop-at-preserved : goal.loop-at-preserved
 loop-at-preserved c =
     let b = c.get8-c.ensures.0 in
-    freeing-plain _ c.minus-end.ensures c.loop-at.invariant c.loop-at-test.true (omega (arith, b, c.if-c-lt80.false, c.if-c-eq80.false)) _ (c.type_size.ensures ∙ ap size_by b)
-    (omega (arith, c.type_size.ensures, size-between c.get8-c.result))
+    freeing-plain _ c.minus-end.ensures c.loop-at.invariant c.loop-at-test.true (omega (arith, b, c.if-c-lt80.false, c.if-c-eq80.false)) _ (c.size_of-size.ensures ∙ ap size_by b)
+    (omega (arith, c.size_of-size.ensures, size-between c.get8-c.result))
 
 pub shape_of-w : goal.shape_of-w
 shape_of-w c = c.loop-at.invariant.kept.long ∙ c.keep_lasts.ensures.apart.long

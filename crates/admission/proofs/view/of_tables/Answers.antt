@@ -22,11 +22,11 @@ returns c =
             near = omega (arith, c.front-front.ensures.1);
             behind = refl;
           };
-      c = c.processors.ensures.0;
+      processors = c.processors.ensures.0;
       limit = c.limit.ensures.0;
       unpacking = unpacking.0;
       cube = cube;
       tasks = tasks.0;
       links = c.links.ensures.0;
-      c = c.front-front.ensures.0 ∙ ap₂ front_by unpacking.0 cube;
+      front = c.front-front.ensures.0 ∙ ap₂ front_by unpacking.0 cube;
     }

@@ -4,4 +4,4 @@ use Rattle.std.proofs.Common.{rules}
 use Rattle.generator.proofs.draws.next.Goals as goal
 
 pub returns : goal.returns
-returns c = next-is c.args.d _ _ c.shift.ensures c.wrapping_add_u32.ensures
+returns c = next-is c.args.d _ _ c.shift.ensures c.wrapping_add_u32.ensures.value

@@ -18,4 +18,4 @@ returns c =
     let g = c.next-third.ensures in
     let k = c.next-fourth.ensures in
     let x = try-is d _ _ e f _ _ g k c.args.tasks _ _ _ _ c.draw.ensures c.draw-2.ensures c.draw-3.ensures c.draw-4.ensures in
-    (fourth-states d _ _ e f _ _ g k, subst (λ (l : Link). TriedIn l c.args.w.now c.try_link.new.0) x c.try_link.ensures)
+    (fourth-states d _ _ e f _ _ g k, subst (λ (l : Link). TriedIn l c.args.w.now c.try_link.new.w) x c.try_link.ensures)
