@@ -1,5 +1,6 @@
 // Unsigned numbers: of 8, 16 and 32 bits in a slice of bytes, lowest byte first; the later, the smaller and the difference of two.
 #![tactic(auto)]
+
 ghost use Rattle.std.specs.Prelude.{◌≡◌, ◌+◌, ◌-◌, ◌≤◌, ◌<◌, max, min, length, get_or};
 ghost use Rattle.numbers.specs.Number.{number_at, number_bytes, stored};
 
