@@ -1,5 +1,6 @@
 // The links out of each task and into each task, chained in rising number, so that a task's own links are walked without the others.
 #![tactic(auto)]
+
 ghost use Rattle.std.specs.Prelude.{◌≡◌, ◌+◌, ◌<◌, ◌≤◌};
 ghost use Rattle.sheet.specs.Sheet.{task_count, link_count};
 ghost use Rattle.sheet.specs.Tables.{sheet_in, Loaded};

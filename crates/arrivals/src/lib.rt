@@ -1,5 +1,6 @@
 // What is kept beside the schedule: of each task the links that are known, of each processor its end, its store and the links that wait.
 #![tactic(auto)]
+
 ghost use Rattle.std.specs.Prelude.{◌≡◌, true, ◌+◌, ◌*◌, ◌%◌, ◌^◌, ◌<◌, ◌≤◌, max, length, get_or, eqb, ltb};
 ghost use Rattle.folds.specs.Folds.{pick};
 ghost use Rattle.sheet.specs.Sheet.{task_count, link_count, source_of, target_of};

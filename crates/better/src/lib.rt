@@ -1,5 +1,6 @@
 // The better of two bundles for one sheet, as the caller's own bytes.
 #![tactic(auto)]
+
 pub mod order; // order.rt: numbers and bytes compared
 pub mod standings; // standings.rt: what a bundle is ranked by
 pub mod choosing; // choosing.rt: which of two bundles

@@ -1,5 +1,6 @@
 // A programme bundle: definitions and laws, how long its commands are, and which of them are of a link or of a task.
 #![tactic(auto)]
+
 pub mod kinds; // kinds.rt: commands of a link and of a task, by their bytes
 
 // How many bytes each command of a bundle has: specs/Sizes has the same numbers.

@@ -1,5 +1,6 @@
 // The listing of any bytes, in a buffer that is always long enough: what the programs print.
 #![tactic(auto)]
+
 ghost use Rattle.std.specs.Prelude.{◌≡◌, ◌≤◌};
 ghost use Rattle.console.specs.Pieces.{Whole, PutIs};
 

@@ -1,5 +1,6 @@
 // How far the work of each task of an accepted bundle may grow before the finishing time moves.
 #![tactic(auto)]
+
 pub mod recording; // recording.rt: the check's own run, and in which order it did the commands
 pub mod tracing; // tracing.rt: back over that order, the longest way to the end
 pub mod reports; // reports.rt: the report of any bytes

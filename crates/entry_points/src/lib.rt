@@ -1,5 +1,6 @@
 // What each function of the interface does once its areas are long enough: from bytes to an outcome.
 #![tactic(auto)]
+
 pub mod bundles; // bundles.rt: a bundle read, written and checked
 pub mod ending; // ending.rt: an outcome, and what is returned for it
 pub mod plans; // plans.rt: the planner and its listing

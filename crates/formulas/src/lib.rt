@@ -1,5 +1,6 @@
 // A formula's weight. The readers of a sum, a product and an atom call each other: the parentheses that may still be opened bound how deep, the text how often.
 #![tactic(auto)]
+
 ghost use Rattle.std.specs.Prelude.{◌≡◌, eqb};
 ghost use Rattle.folds.specs.Folds.{both};
 ghost use Rattle.formulas.specs.Grammar.{within};

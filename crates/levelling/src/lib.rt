@@ -1,5 +1,6 @@
 // Circles and levels of a sheet that stands in the work area, and a sheet opened there with them.
 #![tactic(auto)]
+
 ghost use Rattle.sheet.specs.Tables.{Loaded};
 ghost use Rattle.levelling.specs.Found.{LevelsAre};
 

@@ -1,5 +1,6 @@
 // The listing of a sheet's schedule, or of the refusal.
 #![tactic(auto)]
+
 ghost use Rattle.std.specs.Prelude.{◌≤◌, length};
 ghost use Rattle.workspace.specs.Area.{fixed};
 ghost use Rattle.sheet.specs.Tables.{sheet_in, Loaded};

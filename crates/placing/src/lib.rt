@@ -1,5 +1,6 @@
 // Where a task goes: starts, fits and the guard, and the placing steps.
 #![tactic(auto)]
+
 ghost use Rattle.std.specs.Prelude.{◌≡◌, true, false, ◌≢◌, ◌+◌, ◌*◌, ◌<◌, ◌≤◌, get_or, length};
 ghost use Rattle.std.proofs.Math.Option.{none, some};
 ghost use Rattle.folds.specs.Folds.{pick, both, either, any, sum, first, or_else, is_some};

@@ -2,6 +2,7 @@
 // (crates/listing_writer/proofs/Settled.antt). Where a read fails, nothing is listed; a read or a write that fails is named on standard error, since a
 // program has no exit status to say so.
 #![tactic(auto)]
+
 ghost use Rattle.std.specs.Prelude.{◌≤◌, ◌-◌, length};
 ghost use Rattle.plan.specs.Pieces.{GotIs, InputIs};
 

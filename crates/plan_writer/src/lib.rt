@@ -1,5 +1,6 @@
 // The bundle of the schedule in the work area, as bytes.
 #![tactic(auto)]
+
 ghost use Rattle.std.specs.Prelude.{◌≡◌, not, ◌<◌, length};
 ghost use Rattle.workspace.specs.Written.{WriteIs};
 ghost use Rattle.sheet.specs.Sheet.{task_count, link_count};

@@ -1,6 +1,7 @@
 // A reader: lent bytes and an offset, from which numbers of 8, 16 and 32 bits are read. The borrow checker covers no function
 // over such a struct, so those are thin, and `number_at` does the work on the slice and the offset.
 #![tactic(auto)]
+
 ghost use Rattle.std.specs.Prelude.{◌≡◌, ◌+◌, ◌≤◌, ◌<◌, length, get_or};
 ghost use Rattle.numbers.specs.Number.{number_at};
 ghost use Rattle.reader.specs.Whole.{Whole};

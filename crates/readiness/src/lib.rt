@@ -1,5 +1,6 @@
 // Who is ready, who partly, when messages are there, and who goes first, by a table of keys that each placing brings up to date.
 #![tactic(auto)]
+
 pub mod keys; // keys.rt: the table of keys, with the greatest of each block
 
 ghost use Rattle.std.specs.Prelude.{◌≡◌, ◌+◌, ◌<◌, ◌≤◌, length, replicate};

@@ -1,5 +1,6 @@
 // The schedule under construction in the work area: accessors that speak of it, and the store that places a task.
 #![tactic(auto)]
+
 ghost use Rattle.std.specs.Prelude.{◌≡◌, ◌+◌, ◌<◌, ◌≤◌, get_or, length};
 ghost use Rattle.workspace.specs.Area.{fixed, placed_at};
 ghost use Rattle.sheet.specs.Sheet.{task_count};

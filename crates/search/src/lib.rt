@@ -1,5 +1,6 @@
 // The search for the least time of a small sheet.
 #![tactic(auto)]
+
 pub mod codes; // codes.rt: an arrangement as one number
 pub mod writing; // writing.rt: the bundle of an arrangement
 pub mod judging; // judging.rt: one arrangement judged

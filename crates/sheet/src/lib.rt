@@ -1,5 +1,6 @@
 // A task sheet in the tables of the work area.
 #![tactic(auto)]
+
 ghost use Rattle.std.specs.Prelude.{◌≡◌, ◌+◌, ◌≤◌, eqb};
 ghost use Rattle.folds.specs.Folds.{pick};
 ghost use Rattle.sheet.specs.Sizes.{board_size, unpacking_size, cube_size, front_by};

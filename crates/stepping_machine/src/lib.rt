@@ -1,6 +1,7 @@
 // The machine, its programmes decoded into lent words beside its state, so that a step is short. Every function is safe on any words; what it gives is promised for
 // words that represent a state.
 #![tactic(auto)]
+
 pub mod asks; // asks.rt: what is asked of a state
 pub mod decoding; // decoding.rt: commands from bytes
 pub mod load; // load.rt: the programmes, 28, and the fresh state

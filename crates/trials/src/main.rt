@@ -1,6 +1,7 @@
 // Lists the sheets of the trials on standard input, each behind its name. The input is a record for each trial: the name's length (u8), the
 // name, the sheet's length (u16, lowest byte first), the sheet. A record that is cut ends the run, as one is where a read fails.
 #![tactic(auto)]
+
 ghost use Rattle.std.specs.Prelude.{◌≡◌, ◌<◌, length};
 ghost use Rattle.trials.specs.Records.{record_at};
 

@@ -1,5 +1,6 @@
 // The schedule of a sheet: cleared, begun, and filled turn by turn.
 #![tactic(auto)]
+
 ghost use Rattle.std.specs.Prelude.{◌≡◌, true, ◌+◌, ◌<◌};
 ghost use Rattle.sheet.specs.Sheet.{task_count};
 ghost use Rattle.sheet.specs.Tables.{sheet_in, Loaded};

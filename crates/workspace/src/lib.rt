@@ -1,5 +1,6 @@
 // The work area that a caller lends: words of 32 bits.
 #![tactic(auto)]
+
 pub mod answers; // answers.rt: what is told of bytes that are written
 pub mod total; // total.rt: bytes and words at any index
 

@@ -2,6 +2,7 @@
 // output but `kept` of zeldrupa_better, and the work area is all zero afterwards, except under 13, where it is untouched. What each of them gives is in
 // specs/Promises.antt, and of the stepping machine in specs/Stepping.antt.
 #![tactic(auto)]
+
 ghost use Rattle.std.specs.Prelude.{length};
 ghost use Rattle.zeldrupa.specs.Promises.{Gives, GivesSheet, GivesBundle, GivesCheck, GivesRelease, GivesDrift, GivesBetter, GivesPlan, GivesLeast, GivesListing, GivesWeight, GivesGenerated, levels_answer, write_sheet_answer, read_sheet_answer, read_bundle_answer, write_bundle_answer};
 ghost use Rattle.zeldrupa.specs.Stepping.{GivesStart, GivesRun, GivesStep, GivesLeft, GivesProcessor, GivesStamp};

@@ -1,0 +1,16 @@
+-- `claim` (src/lib.rt) keeps its contract: its loops.
+use Prim.Native.Nat.{◌-◌, ◌<◌, ◌≤◌}
+use mathlib.Core.Path.{◌≡◌, sym}
+use native.Mathlib.Omega.{arith}
+use Rattle.planner.specs.Planner.{claim_of}
+use Rattle.planner.specs.Schedule.{finish_of}
+use Rattle.folds.specs.Folds.{greatest}
+use Rattle.folds.proofs.Loops.{greatest-at, greatest-more, greatest-zero}
+use Rattle.schedule.specs.Layout.{schedule_in}
+use Rattle.schedule.proofs.claim.Given as goal
+
+abbrev pub invariant-loop-t : goal.invariant-loop-t
+invariant-loop-t l = (l.t ≤ l.n) × (l.last ≡ greatest l.t (finish_of (schedule_in l.w))) × (l.last < 4294967296)
+
+abbrev pub decreases-loop-t : goal.decreases-loop-t
+decreases-loop-t l = l.n - l.t
