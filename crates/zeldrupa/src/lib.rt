@@ -11,8 +11,7 @@ use entry_points::{bundles, ending, reports, runs, sheets};
 use formulas::Weight;
 
 // Reads a sheet into its tables: two values a task, four a link; processors, limit, tasks, links, the unpacking time, and 1 for a cube into `board`.
-#[unsafe(no_mangle)]
-pub extern "C" fn zeldrupa_read_sheet(
+pub fn zeldrupa_read_sheet(
     sheet: &[u8],
     work: &mut [u32],
     tasks: &mut [u16],
@@ -32,8 +31,7 @@ pub extern "C" fn zeldrupa_read_sheet(
 }
 
 // Writes a sheet from its values. A `cube` of 0 writes no 48, any other one.
-#[unsafe(no_mangle)]
-pub extern "C" fn zeldrupa_write_sheet(
+pub fn zeldrupa_write_sheet(
     processors: u8,
     limit: u32,
     unpacking: u16,
@@ -56,8 +54,7 @@ pub extern "C" fn zeldrupa_write_sheet(
 }
 
 // Writes the sheet that a seed gives, with so many tasks and tries for links.
-#[unsafe(no_mangle)]
-pub extern "C" fn zeldrupa_generate(
+pub fn zeldrupa_generate(
     seed: u32,
     tasks: u32,
     tries: u32,
@@ -79,8 +76,7 @@ pub extern "C" fn zeldrupa_generate(
 }
 
 // The level of each task of a sheet.
-#[unsafe(no_mangle)]
-pub extern "C" fn zeldrupa_levels(
+pub fn zeldrupa_levels(
     sheet: &[u8],
     work: &mut [u32],
     out: &mut [u32],
@@ -98,8 +94,7 @@ pub extern "C" fn zeldrupa_levels(
 }
 
 // Reads a bundle for a sheet: two values a command, and the claim.
-#[unsafe(no_mangle)]
-pub extern "C" fn zeldrupa_read_bundle(
+pub fn zeldrupa_read_bundle(
     sheet: &[u8],
     bundle: &[u8],
     work: &mut [u32],
@@ -119,8 +114,7 @@ pub extern "C" fn zeldrupa_read_bundle(
 }
 
 // Writes a bundle for a sheet from its values and its claim.
-#[unsafe(no_mangle)]
-pub extern "C" fn zeldrupa_write_bundle(
+pub fn zeldrupa_write_bundle(
     sheet: &[u8],
     commands: &[u16],
     claim: u32,
@@ -140,8 +134,7 @@ pub extern "C" fn zeldrupa_write_bundle(
 }
 
 // Checks a bundle for a sheet.
-#[unsafe(no_mangle)]
-pub extern "C" fn zeldrupa_check(
+pub fn zeldrupa_check(
     sheet: &[u8],
     bundle: &[u8],
     work: &mut [u32],
@@ -159,8 +152,7 @@ pub extern "C" fn zeldrupa_check(
 }
 
 // Gives back store that is finished with: an accepted bundle without releases gets each at its earliest right position. One that has any comes out as it went in.
-#[unsafe(no_mangle)]
-pub extern "C" fn zeldrupa_release(
+pub fn zeldrupa_release(
     sheet: &[u8],
     bundle: &[u8],
     work: &mut [u32],
@@ -179,8 +171,7 @@ pub extern "C" fn zeldrupa_release(
 }
 
 // How far the work of each task of an accepted bundle may grow before the finishing time moves: four bytes for each, lowest first.
-#[unsafe(no_mangle)]
-pub extern "C" fn zeldrupa_drift(
+pub fn zeldrupa_drift(
     sheet: &[u8],
     bundle: &[u8],
     work: &mut [u32],
@@ -200,8 +191,7 @@ pub extern "C" fn zeldrupa_drift(
 
 // Checks two bundles for a sheet: `kept` becomes the better one, the very bytes that were lent, and the place is their length. A refusal makes it the empty front of
 // the first.
-#[unsafe(no_mangle)]
-pub extern "C" fn zeldrupa_better<'a>(
+pub fn zeldrupa_better<'a>(
     sheet: &[u8],
     first: &'a [u8],
     second: &'a [u8],
@@ -217,8 +207,7 @@ pub extern "C" fn zeldrupa_better<'a>(
 }
 
 // Plans a sheet: the bytes of the bundle.
-#[unsafe(no_mangle)]
-pub extern "C" fn zeldrupa_plan(
+pub fn zeldrupa_plan(
     sheet: &[u8],
     work: &mut [u32],
     out: &mut [u8],
@@ -236,8 +225,7 @@ pub extern "C" fn zeldrupa_plan(
 }
 
 // The bytes of the bundle of the least time, for a sheet of at most six tasks that is no cube.
-#[unsafe(no_mangle)]
-pub extern "C" fn zeldrupa_least(
+pub fn zeldrupa_least(
     sheet: &[u8],
     work: &mut [u32],
     out: &mut [u8],
@@ -255,8 +243,7 @@ pub extern "C" fn zeldrupa_least(
 }
 
 // The listing of a sheet's plan, or of its refusal.
-#[unsafe(no_mangle)]
-pub extern "C" fn zeldrupa_listing(
+pub fn zeldrupa_listing(
     sheet: &[u8],
     work: &mut [u32],
     out: &mut [u8],
@@ -274,8 +261,7 @@ pub extern "C" fn zeldrupa_listing(
 }
 
 // The weight of a formula, with the values of the letters a to z: the place is the weight.
-#[unsafe(no_mangle)]
-pub extern "C" fn zeldrupa_weight(text: &[u8], letters: &[u32], place: &mut u64) -> u8
+pub fn zeldrupa_weight(text: &[u8], letters: &[u32], place: &mut u64) -> u8
     ensures { GivesWeight text.now letters.now place.new result }
 {
     match formulas::weigh(text, letters) {
@@ -291,8 +277,7 @@ pub extern "C" fn zeldrupa_weight(text: &[u8], letters: &[u32], place: &mut u64)
 }
 
 // Starts the machine: `state` keeps its state from then on, and is lent to each function below.
-#[unsafe(no_mangle)]
-pub extern "C" fn zeldrupa_start(
+pub fn zeldrupa_start(
     sheet: &[u8],
     bundle: &[u8],
     work: &mut [u32],
@@ -315,8 +300,7 @@ pub extern "C" fn zeldrupa_start(
 }
 
 // Starts the machine and makes these choices: how many stepped.
-#[unsafe(no_mangle)]
-pub extern "C" fn zeldrupa_run(
+pub fn zeldrupa_run(
     sheet: &[u8],
     bundle: &[u8],
     choices: &[u8],
@@ -340,8 +324,7 @@ pub extern "C" fn zeldrupa_run(
 }
 
 // One command of the chosen processor: the place is 1 if it stepped, 0 if it could not.
-#[unsafe(no_mangle)]
-pub extern "C" fn zeldrupa_step(
+pub fn zeldrupa_step(
     sheet: &[u8],
     bundle: &[u8],
     state: &mut [u32],
@@ -360,8 +343,7 @@ pub extern "C" fn zeldrupa_step(
 }
 
 // The commands still to do.
-#[unsafe(no_mangle)]
-pub extern "C" fn zeldrupa_left(bundle: &[u8], state: &[u32], place: &mut u64) -> u8
+pub fn zeldrupa_left(bundle: &[u8], state: &[u32], place: &mut u64) -> u8
     ensures { GivesLeft state.now place.new result }
 {
     if state.len() < workspace::LENGTH {
@@ -373,8 +355,7 @@ pub extern "C" fn zeldrupa_left(bundle: &[u8], state: &[u32], place: &mut u64) -
 }
 
 // Clock, position and store in use of processor k.
-#[unsafe(no_mangle)]
-pub extern "C" fn zeldrupa_processor(
+pub fn zeldrupa_processor(
     bundle: &[u8],
     state: &[u32],
     k: u64,
@@ -393,8 +374,7 @@ pub extern "C" fn zeldrupa_processor(
 }
 
 // One more than the stamp of a link's message, or 0 while it is not sent.
-#[unsafe(no_mangle)]
-pub extern "C" fn zeldrupa_stamp(state: &[u32], link: u64, place: &mut u64) -> u8
+pub fn zeldrupa_stamp(state: &[u32], link: u64, place: &mut u64) -> u8
     ensures { GivesStamp state.now link place.new result }
 {
     if state.len() < workspace::LENGTH {

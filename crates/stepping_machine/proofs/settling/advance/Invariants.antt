@@ -1,0 +1,13 @@
+-- `advance` (src/settling.rt) keeps its contract: its loops.
+use Rattle.stepping_machine.specs.Layout as lay
+use Rattle.stepping_machine.proofs.Going.{Advancing, advance-full, advance-more, advance-starts, advance-stops}
+use Prim.Native.Nat.{◌-◌, ◌≤◌}
+use mathlib.Core.Path.{◌∙◌}
+use native.Mathlib.Omega.{arith}
+use Rattle.stepping_machine.proofs.settling.advance.Given as goal
+
+abbrev pub invariant-loop-n : goal.invariant-loop-n
+invariant-loop-n l = (Advancing l.initial.w l.w l.n) × (l.n ≤ lay.longest)
+
+abbrev pub decreases-loop-n : goal.decreases-loop-n
+decreases-loop-n l = lay.longest - l.n
