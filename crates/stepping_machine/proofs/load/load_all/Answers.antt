@@ -12,10 +12,10 @@ pub load_one-x-requires : goal.load_one-x-requires
 load_one-x-requires c = let y = c.requires in let g = c.loop-k.invariant.0 in (going-decodable _ _ _ _ _ y.few _ _ _ y g c.loop-k-test.true, omega (arith, y.few), omega (arith, g.long, y.long), g.behind, omega (arith, g.few, y.few))
 
 pub shape_of-w-then-v-x : goal.shape_of-w-then-v-x
-shape_of-w-then-v-x c = c.Load-one.ensures.long ∙ c.loop-k.invariant.0.long
+shape_of-w-then-v-x c = c.load_one-x.ensures.long ∙ c.loop-k.invariant.0.long
 
 pub returns-then-v-x : goal.returns-then-v-x
-returns-then-v-x c = going-over _ _ _ _ _ c.requires.few _ _ _ _ _ _ c.loop-k.invariant.0 c.loop-k-test.true c.Load-one.ensures c.if-v-x.true
+returns-then-v-x c = going-over _ _ _ _ _ c.requires.few _ _ _ _ _ _ c.loop-k.invariant.0 c.loop-k-test.true c.load_one-x.ensures c.if-v-x.true
 
 pub overflow_add-k : goal.overflow_add-k
 overflow_add-k c = omega (arith, c.requires.few)
@@ -24,7 +24,7 @@ pub loop-k-smaller : goal.loop-k-smaller
 loop-k-smaller c = omega arith
 
 pub loop-k-preserved : goal.loop-k-preserved
-loop-k-preserved c = (going_more _ _ _ _ _ c.requires.few _ _ _ _ _ _ c.loop-k.invariant.0 c.loop-k-test.true c.Load-one.ensures (omega (arith, c.if-v-x.false)), omega arith)
+loop-k-preserved c = (going_more _ _ _ _ _ c.requires.few _ _ _ _ _ _ c.loop-k.invariant.0 c.loop-k-test.true c.load_one-x.ensures (omega (arith, c.if-v-x.false)), omega arith)
 
 pub shape_of-w : goal.shape_of-w
 shape_of-w c = c.loop-k.invariant.0.long

@@ -1,0 +1,18 @@
+-- `begun` (src/lib.rt) keeps its contract.
+use Prim.Native.Nat.{◌+◌, ◌-◌}
+use mathlib.Core.Path.{refl}
+use native.Mathlib.Omega.{arith}
+use lib.ListN.{get_or}
+use Rattle.arrivals.proofs.Stepping.{Halfway, halfway-none, halfway-more, halfway-end}
+use Rattle.arrivals.specs.Layout.{ends_from}
+use borrow.Author.Rules.{rules}
+use Rattle.arrivals.proofs.begun.Goals as goal
+
+pub loop-k-init : goal.loop-k-init
+loop-k-init c = halfway-none _ _ (search rules)
+
+pub loop-k-preserved : goal.loop-k-preserved
+loop-k-preserved c = halfway-more c.loop-k.invariant c.loop-k-test.true refl
+
+pub returns : goal.returns
+returns c = halfway-end c.loop-k.invariant (omega arith)

@@ -1,0 +1,16 @@
+-- `starts_past` (src/lib.rt) keeps its contract.
+use Prim.Native.Nat.{◌-◌}
+use native.Mathlib.Omega.{arith}
+use Rattle.arrivals.specs.Lanes.{start_past}
+use Rattle.arrivals.proofs.Stepping.{Halfway, halfway-none, halfway-more, halfway-end}
+use borrow.Author.Rules.{rules}
+use Rattle.arrivals.proofs.starts_past.Goals as goal
+
+pub loop-k-init : goal.loop-k-init
+loop-k-init c = halfway-none _ _ (search rules)
+
+pub loop-k-preserved : goal.loop-k-preserved
+loop-k-preserved c = halfway-more c.loop-k.invariant c.loop-k-test.true c.start_past.ensures
+
+pub returns : goal.returns
+returns c = halfway-end c.loop-k.invariant (omega arith)
