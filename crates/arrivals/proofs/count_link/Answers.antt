@@ -47,32 +47,30 @@ pub write_link-requires : goal.write_link-requires
 write_link-requires c =
     let a = c.args in
     let w = a.w.now in
-    let p = c.requires.1 in
     let range = ranged w c.requires.loaded.0 in
     let v = c.target-v in
-    let few = few-counted range p.1.1 v.result a.k v.ensures.1 p.0.0 in
+    let few = few-counted range c.requires.counted v.result a.k v.ensures.1 c.requires.k_bound.0 in
     let before : Small _ = record { at = c.word-at.ensures.1; most = c.word-most.ensures.1 } in
     let small : Small c.reached-reach.result =
-    subst Small (sym c.reached-reach.ensures) (further-small _ a.k _ before (omega (arith, p.0.0)) (omega (arith, c.cost-c.ensures.1, p.0.1))) in
+    subst Small (sym c.reached-reach.ensures) (further-small _ a.k _ before (omega (arith, c.requires.k_bound.0)) (omega (arith, c.cost-c.ensures.1, c.requires.k_bound.1))) in
     let number = ap₂ ◌+◌ c.word-number.ensures.0 c.one_of.ensures in
     record { kept_length_in_bounds = c.requires.loaded.1; v_bound = (
         task-index w v.result c.requires.loaded.0 v.ensures.1,
-        p.0.0,
+        c.requires.k_bound.0,
         omega (arith, few.seen, c.word-seen.ensures.0),
         small.at,
         small.most,
         omega (arith, few.pending, c.word-pending.ensures.0),
-        number_small (sheet_in w) (schedule_in w) a.kept.now a.t a.l a.k a.f p.0.0 p.0.2 (range.target a.l p.0.2) p.0.3 p.1.0.1 p.1.1 v.result v.ensures.0 range p.1.0.0 number,
+        number_small (sheet_in w) (schedule_in w) a.kept.now a.t a.l a.k a.f c.requires.k_bound.0 c.requires.k_bound.2 (range.target a.l c.requires.k_bound.2) c.requires.k_bound.3 c.requires.single.1 c.requires.counted v.result v.ensures.0 range c.requires.single.0 number,
       ) }
 
 pub returns : goal.returns
 returns c =
     let a = c.args in
     let w = a.w.now in
-    let p = c.requires.1 in
-    let y = ap (λ (x : ℕ). a.f + x) c.cost-c.ensures.0 in
+        let y = ap (λ (x : ℕ). a.f + x) c.cost-c.ensures.0 in
     let seen = ap (λ (x : ℕ). x + 1) c.word-seen.ensures.0 in
     let pending = ap (λ (x : ℕ). x + 1) c.word-pending.ensures.0 in
     let number = ap₂ ◌+◌ c.word-number.ensures.0 c.one_of.ensures in
-    counted-by (sheet_in w) (schedule_in w) a.kept.now _ a.t a.l a.k a.f c.requires.loaded.1 (ranged w c.requires.loaded.0) p.0.0 p.0.2 p.0.3 p.1.0.1 p.1.1
+    counted-by (sheet_in w) (schedule_in w) a.kept.now _ a.t a.l a.k a.f c.requires.loaded.1 (ranged w c.requires.loaded.0) c.requires.k_bound.0 c.requires.k_bound.2 c.requires.k_bound.3 c.requires.single.1 c.requires.counted
     c.target-v.ensures.0 y seen (λ i. record { at = c.word-at.ensures.0 i; most = c.word-most.ensures.0 i }) pending number c.reached-reach.ensures c.write_link.ensures

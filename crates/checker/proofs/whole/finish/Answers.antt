@@ -1,0 +1,12 @@
+-- `finish` (src/whole.rt) keeps its contract.
+use Rattle.checker.proofs.Closing.{bad-clock, finish-clock, finish-stuck, good-clock}
+use Rattle.checker.proofs.whole.finish.Goals as goal
+
+pub returns-then-clock-claim : goal.returns-then-clock-claim
+returns-then-clock-claim c = finish-clock _ _ _ _ _ c.in-Nothing.is c.unfinished.ensures c.latest-clock.ensures (good-clock _ _ c.if-clock-claim.true)
+
+pub returns-in-At : goal.returns-in-At
+returns-in-At c = finish-stuck _ _ _ _ c.in-At.is c.unfinished.ensures
+
+pub returns-else-clock-claim : goal.returns-else-clock-claim
+returns-else-clock-claim c = finish-clock _ _ _ _ _ c.in-Nothing.is c.unfinished.ensures c.latest-clock.ensures (bad-clock _ _ c.if-clock-claim.false)
