@@ -1,0 +1,10 @@
+-- `trace_all` (src/tracing.rt) keeps its contract: its loops.
+use native.Mathlib.Omega.{arith}
+use Rattle.drift.proofs.Backwards.{Tracing, tracing-starts, tracing-more, tracing-ends}
+use Rattle.drift.proofs.tracing.trace_all.Given as goal
+
+abbrev pub invariant-loop-i : goal.invariant-loop-i
+invariant-loop-i l = Tracing l.initial.w l.order l.initial.slots l.w l.slots l.n l.i l.claim
+
+abbrev pub decreases-loop-i : goal.decreases-loop-i
+decreases-loop-i l = l.i
