@@ -143,15 +143,15 @@ module _ (s : Sheet) (proper : Proper s) (φ : Schedule) (b : Bundle) (homes : (
         )
 
   -- all blocks, one after the other
-  runs : {σ : Schedule} {ts : List ℕ} → Fair s σ → Built s σ φ ts → (m : State) → At σ ts m → Reached m φ []
+  runs : {σ : Schedule} {ts : List ℕ} → Built s σ φ ts → Fair s σ → (m : State) → At σ ts m → Reached m φ []
   unfolding placed
-  runs f built m at = (m, here, at)
-  runs f (placing {t = t} {k = k} p n) m at =
+  runs built f m at = (m, here, at)
+  runs (placing {t = t} {k = k} p n) f m at =
       let f' = fair-place s proper f p in
       let i = plan-of s proper f' n in
       let home : place_of φ t ≡ k = i.on t (placed_same s proper f p) ∙ on_same s proper f p in
       let mine = i.fair.home t (rw home (lt-ltb k nowhere (omega (arith, p.room.board, proper.form.board_few)))) in
-      and-on (after_block f p at i.fair.opened (omega (arith, home, mine)) home (plan-of s proper f (placing p n)).on) (λ o x. runs f' n o x)
+      and-on (after_block f p at i.fair.opened (omega (arith, home, mine)) home (plan-of s proper f (placing p n)).on) (λ o x. runs n f' o x)
 
 module _ (s : Sheet) (proper : Proper s) {φ : Schedule} {ts : List ℕ} (how : Built s (empty s) φ ts) (complete : Whole s φ) where
   fresh_at : At s proper φ (bundle_of s φ) (home_of s proper how complete) (empty s) ts (fresh_state s (bundle_of s φ))
@@ -182,7 +182,7 @@ module _ (s : Sheet) (proper : Proper s) {φ : Schedule} {ts : List ℕ} (how : 
   unfolding bundle_of
   accept =
       let b = bundle_of s φ in
-      let r = runs s proper φ b (home_of s proper how complete) (empty-fair s proper) how (fresh_state s b) fresh_at in
+      let r = runs s proper φ b (home_of s proper how complete) how (empty-fair s proper) (fresh_state s b) fresh_at in
       accepted s b (record { published = published s proper how complete; within = within s proper how complete; end = r.0; leads = r.1; over = over r.0 r.2; claimed = claimed r.0 r.2 })
 
 -- a bundle that the planner writes is accepted, and its bytes can hold it

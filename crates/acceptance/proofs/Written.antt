@@ -103,7 +103,7 @@ module _ (s : Sheet) (proper : Proper s) {φ : Schedule} {ts : List ℕ} (how : 
         parts-both (eqb (whole b (is (send l)) + whole b (is (receive l))) 0) _
         (eq-eqb (whole b (is (send l)) + whole b (is (receive l))) 0 (omega (arith, sent true (eq-eqb to from (sym q)), got true (eq-eqb from to q))))
         (rw (programme-is to (at_home tgt (proper.form.target l h)))
-        (run-in-order s φ proper (empty-fair s proper) how l h (empty-free s proper src) (empty-free s proper tgt) (complete tgt (proper.form.target l h)) q))
+        (run-in-order s φ proper how (empty-fair s proper) l h (empty-free s proper src) (empty-free s proper tgt) (complete tgt (proper.form.target l h)) q))
 
     across-ok : from ≢ to → across_ok s b l from to ≡ true
     unfolding across_ok stands
