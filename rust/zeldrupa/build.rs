@@ -14,7 +14,7 @@ fn main() {
     println!("cargo:rerun-if-changed={}", archive.display());
     // No error: what links nothing, as clippy, needs no archive.
     if !archive.is_file() {
-        println!("cargo:warning={} is missing; run: rt staticlib zeldrupa", archive.display());
+        println!("cargo:warning={} is missing; run: tools/staticlib", archive.display());
     }
     println!("cargo:rustc-link-search=native={}", folder.display());
     println!("cargo:rustc-link-lib=static=zeldrupa");
