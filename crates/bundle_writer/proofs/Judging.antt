@@ -18,8 +18,6 @@ use Rattle.commands.specs.Commands.{Outcome, refuse, go, numbered, verdict, judg
 use Rattle.commands.specs.Reading.{Going}
 use Rattle.commands.proofs.Going.{comes, starts, goes, refuses, ends}
 use Rattle.commands.proofs.Numbered.{numbered-some, numbered-none}
-use Rattle.workspace.specs.declared.answers.Written.{Written}
-use Rattle.workspace.specs.declared.answers.Written.TheVariants.{Long, Refused}
 use Rattle.sheet.specs.Sheet.{Sheet}
 use Rattle.bundle.specs.Bundle.{Command}
 use Rattle.bundle.specs.Format.{Kind, opening, running, sending, receiving, releasing, discarding, claiming, kind_of, width, inside, after, closes, ended, bundle_format, read_bundle}
@@ -29,6 +27,8 @@ use Rattle.bundle.specs.Counts.{Sized, fault_below, limit_of, count_format}
 use Rattle.bundle.specs.Kinds.{is_message, is_task, OfLink, sends, receives, discards, OfTask, runs, releases}
 use Rattle.bundle_writer.specs.Writes.{judged_of, RefusalIs, known_fault, open_fault, cut_kind, cut_number}
 use Rattle.bundle_writer.specs.Judges.{Judging, Judges, NextIs, went_on}
+use Rattle.bundle_writer.specs.declared.writer.Judged.TheVariants.{Long, Refused}
+use Rattle.bundle_writer.specs.declared.writer.Judged.{Judged}
 use Rattle.bundle_writer.specs.declared.writer.Next.{Next}
 use Rattle.bundle_writer.specs.declared.writer.Next.TheVariants.{On, Out}
 use Rattle.bundle.proofs.Steps.{on-claim}
@@ -242,7 +242,7 @@ module _ {vs : List ℕ} {p t l i : ℕ} where
         out = λ r e. let z : ◌≡◌ {A = ℕ} 0 1 = cc in absurd (omega arith);
       }
 
-  pub only_out : {j : Written} → RefusalIs vs p t l j → NextIs vs p t l i (Out j)
+  pub only_out : {j : Judged} → RefusalIs vs p t l j → NextIs vs p t l i (Out j)
   only_out {j} g = record { on = λ a m e. let z : ◌≡◌ {A = ℕ} 0 1 = cc in absurd (omega arith); out = λ r e. let x : j ≡ r = cc in subst (RefusalIs vs p t l) x g }
 
 -- the ways by what the code tests: the command of the values at i, with the number of its fault
@@ -312,7 +312,7 @@ module _ {vs : List ℕ} {p t l n at i : ℕ} (g : Judges vs p t l n at i) (more
   judges-open-no : get_or vs i 0 ≡ 0x50 → (r : ℕ) → numbered r ≡ open_fault p n (get_or vs (i + 1) 0) → (r ≡ 0 → ⊥) → RefusalIs vs p t l (Refused r at)
   judges-open-no e r h z = refused-kind opening (ap kind_of e) r z (λ b. h ∙ sym (fault-opening p n (get_or vs (i + 1) 0) b))
 
-  -- what a fault makes of a command: the next is judged, or it is refused
+  -- .. and what a fault makes of each
   went_on_lem : (r behind m : ℕ) → (r ≡ 0 → Judges vs p t l m behind (i + 2)) → ((r ≡ 0 → ⊥) → RefusalIs vs p t l (Refused r at)) → {q : Next} → q ≡ went_on r at behind m → NextIs vs p t l i q
   went_on_lem zero behind m f g e = subst (NextIs vs p t l i) (sym e) (only-on (f refl))
   went_on_lem (suc r) behind m f g e = subst (NextIs vs p t l i) (sym e) (only_out (g (λ z. omega arith)))

@@ -6,15 +6,15 @@ use native.Mathlib.Omega.{arith}
 use borrow.Author.Tests.{lt-ltb, le-ltb}
 use lib.ListN.{length, drop}
 use Rattle.folds.specs.Answers.{Answer, value, refused, written}
-use Rattle.workspace.specs.declared.answers.Written.{Written}
-use Rattle.workspace.specs.declared.answers.Written.TheVariants.{Long, Refused}
 use Rattle.sheet.specs.Sheet.{Sheet}
 use Rattle.bundle.specs.Bundle.{Bundle}
 use Rattle.bundle.specs.Format.{read_bundle}
 use Rattle.bundle.specs.Writing.{value_bytes}
 use Rattle.bundle.specs.Counts.{Sized}
 use Rattle.bundle_writer.specs.Whole.{write_values}
-use Rattle.bundle_writer.specs.Writes.{Counted, Writable, judged_of, RefusalIs, WriteIs}
+use Rattle.bundle_writer.specs.Writes.{Counted, Writable, judged_of, written_of, RefusalIs, WriteIs}
+use Rattle.bundle_writer.specs.declared.writer.Judged.{Judged}
+use Rattle.bundle_writer.specs.declared.writer.Judged.TheVariants.{Long, Refused}
 use Rattle.bundle.proofs.Faults.{sheet_by, sized-by}
 use Rattle.bundle_writer.proofs.Valued.{small_by}
 
@@ -34,9 +34,9 @@ unfolding judged_of
 judged-refused b (value x) r at e = let z : ◌≡◌ {A = ℕ} 0 1 = cc in absurd (omega arith)
 judged-refused b (refused q o) r at e = cc
 
-module _ {vs : List ℕ} {p t l : ℕ} {f : Written} (g : RefusalIs vs p t l f) (claim : ℕ) (few : claim < 4294967296) (old : List ℕ) where
+module _ {vs : List ℕ} {p t l : ℕ} {f : Judged} (g : RefusalIs vs p t l f) (claim : ℕ) (few : claim < 4294967296) (old : List ℕ) where
   pub writes-refused : (r at : ℕ) → f ≡ Refused r at → WriteIs vs claim p t l old old (Refused r at)
-  unfolding write_values written
+  unfolding written_of write_values written
   writes-refused r at e =
       let h : (s : Sheet) → Sized s p t l → read_bundle s (value_bytes vs claim) ≡ refused r at =
       λ s z. judged-refused (value_bytes vs claim) (read_bundle s (value_bytes vs claim)) r at (sym e ∙ g.answer s z claim few)
@@ -48,7 +48,7 @@ module _ {vs : List ℕ} {p t l : ℕ} {f : Written} (g : RefusalIs vs p t l f) 
     accepted s z = judged-accepted (value_bytes vs claim) (read_bundle s (value_bytes vs claim)) n (sym e ∙ g.answer s z claim few)
 
     pub writes_short : length old < n → WriteIs vs claim p t l old old (Refused 12 n)
-    unfolding write_values written
+    unfolding written_of write_values written
     writes_short k =
         record {
           answer = λ s z.
@@ -67,7 +67,7 @@ module _ {vs : List ℕ} {p t l : ℕ} {f : Written} (g : RefusalIs vs p t l f) 
         record { sheet = s; small = small_by z q; bundle = h.bundle; reads = h.reads; room = omega (arith, h.size) }
 
     pub writes-long : n ≤ length old → (last : List ℕ) → last ≡ value_bytes vs claim ++ drop (length (value_bytes vs claim)) old → WriteIs vs claim p t l old last (Long n)
-    unfolding write_values written
+    unfolding written_of write_values written
     writes-long k last w =
         record {
           answer = λ s z.

@@ -1,14 +1,14 @@
 -- Values judged as the reader would judge their bytes: how far that has come, and what the next command makes of it.
 use Rattle.std.specs.Prelude.{ℕ, zero, suc, ◌+◌, ◌*◌, ◌<◌, ◌≤◌, ◌≡◌, List, length, drop}
 use Rattle.commands.specs.Reading.{Going}
-use Rattle.workspace.specs.declared.answers.Written.{Written}
-use Rattle.workspace.specs.declared.answers.Written.TheVariants.{Refused}
 use Rattle.sheet.specs.Sheet.{Sheet}
 use Rattle.bundle.specs.Bundle.{Command}
 use Rattle.bundle.specs.Format.{bundle_format, read_bundle}
 use Rattle.bundle.specs.Writing.{value_bytes}
 use Rattle.bundle.specs.Counts.{Sized}
 use Rattle.bundle_writer.specs.Writes.{RefusalIs}
+use Rattle.bundle_writer.specs.declared.writer.Judged.{Judged}
+use Rattle.bundle_writer.specs.declared.writer.Judged.TheVariants.{Refused}
 use Rattle.bundle_writer.specs.declared.writer.Next.{Next}
 use Rattle.bundle_writer.specs.declared.writer.Next.TheVariants.{On, Out}
 
@@ -29,7 +29,7 @@ pub record Judges (vs : List ℕ) (p t l n at i : ℕ) : Type 0 where
 -- what the command of the values at i makes of it
 pub record NextIs (vs : List ℕ) (p t l i : ℕ) (q : Next) : Type 0 where
   pub on : (at n : ℕ) → q ≡ On at n → Judges vs p t l n at (i + 2)
-  pub out : (r : Written) → q ≡ Out r → RefusalIs vs p t l r
+  pub out : (r : Judged) → q ≡ Out r → RefusalIs vs p t l r
 
 -- a fault's number, or 0
 abbrev pub went_on : ℕ → ℕ → ℕ → ℕ → Next

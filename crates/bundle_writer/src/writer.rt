@@ -9,7 +9,13 @@ ghost use Rattle.bundle_writer.specs.Judges.{Judges, NextIs, went_on};
 use bundle::kinds::{is_message, is_task};
 use bundle::{CLAIM_SIZE, LONG_SIZE, SHORT_SIZE};
 use bundle_reader::bytes::is_early;
-use workspace::answers::Written;
+
+// How many bytes a bundle has that is given by its values, or a refusal's number and place.
+#[derive(Clone, Copy)]
+pub enum Judged {
+    Long(usize),
+    Refused(u8, usize),
+}
 
 // A command in a programme of this number, of which `limit` are declared: 0, or the number that refuses it.
 fn known_fault(operand: u16, opened: usize, limit: usize) -> u8
@@ -80,7 +86,7 @@ fn cut_number(command: u16, opened: usize, tasks: usize) -> u8
 #[derive(Clone, Copy)]
 pub enum Next {
     On(usize, usize),
-    Out(Written),
+    Out(Judged),
 }
 
 // What a fault makes of a command at `at`, behind which stand `behind` and so many open programmes.
@@ -88,7 +94,7 @@ fn go_on(fault: u8, at: usize, behind: usize, opened: usize) -> Next
     ensures { result ≡ went_on fault at behind opened }
 {
     if fault != 0 {
-        return Next::Out(Written::Refused(fault, at));
+        return Next::Out(Judged::Refused(fault, at));
     }
     Next::On(behind, opened)
 }
@@ -123,16 +129,16 @@ fn next_at(
         );
     }
     if c != 0x5A {
-        return Next::Out(Written::Refused(22, at));
+        return Next::Out(Judged::Refused(22, at));
     }
     if is_early(opened, tasks) {
-        return Next::Out(Written::Refused(23, at));
+        return Next::Out(Judged::Refused(23, at));
     }
-    Next::Out(Written::Refused(24, at + CLAIM_SIZE))
+    Next::Out(Judged::Refused(24, at + CLAIM_SIZE))
 }
 
 // What the reader would say of the bytes of these values, without the bytes: their number, or its refusal.
-pub fn refusal(commands: &[u16], processors: usize, tasks: usize, links: usize) -> Written
+pub fn refusal(commands: &[u16], processors: usize, tasks: usize, links: usize) -> Judged
     ensures { RefusalIs commands.now processors tasks links result }
 {
     let mut at: usize = 0;
@@ -151,12 +157,12 @@ pub fn refusal(commands: &[u16], processors: usize, tasks: usize, links: usize) 
         }
     }
     if i < commands.len() {
-        return Written::Refused(cut_number(commands[i], opened, tasks), at);
+        return Judged::Refused(cut_number(commands[i], opened, tasks), at);
     }
     if is_early(opened, tasks) {
-        return Written::Refused(23, at);
+        return Judged::Refused(23, at);
     }
-    Written::Long(at + CLAIM_SIZE)
+    Judged::Long(at + CLAIM_SIZE)
 }
 
 // Puts the command of these two values at `at`, and gives the offset behind it.
@@ -196,18 +202,18 @@ pub fn write(
     tasks: usize,
     links: usize,
     out: &mut [u8],
-) -> Written
+) -> Judged
     requires { Counted processors tasks links }
     ensures { WriteIs commands.now claim processors tasks links out.old out.new result }
 {
     match refusal(commands, processors, tasks, links) {
-        Written::Refused(r, at) => Written::Refused(r, at),
-        Written::Long(need) => {
+        Judged::Refused(r, at) => Judged::Refused(r, at),
+        Judged::Long(need) => {
             if out.len() < need {
-                return Written::Refused(12, need);
+                return Judged::Refused(12, need);
             }
             put(commands, claim, out);
-            Written::Long(need)
+            Judged::Long(need)
         }
     }
 }

@@ -253,7 +253,7 @@ module _ (w own : List ℕ) (kept : Kept w own) (u : ℕ) (h : u < task_count (s
           go j (yes e) = f j e
           go j (no e) = delays-else late t j e
 
-      -- where the processor of u's latest message holds no predecessor of t
+      -- .. or where that processor holds no predecessor of t
       pub bars-apart : holds_predecessor s σ t k ≡ false → JoinBarsFor s σ t u 16
       bars-apart e =
           record { is = λ j l m. ne_eqb j 16 (omega arith) ∙ sym (delays-else late t j (λ q. true≢false (sym m ∙ ap (holds_predecessor s σ t) (sym q ∙ sym ek) ∙ e))) }

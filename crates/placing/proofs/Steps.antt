@@ -9,9 +9,9 @@ use lib.ListN.{get_or}
 use mathlib.Core.Option.{Option, none, some}
 use borrow.Author.Tests.{le-leb, lt-leb, eq-eqb}
 use lib.Dec.{eqb, ltb, leb}
-use Rattle.folds.specs.Folds.{pick, bit, both, either, greatest, any, sum, first, prefer, leading, least, or_else, is_some}
-use Rattle.folds.proofs.Tests.{both_false, parts-both, either_true, either-false}
-use Rattle.folds.proofs.Laws.{any_found, any_some, any-each, greatest-le}
+use Rattle.folds.specs.Folds.{pick, bit, both, greatest, any, sum, first, leading, least, or_else}
+use Rattle.folds.proofs.Tests.{both_false, parts-both}
+use Rattle.folds.proofs.Laws.{any-each, greatest-le}
 use Rattle.sheet.specs.Sheet.{Sheet, link_count}
 use Rattle.sheet.specs.Tables.{sheet_in}
 use Rattle.schedule.specs.Layout.{schedule_in}
@@ -99,7 +99,7 @@ module _ (s : Sheet) (σ : Schedule) (t : ℕ) where
   open_free k eb e ef = ef ∙ rw (← eb, e)
 
   -- where step 3 would open a processor, and where it would not
-  module _ (o : true ≡ is_some (another s guard σ t)) where
+  module _ {n : ℕ} (o : some n ≡ another s guard σ t) where
     share-first : share s guard σ t ≡ first σ.opened (may_share s guard σ t)
     unfolding share
     share-first = rw (← o)
@@ -107,25 +107,20 @@ module _ (s : Sheet) (σ : Schedule) (t : ℕ) where
     pub shared : {k : ℕ} → some k ≡ first σ.opened (may_share s guard σ t) → some k ≡ or_else (share s guard σ t) (another s guard σ t)
     shared e = rw (share-first, ← e)
 
-    pub opened-next : {c : Option ℕ} → none ≡ first σ.opened (may_share s guard σ t) → c ≡ another s guard σ t → c ≡ or_else (share s guard σ t) (another s guard σ t)
-    opened-next e f = rw (share-first, ← e) f
+    pub opened-next : none ≡ first σ.opened (may_share s guard σ t) → some n ≡ or_else (share s guard σ t) (another s guard σ t)
+    opened-next e = rw (share-first, ← e) o
 
     -- step 4 is not tried
     pub before_last : {c : Option ℕ} → c ≡ or_else (share s guard σ t) (another s guard σ t) → c ≡ or_else (share s guard σ t) (or_else (another s guard σ t) (last_resort s guard σ t))
-    before_last e = e ∙ go (share s guard σ t) (another s guard σ t) o
+    before_last e = e ∙ rw (← o) (go (share s guard σ t))
       where
-        go : (c d : Option ℕ) → true ≡ is_some d → or_else c d ≡ or_else c (or_else d (last_resort s guard σ t))
-        go none none e = absurd (true≢false e)
-        go none (some n) e = refl
-        go (some k) d e = refl
+        go : (c : Option ℕ) → or_else c (some n) ≡ or_else c (or_else (some n) (last_resort s guard σ t))
+        go none = refl
+        go (some k) = refl
 
-  pub last-left : {c : Option ℕ} → false ≡ is_some (another s guard σ t) → c ≡ last_resort s guard σ t → c ≡ or_else (share s guard σ t) (or_else (another s guard σ t) (last_resort s guard σ t))
+  pub last-left : {c : Option ℕ} → none ≡ another s guard σ t → c ≡ last_resort s guard σ t → c ≡ or_else (share s guard σ t) (or_else (another s guard σ t) (last_resort s guard σ t))
   unfolding share
-  last-left o e = e ∙ rw (← o) (go (another s guard σ t) o)
-    where
-      go : (d : Option ℕ) → false ≡ is_some d → last_resort s guard σ t ≡ or_else d (last_resort s guard σ t)
-      go none e = refl
-      go (some n) e = absurd (true≢false (sym e))
+  last-left o e = rw (← o) e
 
   pub choice-join : {k : ℕ} → some k ≡ join s guard σ t → some k ≡ choice s guard true σ t
   unfolding choice
@@ -165,52 +160,21 @@ module _ (w own : List ℕ) (t : ℕ) (c : Choosing w own t) {a d : ℕ} (ea : a
             (λ k h. omega (arith, no_key k (omega arith) (any-each n (may_be_idle own a d) e k (omega arith)))),
       ))
 
--- step 3 would open a processor exactly if it may open one
-some-leads : (n : ℕ) (p : ℕ → Bool) (a : ℕ → ℕ → Bool) → is_some (leading n p a) ≡ any n p
-unfolding leading any
-some-leads zero p a = refl
-some-leads (suc n) p a = go (p n) (leading n p a) (some-leads n p a)
+-- where no processor of the board is closed, step 3 gives none
+none_leads : (n : ℕ) (p : ℕ → Bool) (a : ℕ → ℕ → Bool) → ((i : ℕ) → i < n → p i ≡ false) → none ≡ leading n p a
+unfolding leading
+none_leads zero p a h = refl
+none_leads (suc n) p a h = rw (h n (omega arith)) (none_leads n p a (λ i l. h i (omega arith)))
+
+pub none-opens : (w own : List ℕ) (t : ℕ) → Kept w own → {n : ℕ} → n ≡ (sheet_in w).processors → n ≤ 16 → any n (closed_in own) ≡ false → none ≡ another (sheet_in w) (barred (sheet_in w)) (schedule_in w) t
+unfolding another least may_open closed_in
+none-opens w own t kept {n} en few e =
+    none_leads (sheet_in w).processors (may_open (sheet_in w) (barred (sheet_in w)) (schedule_in w) t) _
+    (λ k l. go k (omega arith) (is_open (sheet_in w) (schedule_in w) k) refl (any-each n (closed_in own) e k (omega arith)))
   where
-    go : (b : Bool) (o : Option ℕ) → is_some o ≡ any n p → is_some (pick b (prefer a n o) o) ≡ either (any n p) b
-    go true none e = sym (either_true (any n p))
-    go true (some k) e = by (a n k) ∙ sym (either_true (any n p))
-      where
-        by : (b : Bool) → is_some (pick b (some n) (some k)) ≡ true
-        by true = refl
-        by false = refl
-    go false o e = e ∙ sym (either-false (any n p))
-
-any_none : (n : ℕ) (p : ℕ → Bool) → ((i : ℕ) → i < n → p i ≡ false) → any n p ≡ false
-any_none n p h = go (any n p) refl
-  where
-    go : (b : Bool) → any n p ≡ b → b ≡ false
-    go false e = refl
-    go true e = let x = any_some n p e in absurd (true≢false (sym x.2 ∙ h x.0 x.1))
-
-module _ (w : List ℕ) (t : ℕ) where
-  abbrev may : ℕ → Bool
-  may = may_open (sheet_in w) (barred (sheet_in w)) (schedule_in w) t
-
-  pub opens-is : is_some (another (sheet_in w) (barred (sheet_in w)) (schedule_in w) t) ≡ any (sheet_in w).processors may
-  unfolding another least
-  opens-is = some-leads (sheet_in w).processors may _
-
-  pub opens-found : {k : ℕ} → k < (sheet_in w).processors → may k ≡ true → true ≡ is_some (another (sheet_in w) (barred (sheet_in w)) (schedule_in w) t)
-  opens-found {k} l e = sym (opens-is ∙ any_found (sheet_in w).processors may k l e)
-
-  pub opens-none : {k : ℕ} → any k may ≡ false → k ≡ (sheet_in w).processors → false ≡ is_some (another (sheet_in w) (barred (sheet_in w)) (schedule_in w) t)
-  opens-none e q = sym (opens-is ∙ ap (λ (n : ℕ). any n may) (sym q) ∙ e)
-
-  -- where no processor of the board is closed
-  pub none-opens : (own : List ℕ) → Kept w own → {n : ℕ} → n ≡ (sheet_in w).processors → n ≤ 16 → any n (closed_in own) ≡ false
-      → false ≡ is_some (another (sheet_in w) (barred (sheet_in w)) (schedule_in w) t)
-  unfolding may_open closed_in
-  none-opens own kept {n} en few e =
-      sym (opens-is ∙ any_none (sheet_in w).processors may (λ k l. go k (omega arith) (is_open (sheet_in w) (schedule_in w) k) refl (any-each n (closed_in own) e k (omega arith))))
-    where
-      go : (k : ℕ) → k < 16 → (b : Bool) → is_open (sheet_in w) (schedule_in w) k ≡ b → eqb (get_or own (open_from + k) 0) 0 ≡ false → both (not (is_open (sheet_in w) (schedule_in w) k)) (fits (sheet_in w) (schedule_in w) t k) ≡ false
-      go k l true q f = rw q
-      go k l false q f = absurd (true≢false (sym (eq-eqb (get_or own (open_from + k) 0) 0 (kept.caches.ends.opens k l ∙ ap bit q)) ∙ f))
+    go : (k : ℕ) → k < 16 → (b : Bool) → is_open (sheet_in w) (schedule_in w) k ≡ b → eqb (get_or own (open_from + k) 0) 0 ≡ false → both (not (is_open (sheet_in w) (schedule_in w) k)) (fits (sheet_in w) (schedule_in w) t k) ≡ false
+    go k l true q f = rw q
+    go k l false q f = absurd (true≢false (sym (eq-eqb (get_or own (open_from + k) 0) 0 (kept.caches.ends.opens k l ∙ ap bit q)) ∙ f))
 
 -- whether a processor is open, by what is kept
 pub open_is : {s : Sheet} {σ : Schedule} {own : List ℕ} (k : ℕ) {x : ℕ} → Ends s σ own → k < 16 → x ≡ get_or own (open_from + k) 0 → eqb x 1 ≡ is_open s σ k

@@ -58,7 +58,7 @@ pub record DuesTo (s : Sheet) (σ : Schedule) (t l : ℕ) (x : Counts) : Type 0 
   pub each : (j : ℕ) → j < 4 → four_in x j ≡ sum l (due_by s σ t (Four j))
   pub few : (j : ℕ) → four_in x j ≤ 4294967295 * l
 
--- what is due by all links from t, d of it from all processors
+-- .. by all of them, d from all processors
 pub record Dues (s : Sheet) (σ : Schedule) (t d : ℕ) (x : Counts) : Type 0 where
   pub all : d ≡ sum (link_count s) (due_by s σ t All)
   pub four : DuesTo s σ t (link_count s) x

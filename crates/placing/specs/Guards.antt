@@ -21,7 +21,7 @@ pub record BarsFor (s : Sheet) (σ : Schedule) (t u bars : ℕ) : Type 0 where
 pub record Bars (s : Sheet) (σ : Schedule) (t bars : ℕ) : Type 0 where
   pub is : (k : ℕ) → k < 16 → eqb k bars ≡ barred s σ t k
 
--- `bars` is barred among the processors that hold a predecessor of t: step 1 asks of no other
+-- .. of the processors that hold a predecessor of t: step 1 asks of no other
 pub record JoinBarsFor (s : Sheet) (σ : Schedule) (t u bars : ℕ) : Type 0 where
   pub is : (k : ℕ) → k < 16 → holds_predecessor s σ t k ≡ true → eqb k bars ≡ delays s σ t u k
 

@@ -3,7 +3,7 @@
 
 ghost use Rattle.std.specs.Prelude.{◌≡◌, true, false, ◌≢◌, ◌+◌, ◌*◌, ◌<◌, ◌≤◌, get_or, length};
 ghost use Rattle.std.proofs.Math.Option.{none, some};
-ghost use Rattle.folds.specs.Folds.{pick, both, either, any, sum, first, or_else, is_some};
+ghost use Rattle.folds.specs.Folds.{pick, both, either, any, sum, first, or_else};
 ghost use Rattle.sheet.specs.Sheet.{task_count, link_count};
 ghost use Rattle.sheet.specs.Tables.{sheet_in};
 ghost use Rattle.planner.specs.Schedule.{latest_start, placed};
@@ -237,7 +237,7 @@ fn bars_on(w: &[u32], kept: &[u32], t: usize, starts: Starts, u: usize, a: usize
     16
 }
 
-// The same, asked only of a processor that ends before u's arrival: elsewhere nothing is barred.
+// .. asked only of a processor that ends before u's arrival: elsewhere nothing is barred.
 fn bars_for(w: &[u32], kept: &[u32], t: usize, starts: Starts, u: usize) -> usize
     requires choosing { Choosing w.now kept.now t × Started w.now t starts }
     requires u_bound { u < task_count (sheet_in w.now) }
@@ -506,31 +506,15 @@ fn open_among(w: &[u32], kept: &[u32], t: usize, starts: Starts) -> Found
     lowest(tied.set)
 }
 
-// Step 3 would open a processor: one that t fits is closed.
-fn opens_among(w: &[u32], kept: &[u32], t: usize) -> bool
-    requires { Choosing w.now kept.now t }
-    ensures { result ≡ is_some (another (sheet_in w.now) (barred (sheet_in w.now)) (schedule_in w.now) t) }
-{
-    let n = tables::processors(w);
-    let mut k: usize = 0;
-    while k < n {
-        if may_open_on(w, kept, t, k) {
-            return true;
-        }
-        k += 1;
-    }
-    false
-}
-
-// The same; t is looked at only where a processor is closed.
-fn opens(w: &[u32], kept: &[u32], t: usize) -> bool
-    requires { Choosing w.now kept.now t }
-    ensures { result ≡ is_some (another (sheet_in w.now) (barred (sheet_in w.now)) (schedule_in w.now) t) }
+// Step 3: the processor that it would open.
+fn open_on(w: &[u32], kept: &[u32], t: usize, starts: Starts) -> Found
+    requires { Choosing w.now kept.now t × Started w.now t starts }
+    ensures { (found_of result ≡ another (sheet_in w.now) (barred (sheet_in w.now)) (schedule_in w.now) t) × Below 16 result }
 {
     if some_closed(kept, tables::processors(w)) {
-        return opens_among(w, kept, t);
+        return open_among(w, kept, t, starts);
     }
-    false
+    Found::Nothing
 }
 
 // Processor k may be taken where step 3 would open one, if it is open; a is t's A, x its start on k, and the guard bars one processor.
@@ -586,18 +570,26 @@ fn last_on(w: &[u32], kept: &[u32], t: usize, starts: Starts) -> Found
     processor_of(best)
 }
 
-// Where step 3 would open a processor: an open one that starts t as early, or else that one.
-fn share_or_open(w: &[u32], kept: &[u32], t: usize, starts: Starts, rival: Found, a: usize) -> Found
+// Where step 3 would open `next`: an open processor that starts t as early, or else that one.
+fn share_or_open(
+    w: &[u32],
+    kept: &[u32],
+    t: usize,
+    starts: Starts,
+    rival: Found,
+    a: usize,
+    next: usize,
+) -> Found
     requires choosing { Choosing w.now kept.now t × Started w.now t starts }
     requires a_value { a ≡ ready_arrival (sheet_in w.now) (schedule_in w.now) t }
     requires rival { Rival (sheet_in w.now) (schedule_in w.now) t (found_of rival) × Below (task_count (sheet_in w.now)) rival }
-    requires true_value { true ≡ is_some (another (sheet_in w.now) (barred (sheet_in w.now)) (schedule_in w.now) t) }
+    requires next_value { (some next ≡ another (sheet_in w.now) (barred (sheet_in w.now)) (schedule_in w.now) t) × (next < 16) }
     ensures { (found_of result ≡ or_else (share (sheet_in w.now) (barred (sheet_in w.now)) (schedule_in w.now) t) (another (sheet_in w.now) (barred (sheet_in w.now)) (schedule_in w.now) t)) × Below 16 result }
 {
     let bars = bars_of(w, kept, t, starts, rival);
     match share_on(w, kept, t, starts, bars, a) {
         Found::At(k) => Found::At(k),
-        Found::Nothing => open_among(w, kept, t, starts),
+        Found::Nothing => Found::At(next),
     }
 }
 
@@ -608,10 +600,10 @@ fn without_idle(w: &[u32], kept: &[u32], t: usize, starts: Starts, rival: Found,
     requires rival { Rival (sheet_in w.now) (schedule_in w.now) t (found_of rival) × Below (task_count (sheet_in w.now)) rival }
     ensures { (found_of result ≡ or_else (share (sheet_in w.now) (barred (sheet_in w.now)) (schedule_in w.now) t) (or_else (another (sheet_in w.now) (barred (sheet_in w.now)) (schedule_in w.now) t) (last_resort (sheet_in w.now) (barred (sheet_in w.now)) (schedule_in w.now) t))) × Below 16 result }
 {
-    if opens(w, kept, t) {
-        return share_or_open(w, kept, t, starts, rival, a);
+    match open_on(w, kept, t, starts) {
+        Found::At(next) => share_or_open(w, kept, t, starts, rival, a, next),
+        Found::Nothing => last_on(w, kept, t, starts),
     }
-    last_on(w, kept, t, starts)
 }
 
 // Steps 2 to 4, where nothing is joined.

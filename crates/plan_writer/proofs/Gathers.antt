@@ -11,6 +11,11 @@ use Rattle.sheet.specs.Sheet.{Sheet, task_count, link_count}
 use Rattle.adjacency.specs.Chains.{end_by, head_of, next_of, Chained}
 use Rattle.adjacency.specs.declared.End.{End}
 
+pub gather_cong : {X : Type 0} (n : ℕ) (f g : ℕ → List X) → ((i : ℕ) → i < n → f i ≡ g i) → gather n f ≡ gather n g
+unfolding gather
+gather_cong zero f g h = refl
+gather_cong (suc n) f g h = ap₂ ◌++◌ (gather_cong n f g (λ i l. h i (omega arith))) (h n (omega arith))
+
 pub gather-front : {X : Type 0} (n : ℕ) (f : ℕ → List X) → gather (suc n) f ≡ f 0 ++ gather n (λ i. f (suc i))
 unfolding gather
 gather-front zero f = sym (append-nil (f 0))

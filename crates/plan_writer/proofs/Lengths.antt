@@ -123,7 +123,7 @@ module _ (s : Sheet) (σ : Schedule) where
     pub length-is : length (bundle_bytes (bundle_of s σ)) ≡ 5 + 2 * σ.opened + 2 * length σ.order + 2 * sum (link_count s) (message_length s σ)
     length-is = omega (arith, bundle-length s σ, gather-long σ.opened (open_bytes s σ), opened-length, turns-length)
 
--- the length of the bundle, from the numbers that were read
+-- .. from the numbers that were read
 pub bundle-long : {w : List ℕ} {opened placed bytes : ℕ} → Scheduled w → opened ≡ (schedule_in w).opened → placed ≡ length (schedule_in w).order → bytes ≡ sum (link_count (sheet_in w)) (message_length (sheet_in w) (schedule_in w))
     → 5 + 2 * opened + 2 * placed + 2 * bytes ≡ length (bundle_bytes (bundle_of (sheet_in w) (schedule_in w)))
 bundle-long {w} h p q r = omega (arith, p, q, r, length-is (sheet_in w) (schedule_in w) h.tasks h.standing h.once (λ e. end_below e (ranged w h.loaded)))

@@ -1,5 +1,5 @@
 -- The bytes of a bundle are those of its parts, one behind the other.
-use Prim.Native.Nat.{ℕ, suc, ◌+◌}
+use Prim.Native.Nat.{ℕ, zero, suc, ◌+◌}
 use mathlib.Core.Path.{◌≡◌, refl, sym, ap, ap₂, ◌∙◌}
 use mathlib.Core.Bool.{true, false, not}
 use mathlib.Core.Logic.{◌≢◌}
@@ -9,19 +9,27 @@ use native.Mathlib.Nat.{add-zero, zero-add}
 use borrow.Author.Tests.{eq-eqb, ne_eqb}
 use lib.ListN.{length, get_or}
 use Rattle.folds.specs.Folds.{pick, listed, gather}
-use Rattle.folds.proofs.Lists.{length-listed, get_or-listed, gather_cong}
+use Rattle.folds.proofs.Lists.{length-listed, get_or-listed}
 use Rattle.numbers.specs.Number.{number_bytes}
 use Rattle.sheet.specs.Sheet.{Sheet, link_count, source_of, target_of}
 use Rattle.adjacency.specs.Chains.{end_by}
 use Rattle.adjacency.specs.declared.End.{End}
 use Rattle.adjacency.specs.declared.End.TheVariants.{Source, Target}
 use Rattle.bundle.specs.Bundle.{Command, run}
-use Rattle.bundle.specs.Writing.{programme_bytes, programmes_bytes, claim_bytes, bundle_bytes}
-use Rattle.bundle.proofs.Coded.{programme-append, programme-gather}
+use Rattle.bundle.specs.Writing.{command_bytes, programme_bytes, programmes_bytes, claim_bytes, bundle_bytes}
 use Rattle.planner.specs.Schedule.{Schedule, stands}
 use Rattle.planner.specs.Planner.{brings, takes_away, receive_of, send_of, block_of, blocks, programme, claim_of, bundle_of}
 use Rattle.plan_writer.specs.Bytes.{far_by, code_of, message_bytes, messages_bytes, block_bytes, turn_bytes, open_bytes}
-use Rattle.plan_writer.proofs.Gathers.{gather-front}
+use Rattle.plan_writer.proofs.Gathers.{gather_cong, gather-front}
+
+pub programme-append : (p q : List Command) → programme_bytes (p ++ q) ≡ programme_bytes p ++ programme_bytes q
+programme-append [] q = refl
+programme-append (c ∷ p) q = ap (λ (x : List ℕ). command_bytes c ++ x) (programme-append p q) ∙ sym (append_assoc (command_bytes c) (programme_bytes p) (programme_bytes q))
+
+programme-gather : (n : ℕ) (f : ℕ → List Command) → programme_bytes (gather n f) ≡ gather n (λ i. programme_bytes (f i))
+unfolding gather
+programme-gather zero f = refl
+programme-gather (suc n) f = programme-append (gather n f) (f n) ∙ ap (λ (x : List ℕ). x ++ programme_bytes (f n)) (programme-gather n f)
 
 programmes-gather : (k : ℕ) (ps : List (List Command)) → programmes_bytes k ps ≡ gather (length ps) (λ i. 0x50 ∷ (k + i) ∷ programme_bytes (get_or ps i []))
 unfolding gather

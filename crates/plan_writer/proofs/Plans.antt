@@ -9,9 +9,6 @@ use lib.ListN.{length, get_or}
 use Rattle.folds.specs.Folds.{bit, sum}
 use Rattle.folds.specs.Answers.{Answer, value, refused, and_then, fitting}
 use Rattle.folds.proofs.Laws.{sum-front}
-use Rattle.workspace.specs.declared.answers.Written.{Written}
-use Rattle.workspace.specs.declared.answers.Written.TheVariants.{Refused}
-use Rattle.workspace.specs.Written.{WriteIs}
 use Rattle.sheet.specs.Sheet.{Sheet, task_count}
 use Rattle.sheet.specs.Tables.{sheet_in}
 use Rattle.sheet_reader.specs.declared.Reading.{Reading}
@@ -23,6 +20,8 @@ use Rattle.levelling.specs.Opened.{OpenIs}
 use Rattle.levelling.proofs.Opens.{open-refusal, open-value}
 use Rattle.graph.proofs.Proper.{Proper, proper}
 use Rattle.bundle.specs.Writing.{bundle_bytes}
+use Rattle.bundle_writer.specs.declared.writer.Judged.{Judged}
+use Rattle.bundle_writer.specs.declared.writer.Judged.TheVariants.{Refused}
 use Rattle.planner.specs.Schedule.{Schedule, empty, place_of}
 use Rattle.planner.specs.Placing.{barred}
 use Rattle.planner.specs.Planner.{planned, bundle_of, plan}
@@ -30,7 +29,7 @@ use Rattle.planner.proofs.Schedules.{Built, built, placing, tally, Plan, Complet
 use Rattle.schedule.specs.Layout.{schedule_in}
 use Rattle.turns.specs.Turns.{Afterwards}
 use Rattle.plan_writer.specs.Scheduled.{Scheduled}
-use Rattle.plan_writer.specs.Written.{bundle_for, plan_for, PlanIs}
+use Rattle.plan_writer.specs.Written.{bundle_for, plan_for, WriteIs, PlanIs}
 use Rattle.plan_writer.proofs.Writes.{write-refused}
 
 -- the planner's answer is the plan, where the output has room for it
@@ -115,7 +114,7 @@ module _ (b : List ℕ) {work mid : List ℕ} {o : Reading} (h : OpenIs (read_sh
         pub plan-scheduled : Scheduled last
         plan-scheduled = scheduled (proper b (sheet_in mid) (open-value h e)) a (sym q)
 
-        pub plan-done : (out out' : List ℕ) {r : Written} → WriteIs (bundle_for (length out) (sheet_in last) (schedule_in last)) out out' r → PlanIs (plan_for (length out) b) work last out out' r
+        pub plan-done : (out out' : List ℕ) {r : Judged} → WriteIs (bundle_for (length out) (sheet_in last) (schedule_in last)) out out' r → PlanIs (plan_for (length out) b) work last out out' r
         plan-done out out' {r} d =
             let z : plan_for (length out) b ≡ bundle_for (length out) (sheet_in last) (schedule_in last) =
             here (length out) ∙ ap (λ (x : Answer Schedule). and_then x (bundle_for (length out) (sheet_in mid))) (sym q)

@@ -39,7 +39,7 @@ module _ (s : Sheet) (σ : Schedule) where
   unfoldable pub block_bytes : ℕ → ℕ → List ℕ
   block_bytes k t = programme_bytes (pick (stands σ t k) (block_of s σ k t) [])
 
-  -- the block of the task that was placed at turn i, if it stands on k
+  -- .. of the task that was placed at turn i
   unfoldable pub turn_bytes : ℕ → ℕ → List ℕ
   turn_bytes k i = block_bytes k (get_or σ.order i 0)
 

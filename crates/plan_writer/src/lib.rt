@@ -2,14 +2,13 @@
 #![tactic(auto)]
 
 ghost use Rattle.std.specs.Prelude.{◌≡◌, not, ◌<◌, length};
-ghost use Rattle.workspace.specs.Written.{WriteIs};
 ghost use Rattle.sheet.specs.Sheet.{task_count, link_count};
 ghost use Rattle.sheet.specs.Tables.{sheet_in, Loaded};
 ghost use Rattle.planner.specs.Schedule.{stands};
 ghost use Rattle.schedule.specs.Layout.{schedule_in};
 ghost use Rattle.plan_writer.specs.Bytes.{far_by};
 ghost use Rattle.plan_writer.specs.Scheduled.{Scheduled};
-ghost use Rattle.plan_writer.specs.Written.{bundle_for};
+ghost use Rattle.plan_writer.specs.Written.{bundle_for, WriteIs};
 
 mod measuring;
 mod queues;
@@ -17,8 +16,8 @@ pub mod whole;
 mod writing;
 
 use adjacency::End;
+use bundle_writer::writer::Judged;
 use sheet::tables;
-use workspace::answers::Written;
 
 // The task at the other end of link l.
 fn far_end(w: &[u32], e: End, l: usize) -> usize
@@ -42,14 +41,14 @@ fn is_away(w: &[u32], e: End, k: usize, l: usize) -> bool
 }
 
 // The bundle of the schedule in the area, at the front of `out`; 12 with the length needed, and `out` as it was, where it is too long.
-pub fn write(w: &[u32], out: &mut [u8]) -> Written
+pub fn write(w: &[u32], out: &mut [u8]) -> Judged
     requires { Scheduled w.now }
     ensures { WriteIs (bundle_for (length out.old) (sheet_in w.now) (schedule_in w.now)) out.old out.new result }
 {
     let need = measuring::of_bundle(w);
     if out.len() < need {
-        return Written::Refused(12, need);
+        return Judged::Refused(12, need);
     }
     writing::put_bundle(w, out);
-    Written::Long(need)
+    Judged::Long(need)
 }

@@ -11,13 +11,17 @@ use lib.Dec.{eqb, ltb}
 use borrow.Author.Tests.{eqb-true, ne_eqb, lt-ltb, le-ltb, ltb-true}
 use Rattle.folds.specs.Folds.{pick, either, both, gather}
 use Rattle.folds.proofs.Tests.{either-part, both-parts, both_false}
-use Rattle.folds.proofs.Lists.{gather_cong}
 use Rattle.admission.specs.Notes.{slots_at, releases_at}
 use Rattle.releasing.specs.Inserting.{Lay, due_bytes, due_from, behind_bytes}
 use Rattle.releasing.specs.Queues.{queues, things, Declared, queue_of, First, over, next, Queued, Queues, BehindIs}
 use Rattle.releasing.proofs.Lays.{lay-none, lay-as, lay-then, lay-long}
 
 -- lists that are gathered: those from a on, and where they are empty
+gather_cong : {X : Type 0} (n : ℕ) (f g : ℕ → List X) → ((i : ℕ) → i < n → f i ≡ g i) → gather n f ≡ gather n g
+unfolding gather
+gather_cong zero f g h = refl
+gather_cong (suc n) f g h = ap₂ ◌++◌ (gather_cong n f g (λ i l. h i (omega arith))) (h n (omega arith))
+
 gather-split : {X : Type 0} (f : ℕ → List X) (a d : ℕ) → gather (a + d) f ≡ gather a f ++ gather d (λ i. f (a + i))
 unfolding gather
 gather-split f a zero = let e : a + zero ≡ a = omega arith in ap (λ (k : ℕ). gather k f) e ∙ sym (append-nil (gather a f))

@@ -13,9 +13,6 @@ use Rattle.folds.specs.Answers.{Answer, value, refused, and_then, fitting, writt
 use Rattle.folds.proofs.Tests.{and_then-value}
 use Rattle.numbers.specs.Number.{Bytes}
 use Rattle.numbers.proofs.Puts.{kept, fits_not, fits-well}
-use Rattle.workspace.specs.declared.answers.Written.{Written}
-use Rattle.workspace.specs.declared.answers.Written.TheVariants.{Long, Refused}
-use Rattle.workspace.specs.Written.{written_of, WriteIs}
 use Rattle.sheet.specs.Sheet.{Sheet, task_count, link_count}
 use Rattle.sheet.specs.Tables.{sheet_in}
 use Rattle.sheet_reader.specs.declared.Reading.{Reading}
@@ -23,10 +20,10 @@ use Rattle.sheet_reader.specs.declared.Reading.TheVariants as readings
 use Rattle.graph.specs.Graph.{read_sheet}
 use Rattle.levelling.specs.Opened.{OpenIs}
 use Rattle.levelling.proofs.Opens.{open-refusal, open-value}
-use Rattle.bundle.specs.Bundle.{Bundle}
+use Rattle.bundle.specs.Bundle.{Bundle, programme_count}
 use Rattle.bundle.specs.Format.{read_bundle}
 use Rattle.bundle.specs.Writing.{bundle_bytes}
-use Rattle.bundle.proofs.Rounds.{bytes-again, few-programmes}
+use Rattle.bundle.proofs.Rounds.{read-formed, bytes-again}
 use Rattle.admission.specs.Counting.{whole}
 use Rattle.admission.specs.Releases.{frees}
 use Rattle.admission.specs.Messages.{Published}
@@ -41,15 +38,16 @@ use Rattle.admission.proofs.Few.{short-of-read}
 use Rattle.admission.proofs.Keeping.{lasts-self, given-apart}
 use Rattle.stepping_machine.specs.Layout as lay
 use Rattle.checker.specs.Checker.{checked}
-use Rattle.checker.specs.Verdicts.{checked_bytes, JudgementIs}
+use Rattle.checker.specs.Verdicts.{verdict_of, checked_bytes, JudgementIs}
 use Rattle.checker.specs.declared.Verdict.{Verdict}
 use Rattle.checker.specs.declared.Verdict.TheVariants as verdicts
 use Rattle.checker.proofs.Accepted.{passes}
-use Rattle.checker.proofs.Verdicts.{good-value, refused-value}
 use Rattle.releasing.specs.Releasing.{releasing, passed}
 use Rattle.releasing.specs.Inserting.{Lay, part, with_releases, Bare, Marked, FreesIs}
 use Rattle.releasing.specs.Queues.{Queued, Above, AllIs, InsertIs}
-use Rattle.releasing.specs.Passing.{passed_bytes, pass, ReleasedIs, AcceptedIs, PassIs, ReleaseIs}
+use Rattle.releasing.specs.Passing.{passed_bytes, pass, written_of, WriteIs, ReleasedIs, AcceptedIs, PassIs, ReleaseIs}
+use Rattle.releasing.specs.declared.Written.{Written}
+use Rattle.releasing.specs.declared.Written.TheVariants.{Long, Refused}
 use Rattle.releasing.proofs.Lays.{lay-as, lay-front, part-rest}
 use Rattle.releasing.proofs.Marks.{marked}
 
@@ -102,6 +100,10 @@ accepted-read s bundle b e =
     let r = and_then-value (read_bundle s bundle) (checked s) b e in
     let p = passes s r.0 b r.2 in
     (r.1 ∙ ap value p.1, subst (Published s) p.1 p.0.published)
+
+few-programmes : (s : Sheet) (bundle : List ℕ) (b : Bundle) → read_bundle s bundle ≡ value b → s.processors ≤ 16 → programme_count b ≤ 16
+unfolding programme_count
+few-programmes s bundle b e l = omega (arith, (read-formed s bundle b e).few)
 
 some-release : (b : Bundle) → true ≡ not (eqb (whole b frees) 0) → eqb (whole b frees) 0 ≡ false
 some-release b e = by (eqb (whole b frees) 0) e
@@ -188,6 +190,14 @@ passed-by s bundle = by (read_bundle s bundle)
         → and_then a (λ b. and_then (and_then (checked s b) (λ c. value (releasing s c))) (λ c. value (bundle_bytes c))) ≡ and_then (and_then a (checked s)) (λ b. value (bundle_bytes (releasing s b)))
     by (value b) = inner (checked s b)
     by (refused n at) = refl
+
+refused-value : (a : Answer Bundle) (r at : ℕ) → verdicts.Refused r at ≡ verdict_of a → a ≡ refused r at
+refused-value (value b) r at e = let z : ◌≡◌ {A = ℕ} 0 1 = cc in absurd (omega arith)
+refused-value (refused n q) r at e = cc
+
+good-value : (a : Answer Bundle) → verdicts.Good ≡ verdict_of a → (b : Bundle) × (a ≡ value b)
+good-value (value b) e = (b, refl)
+good-value (refused n at) e = let z : ◌≡◌ {A = ℕ} 0 1 = cc in absurd (omega arith)
 
 pub pass-refused : {sheet bundle w u old : List ℕ} {v : View} {o : Verdict} (r at : ℕ) → JudgementIs sheet bundle w u v o → o ≡ verdicts.Refused r at → PassIs sheet bundle w u v old old (Refused r at)
 pass-refused {sheet} {bundle} {old = old} r at g e =

@@ -11,11 +11,11 @@ use Rattle.sheet.specs.Sheet.{Sheet, task_count, link_count}
 use Rattle.bundle.specs.Bundle.{Command, release, discard, Bundle}
 use Rattle.bundle.specs.Fits.{Known, Each, Formed, Fits}
 use Rattle.bundle.proofs.Parts.{each_append}
-use Rattle.bundle.proofs.Each.{each-gather}
 use Rattle.admission.specs.Counting.{whole}
 use Rattle.admission.specs.Releases.{frees}
 use Rattle.releasing.specs.Releasing.{earliest, is_at, due_at, releases_at, rest_with, released, releasing}
 use Rattle.releasing.specs.Inserting.{with_releases}
+use Rattle.releasing.proofs.Each.{each-gather}
 
 module _ (s : Sheet) where
   module _ (p : List Command) where

@@ -1,5 +1,5 @@
 -- The pass over a bundle's bytes that writes it with its releases: how far it has come, one command more, the next programme, and its end.
-use Prim.Native.Nat.{ℕ, suc, ◌+◌, ◌*◌, ◌-◌, ◌%◌, ◌≤◌, ◌<◌, min}
+use Prim.Native.Nat.{ℕ, zero, suc, ◌+◌, ◌*◌, ◌-◌, ◌%◌, ◌≤◌, ◌<◌, min}
 use native.Mathlib.Omega.{arith}
 use native.Mathlib.Numerals.{add-one}
 use mathlib.Core.Bool.{Bool, true, false}
@@ -10,7 +10,6 @@ use lib.ListN.{length, get_or, take, drop, get_elem?, length-append, length-take
 use lib.Dec.{eqb}
 use borrow.Author.Tests.{lt-ltb, le-ltb, eq-eqb}
 use Rattle.folds.specs.Folds.{pick, gather}
-use Rattle.folds.proofs.Lists.{gather_cong}
 use Rattle.sheet.specs.Sheet.{Sheet, task_count, link_count}
 use Rattle.bundle.specs.Bundle.{Command, release, discard, Bundle, programme_count, programme_of}
 use Rattle.bundle.specs.Sizes.{short_size, claim_size}
@@ -19,7 +18,6 @@ use Rattle.bundle.specs.Kinds.{is_message, size_by}
 use Rattle.bundle.specs.Lies.{size_of}
 use Rattle.bundle.proofs.Lying.{stands-sized}
 use Rattle.bundle.proofs.Rounds.{bytes-again}
-use Rattle.bundle.proofs.Coded.{programme-append, programme-gather}
 use Rattle.admission.specs.Notes.{releases_at, discards_at, sofar, rank}
 use Rattle.admission.proofs.Weights.{command-below}
 use Rattle.admission.proofs.Walking.{drop_at}
@@ -32,8 +30,13 @@ use Rattle.releasing.specs.Inserting.{Lay, part, thing, due_bytes, due_from, beh
 use Rattle.releasing.specs.Queues.{Queued, BehindIs, InsertIs}
 use Rattle.releasing.proofs.Running.{released-rest}
 use Rattle.releasing.proofs.Lays.{lay-none, lay-as, lay-then, lay-long, part_none, part-rest}
-use Rattle.releasing.proofs.Rests.{size-length, rest_of, rest-command, rest-block, rest-open, rest_end, rest-first, rest-none, same, bytes_same, part-front}
+use Rattle.releasing.proofs.Rests.{programme-append, programme-gather, size-length, rest_of, rest-command, rest-block, rest-open, rest_end, rest-first, rest-none, same, bytes_same, part-front}
 use Rattle.releasing.proofs.Marks.{elem_below, notable-at, one_at}
+
+gather_cong : {X : Type 0} (n : ℕ) (f g : ℕ → List X) → ((i : ℕ) → i < n → f i ≡ g i) → gather n f ≡ gather n g
+unfolding gather
+gather_cong zero f g h = refl
+gather_cong (suc n) f g h = ap₂ ◌++◌ (gather_cong n f g (λ i l. h i (omega arith))) (h n (omega arith))
 
 -- the releases behind a command, by their marks
 due-one : (u : Bool) (c : Command) → pick u (command_bytes c) [] ≡ programme_bytes (pick u (c ∷ []) [])
@@ -71,7 +74,7 @@ pub record Written (s : Sheet) (b : Bundle) (bundle old : List ℕ) (start : ℕ
   pub lay : Lay old start done out to
   pub count : r ≡ rank b k i
 
--- the same of any bundle: nothing is written if no programme stands in it
+-- .. or no programme stands in it
 pub record Writing (s : Sheet) (b : Bundle) (bundle old : List ℕ) (start : ℕ) (out : List ℕ) (to r k i at : ℕ) : Type 0 where
   pub some_left : 0 < programme_count b → Written s b bundle old start out to r k i at
   pub none_left : programme_count b ≡ 0 → Lay old start [] out to

@@ -1,9 +1,11 @@
 -- How long a bundle with the published messages is: two bytes for each run and release of a result, three for each command of a link, two for each programme and five for the claim.
 use Prim.Native.Nat.{ℕ, zero, suc, ◌+◌, ◌*◌, ◌<◌, ◌≤◌}
 use native.Mathlib.Omega.{arith}
-use mathlib.Core.Path.{◌≡◌, refl, sym, ap, ◌∙◌}
+use mathlib.Core.Bool.{true}
+use mathlib.Core.Path.{◌≡◌, refl, sym, ap, ◌∙◌, subst}
 use mathlib.Core.List.{List, [], ◌∷◌, ◌++◌}
-use lib.ListN.{length, get_or, length-append}
+use lib.ListN.{length, get_or, take, length-append}
+use lib.Seq.{take_all}
 use Rattle.folds.specs.Folds.{sum}
 use Rattle.folds.proofs.Laws.{sum-front, sum-add, sum-le, sum_mono, sum-swap, term-le-sum}
 use Rattle.sheet.specs.Sheet.{Sheet, task_count, link_count}
@@ -12,11 +14,13 @@ use Rattle.bundle.specs.Writing.{command_bytes, programme_bytes, programmes_byte
 use Rattle.bundle.specs.Fits.{Known, Each}
 use Rattle.bundle.specs.Lies.{size_of}
 use Rattle.admission.specs.Counting.{weigh, whole_of, whole, is}
+use Rattle.admission.specs.Releases.{is_release, gets}
 use Rattle.admission.specs.Messages.{Published}
 use Rattle.admission.proofs.Splits.{message-once}
 use Rattle.admission.proofs.Weights.{is-refl}
+use Rattle.admission.proofs.Rights.{all_right, within-got}
 use Rattle.admission.proofs.Messages.{run-once}
-use Rattle.admission.proofs.Few.{each_at, freed-once}
+use Rattle.admission.proofs.Few.{each_at}
 use Rattle.releasing.proofs.Rests.{size-length}
 
 programme-long : (p : List Command) → length (programme_bytes p) ≡ weigh size_of p
@@ -95,6 +99,16 @@ module _ (s : Sheet) where
       by (discard x) k i e f g u v = omega (arith, one_at (link_count s) discard x k)
 
   module _ (b : Bundle) (p : Published s b) where
+    -- a release stands no more often than what it releases
+    freed-once : (x : Command) → is_release x ≡ true → whole b (is x) ≤ whole b (is (gets x))
+    unfolding whole whole_of
+    freed-once x h =
+        sum_mono (programme_count b) (whole_of b (is x)) (whole_of b (is (gets x)))
+        (λ k l.
+        let q = programme_of b k in
+        let e : take (length q) q ≡ q = take_all (length q) q (omega arith) in
+        subst (λ (y : List Command). weigh (is x) y ≤ weigh (is (gets x)) y) e (within-got s q (all_right s b p.releases k) x h (length q)))
+
     all-sizes : Each (Each (Known s)) b.programmes → whole b size_of ≤ 4 * task_count s + 9 * link_count s
     unfolding whole whole_of programme_count programme_of
     all-sizes known =
@@ -107,10 +121,10 @@ module _ (s : Sheet) where
           sum_mono n (whole_of b size_of) per (λ k h. by_size (programme_of b k) (each_at (Each (Known s)) [] b.programmes k known h)),
           five n (at runs) (at frees) (at sends) (at takes) (at drops),
           over-all (task_count s) run b once,
-          over-all (task_count s) release b (λ t h. omega (arith, freed-once s b p (release t) refl, once t h)),
+          over-all (task_count s) release b (λ t h. omega (arith, freed-once (release t) refl, once t h)),
           over-all (link_count s) send b (λ l h. (message-once s b p.messages l h).0),
           over-all (link_count s) receive b (λ l h. (message-once s b p.messages l h).1),
-          over-all (link_count s) discard b (λ l h. omega (arith, freed-once s b p (discard l) refl, (message-once s b p.messages l h).1)),
+          over-all (link_count s) discard b (λ l h. omega (arith, freed-once (discard l) refl, (message-once s b p.messages l h).1)),
         )
 
     -- "a passed bundle has at most 10,277 bytes"

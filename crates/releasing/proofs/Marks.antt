@@ -1,5 +1,5 @@
 -- What is kept for the releases of a bundle that has none tells behind which command each belongs.
-use Prim.Native.Nat.{ℕ, zero, suc, ◌+◌, ◌*◌, ◌/◌, ◌<◌}
+use Prim.Native.Nat.{ℕ, zero, suc, ◌+◌, ◌*◌, ◌/◌, ◌≤◌, ◌<◌}
 use native.Mathlib.Omega.{arith}
 use native.Mathlib.Decide.{ℕ_discrete, dec_lt}
 use mathlib.Core.Bool.{true, false, true≢false}
@@ -21,16 +21,19 @@ use Rattle.bundle.specs.Fits.{Each}
 use Rattle.bundle.specs.Fits as fits
 use Rattle.admission.specs.Counting.{weigh, whole_of, whole, is}
 use Rattle.admission.specs.Releases.{is_release, frees, gets, uses, held, right}
+use Rattle.admission.specs.Messages.{at26, at_message}
 use Rattle.admission.specs.Notes.{Notable, releases_at, discards_at, rank}
 use Rattle.admission.specs.Lasts.{message_of, Lasts}
 use Rattle.admission.specs.Rules.{Given}
 use Rattle.admission.specs.declared.view.View.{View}
 use Rattle.admission.proofs.Weights.{programme-or, command-below, weigh-split, weigh-take, is-refl}
+use Rattle.admission.proofs.Messages.{run-once}
+use Rattle.admission.proofs.Splits.{message-once}
 use Rattle.admission.proofs.Walking.{each-elem}
 use Rattle.admission.proofs.Ranks.{rank-small, rank-order}
 use Rattle.admission.proofs.Places.{placed-programme, whole-stands}
 use Rattle.admission.proofs.Lasts.{Until, last-result, last-message}
-use Rattle.admission.proofs.Freeing.{known-all, single}
+use Rattle.admission.proofs.Freeing.{known-all}
 use Rattle.releasing.specs.Releasing.{right_at, earliest, is_at}
 use Rattle.releasing.specs.Inserting.{Marked, Bare}
 use Rattle.releasing.proofs.Programme.{Plain, touches, earliest-last}
@@ -58,6 +61,13 @@ notable-known s (send l) k p = k
 notable-known s (receive l) k p = k
 notable-known s (release t) k p = absurd (true≢false p)
 notable-known s (discard l) k p = absurd (true≢false p)
+
+pub single : (s : Sheet) (b : Bundle) → at26 s b ≡ none → at_message s b ≡ none → (c : Command) → Notable s c → whole b (is c) ≤ 1
+single s b once messages (run t) n = omega (arith, run-once s b once t n)
+single s b once messages (send l) n = (message-once s b messages l n).0
+single s b once messages (receive l) n = (message-once s b messages l n).1
+single s b once messages (release t) n = absurd n
+single s b once messages (discard l) n = absurd n
 
 -- what a programme never gets is nowhere released
 never : (s : Sheet) (p : List Command) (x : Command) → weigh (is (gets x)) p ≡ 0 → earliest s p x ≡ none

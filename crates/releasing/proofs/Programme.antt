@@ -12,7 +12,7 @@ use lib.Seq.{take_all}
 use lib.Dec.{eqb, ltb}
 use borrow.Author.Tests.{eqb-true, eq-eqb, ne_eqb, ltb-true, lt-ltb, le-ltb}
 use Rattle.folds.specs.Folds.{pick, bit, both, sum, first, gather}
-use Rattle.folds.proofs.Tests.{both-parts, parts-both, not_some, equal-or, pick_same}
+use Rattle.folds.proofs.Tests.{both-parts, parts-both, not_some, equal-or}
 use Rattle.folds.proofs.Laws.{sum-only, sum_zeros, first_some, first-none, first-lowest, first_found}
 use Rattle.sheet.specs.Sheet.{Sheet, task_count, link_count}
 use Rattle.bundle.specs.Bundle.{Command, run, send, receive, release, discard}
@@ -27,7 +27,11 @@ use Rattle.admission.proofs.Ranks.{weigh-rises}
 use Rattle.releasing.specs.Releasing.{right_at, earliest, is_at, due_at, releases_at, rest_with, released}
 use Rattle.bundle.specs.Fits.{Each}
 use Rattle.bundle.proofs.Parts.{each_append}
-use Rattle.bundle.proofs.Each.{each-gather, each_map}
+use Rattle.releasing.proofs.Each.{each-gather}
+
+pick_same : (u : Bool) (x : ℕ) → pick u x x ≡ x
+pick_same true x = refl
+pick_same false x = refl
 
 drop_all : {A : Type 0} (p : List A) → drop (length p) p ≡ []
 drop_all [] = refl
@@ -53,6 +57,10 @@ pub weigh-blind : (f : Command → ℕ) → Blind f → (q : List Command) → E
 unfolding weigh
 weigh-blind f h [] o = refl
 weigh-blind f h (c ∷ q) o = omega (arith, h c o.0, weigh-blind f h q o.1)
+
+each_map : {A : Type 0} (P Q : A → Type 0) → ((x : A) → P x → Q x) → (xs : List A) → Each P xs → Each Q xs
+each_map P Q f [] h = tt
+each_map P Q f (x ∷ xs) h = (f x h.0, each_map P Q f xs h.1)
 
 -- a command that is no release is not counted at one
 pub is-blind : (c : Command) → is_release c ≡ false → Blind (is c)
@@ -128,7 +136,7 @@ module _ (s : Sheet) (p : List Command) where
   released-weigh f h =
       omega (arith, weigh-append f (releases_at s p 0) (rest_with (releases_at s p) 0 p), weigh-blind f h (releases_at s p 0) (block-releases 0), rest-weigh f h 0 p)
 
-  -- releases do not change which other command stands before which
+  -- .. and so is which command stands before which
   before-block : (c d : Command) → is_release c ≡ false → is_release d ≡ false → (i : ℕ) (r : List Command) → before c d (releases_at s p i ++ r) ≡ before c d r
   before-block c d g h i r =
       before-skip c d (releases_at s p i) r (weigh-blind (is c) (is-blind c g) (releases_at s p i) (block-releases i)) (weigh-blind (is d) (is-blind d h) (releases_at s p i) (block-releases i))

@@ -1,16 +1,25 @@
 -- The bytes of a bundle from a place on: the rest of a programme, then the programmes behind it, then the claim.
-use Prim.Native.Nat.{ℕ, suc, ◌+◌, ◌-◌, ◌≤◌, ◌<◌}
+use Prim.Native.Nat.{ℕ, zero, suc, ◌+◌, ◌-◌, ◌≤◌, ◌<◌}
 use native.Mathlib.Omega.{arith}
 use mathlib.Core.Path.{◌≡◌, refl, sym, ap, ap₂, ◌∙◌}
 use mathlib.Core.List.{List, [], ◌∷◌, ◌++◌, map, append_assoc}
 use lib.ListN.{length, get_or, take, drop, drop_of_length-le}
 use lib.Seq.{drop-cons, drop-drop, take-append_seam, drop-append_seam}
+use Rattle.folds.specs.Folds.{gather}
 use Rattle.numbers.specs.Number.{number_bytes}
 use Rattle.bundle.specs.Bundle.{Command, run, send, receive, release, discard, Bundle, programme_count, programme_of}
 use Rattle.bundle.specs.Writing.{command_bytes, programme_bytes, programmes_bytes, claim_bytes, bundle_bytes}
 use Rattle.bundle.specs.Lies.{size_of}
-use Rattle.bundle.proofs.Coded.{programme-append}
 use Rattle.releasing.specs.Inserting.{part}
+
+pub programme-append : (p q : List Command) → programme_bytes (p ++ q) ≡ programme_bytes p ++ programme_bytes q
+programme-append [] q = refl
+programme-append (c ∷ p) q = ap (λ (x : List ℕ). command_bytes c ++ x) (programme-append p q) ∙ sym (append_assoc (command_bytes c) (programme_bytes p) (programme_bytes q))
+
+pub programme-gather : (n : ℕ) (f : ℕ → List Command) → programme_bytes (gather n f) ≡ gather n (λ i. programme_bytes (f i))
+unfolding gather
+programme-gather zero f = refl
+programme-gather (suc n) f = programme-append (gather n f) (f n) ∙ ap (λ (x : List ℕ). x ++ programme_bytes (f n)) (programme-gather n f)
 
 map_same : (ps : List (List Command)) → map (λ p. p) ps ≡ ps
 map_same [] = refl

@@ -57,7 +57,7 @@ pub record Bare (s : Sheet) (b : Bundle) (bundle : List ℕ) : Type 0 where
   pub messages : at_message s b ≡ none
   pub plain : whole b frees ≡ 0
 
--- a bundle with the releases of each programme
+-- .. with its releases
 abbrev pub with_releases : Sheet → Bundle → Bundle
 with_releases s b = record { programmes = map (released s) b.programmes; claim = b.claim }
 

@@ -1,8 +1,6 @@
 -- What the pass promises of any bytes: the answer, and what stands in the lent output afterwards.
 use Rattle.std.specs.Prelude.{ℕ, ◌≡◌, List, length}
-use Rattle.folds.specs.Answers.{Answer, value, and_then, fitting}
-use Rattle.workspace.specs.declared.answers.Written.{Written}
-use Rattle.workspace.specs.Written.{WriteIs}
+use Rattle.folds.specs.Answers.{Answer, value, refused, and_then, fitting, written}
 use Rattle.sheet.specs.Sheet.{Sheet, task_count, link_count}
 use Rattle.graph.specs.Graph.{read_sheet}
 use Rattle.bundle.specs.Bundle.{Bundle}
@@ -14,6 +12,8 @@ use Rattle.checker.specs.Verdicts.{checked_bytes}
 use Rattle.releasing.specs.Releasing.{releasing, passed}
 use Rattle.releasing.specs.Inserting.{with_releases, Bare, Marked}
 use Rattle.releasing.specs.Queues.{Queued}
+use Rattle.releasing.specs.declared.Written.{Written}
+use Rattle.releasing.specs.declared.Written.TheVariants.{Long, Refused}
 
 -- the bytes of the passed bundle, or the checker's refusal: of a bundle's bytes for a sheet, and of the bytes of both
 unfoldable pub passed_bytes : Sheet → List ℕ → Answer (List ℕ)
@@ -21,6 +21,15 @@ passed_bytes s bundle = and_then (read_bundle s bundle) (λ b. and_then (passed 
 
 unfoldable pub pass : List ℕ → List ℕ → Answer (List ℕ)
 pass sheet bundle = and_then (read_sheet sheet) (λ s. passed_bytes s bundle)
+
+-- how the code tells an answer
+abbrev pub written_of : Answer (List ℕ) → Written
+written_of (value v) = Long (length v)
+written_of (refused n at) = Refused n at
+
+pub record WriteIs (a : Answer (List ℕ)) (old last : List ℕ) (r : Written) : Type 0 where
+  pub answer : r ≡ written_of a
+  pub left : last ≡ written old a
 
 -- a bundle without releases, whose things are marked and queued in the words w
 pub record ReleasedIs (bundle w old last : List ℕ) (r : Written) : Type 0 where

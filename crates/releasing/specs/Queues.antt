@@ -33,7 +33,7 @@ pub record Queued (n m : ℕ) (w : List ℕ) (a : ℕ) : Type 0 where
   pub first : (r : ℕ) → r < queues → First n m w r a (get_or w (slots_at + r) 0)
   pub next : (x : ℕ) → a ≤ x → Declared n m x → First n m w (queue_of w x) (suc x) (get_or w x 0)
 
--- the things of some sheet are queued
+-- .. of some sheet
 pub record Queues (w : List ℕ) : Type 0 where
   pub tasks : ℕ
   pub links : ℕ

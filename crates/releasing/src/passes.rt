@@ -2,13 +2,13 @@
 ghost use Rattle.std.specs.Prelude.{◌≤◌, ◌<◌, length};
 ghost use Rattle.folds.specs.Answers.{fitting};
 ghost use Rattle.workspace.specs.Area.{fixed};
-ghost use Rattle.workspace.specs.Written.{WriteIs};
 ghost use Rattle.admission.specs.Fields.{Bounded, Seen};
 ghost use Rattle.admission.specs.Notes.{slots_end};
 ghost use Rattle.stepping_machine.specs.Layout.{extent};
 ghost use Rattle.releasing.specs.Queues.{Queues};
-ghost use Rattle.releasing.specs.Passing.{ReleasedIs, AcceptedIs, PassIs, ReleaseIs};
+ghost use Rattle.releasing.specs.Passing.{WriteIs, ReleasedIs, AcceptedIs, PassIs, ReleaseIs};
 
+use crate::Written;
 use crate::inserting::{has_release, insert};
 use crate::laying::copy;
 use crate::queueing::queue_all;
@@ -20,7 +20,6 @@ use checker::whole::judgement;
 use levelling::open;
 use sheet_reader::Reading;
 use stepping_machine::BOARD;
-use workspace::answers::Written;
 
 // A bundle as it is.
 fn put_same(bundle: &[u8], out: &mut [u8]) -> Written

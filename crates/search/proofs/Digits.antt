@@ -18,7 +18,6 @@ use Rattle.bundle.proofs.Parts.{each_append}
 use Rattle.least.specs.Heads.{head_of}
 use Rattle.least.specs.Pruned.{last_of}
 use Rattle.least.specs.Least.{opens, joins, among_all}
-use Rattle.least.proofs.Best.{joins-length}
 use Rattle.search.specs.Codes.{arranged, tasks_of, opens_of, Coded, order_of, last_length, front_of, LastIs}
 use Rattle.search.specs.declared.codes.Last.{Last}
 
@@ -64,6 +63,12 @@ joins-among t u (ts ∷ us ∷ a) h = go (among t ts) (joins-among t u (us ∷ a
     go : (x : Bool) → among_all t (joins (us ∷ a) u) ≡ either (among_all t (us ∷ a)) (eqb t u) → either x (among_all t (joins (us ∷ a) u)) ≡ either (either x (among_all t (us ∷ a))) (eqb t u)
     go true e = refl
     go false e = e
+
+joins-length : (a : List (List ℕ)) (t : ℕ) → length (joins a t) ≡ length a
+unfolding joins
+joins-length [] t = refl
+joins-length (ts ∷ []) t = refl
+joins-length (ts ∷ us ∷ a) t = omega (arith, joins-length (us ∷ a) t)
 
 bit-of : (c : ℕ) → eqb (c / 8 % 2) 1 ≡ false → c / 8 % 2 ≡ 0
 bit-of c e = omega (arith, eqb-false (c / 8 % 2) 1 e)

@@ -17,9 +17,6 @@ use Rattle.folds.proofs.Tests.{part-either}
 use Rattle.numbers.specs.Number.{Bytes, stored}
 use Rattle.numbers.proofs.Laws.{stored_one, stored-then, stored-none}
 use Rattle.numbers.proofs.Puts.{kept, front, fits_not, fits-well}
-use Rattle.workspace.specs.declared.answers.Written.{Written}
-use Rattle.workspace.specs.declared.answers.Written.TheVariants.{Long, Refused}
-use Rattle.workspace.specs.Written.{written_of}
 use Rattle.sheet.specs.Sheet.{Sheet, task_count}
 use Rattle.sheet.specs.Tables.{sheet_in}
 use Rattle.sheet_reader.specs.declared.Reading.{Reading}
@@ -29,6 +26,9 @@ use Rattle.graph.proofs.Proper.{proper, proper-sized}
 use Rattle.levelling.specs.Opened.{OpenIs}
 use Rattle.levelling.proofs.Opens.{open-refusal, open-value}
 use Rattle.bundle.specs.Bundle.{Bundle}
+use Rattle.bundle_writer.specs.Writes.{written_of}
+use Rattle.bundle_writer.specs.declared.writer.Judged.{Judged}
+use Rattle.bundle_writer.specs.declared.writer.Judged.TheVariants.{Long, Refused}
 use Rattle.admission.specs.Views.{ViewIs, Shown}
 use Rattle.admission.specs.declared.view.View.{View}
 use Rattle.admission.proofs.Areas.{known_in}
@@ -99,6 +99,7 @@ module _ (from old : List ℕ) where
 -- what is written, by what is kept
 module _ (sheet : List ℕ) (v : View) (old : List ℕ) (r : Best) (h : BestIs sheet v r) where
   pub search-none : (n : ℕ) → n ≡ v.tasks - 1 → r.found ≡ false → SearchIs sheet v old old (Refused 11 n)
+  unfolding written_of
   search-none n e f = record { answer = λ s k. ap written_of (by s k); left = λ s k. kept old 11 n ∙ ap (written old) (by s k) }
     where
       go : (s : Sheet) → Sought s sheet v → (o : Option Bundle) → KeepsOf s v r o → refused 11 n ≡ and_then (best_or11 s o) (fitting (length old))
@@ -121,12 +122,14 @@ module _ (sheet : List ℕ) (v : View) (old : List ℕ) (r : Best) (h : BestIs s
         go (some x) g = ap (fitting (length old)) (sym (kept-bytes s k g b))
 
     pub search-short : length old < n → SearchIs sheet v old old (Refused 12 n)
+    unfolding written_of
     search-short l = record { answer = λ s k. ap written_of (by s k); left = λ s k. kept old 12 n ∙ ap (written old) (by s k) }
       where
         by : (s : Sheet) → Sought s sheet v → refused 12 n ≡ and_then (best_or11 s (best s)) (fitting (length old))
         by s k = sym (found s k ∙ fits_not (length old) (take n buf) (omega (arith, long)) ∙ ap (refused 12) long)
 
     pub search-done : (last : List ℕ) → n ≤ length old → last ≡ stored old 0 (take n buf) → SearchIs sheet v old last (Long n)
+    unfolding written_of
     search-done last l e =
         record {
           answer = λ s k. sym (ap written_of (by s k) ∙ ap Long long);
@@ -139,7 +142,7 @@ module _ (sheet : List ℕ) (v : View) (old : List ℕ) (r : Best) (h : BestIs s
 -- of the bytes of a sheet
 module _ (sheet : List ℕ) {work mid : List ℕ} {o : Reading} (h : OpenIs (read_sheet sheet) work mid o) (old : List ℕ) where
   pub sheet-refused : (n at : ℕ) → o ≡ readings.Refused n at → LeastIs sheet work mid old old (Refused n at)
-  unfolding least_bundle
+  unfolding least_bundle written_of
   sheet-refused n at q =
       let e : refused n at ≡ and_then (least_bundle sheet) (fitting (length old)) = sym (ap (λ (x : Answer Sheet). and_then (and_then x least_time) (fitting (length old))) (open-refusal h n at q)) in
       record { answer = ap written_of e; left = kept old n at ∙ ap (written old) e; long = h.long }
@@ -147,7 +150,7 @@ module _ (sheet : List ℕ) {work mid : List ℕ} {o : Reading} (h : OpenIs (rea
   module _ (q : o ≡ readings.Read) {v : View} (shown : Shown sheet mid) (seen : ViewIs mid v) (bytes : Bytes sheet) where
     -- "38 for a seventh task or a sheet with `48`, place the task count"
     refused-38 : either (ltb most (task_count (sheet_in mid))) (sheet_in mid).cube ≡ true → LeastIs sheet work mid old old (Refused 38 v.tasks)
-    unfolding least_bundle least_time
+    unfolding least_bundle least_time written_of
     refused-38 l =
         let s = sheet_in mid in
         let t : v.tasks ≡ task_count s = seen.tasks in
@@ -168,7 +171,7 @@ module _ (sheet : List ℕ) {work mid : List ℕ} {o : Reading} (h : OpenIs (rea
         let t : v.tasks ≡ task_count (sheet_in mid) = seen.tasks in
         record { bounded = seen.bounded; tasks = l; links = omega (arith, seen.links, few_links (sheet_in mid) (proper sheet (sheet_in mid) (open-value h q)) (omega (arith, t))) }
 
-    pub searched : v.tasks ≤ most → v.cube ≡ false → (after last : List ℕ) (r : Written) → length after ≡ length mid → SearchIs sheet v old last r → LeastIs sheet work after old last r
+    pub searched : v.tasks ≤ most → v.cube ≡ false → (after last : List ℕ) (r : Judged) → length after ≡ length mid → SearchIs sheet v old last r → LeastIs sheet work after old last r
     unfolding least_bundle least_time
     searched l c after last r long g =
         let s = sheet_in mid in

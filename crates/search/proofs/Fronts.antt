@@ -11,11 +11,9 @@ use borrow.Author.Tests.{eq-eqb, ne_eqb}
 use Rattle.folds.specs.Folds.{pick, both, gather}
 use Rattle.folds.proofs.Loops.{gather-one, gather-zero}
 use Rattle.numbers.specs.Number.{number_bytes}
-use Rattle.numbers.proofs.Laws.{low-bytes}
 use Rattle.sheet.specs.Sheet.{Sheet, link_count, source_of, target_of}
 use Rattle.bundle.specs.Bundle.{Command, run, send, receive}
-use Rattle.bundle.specs.Writing.{programme_bytes}
-use Rattle.bundle.proofs.Coded.{programme-append}
+use Rattle.bundle.specs.Writing.{command_bytes, programme_bytes}
 use Rattle.adjacency.specs.Chains.{end_by}
 use Rattle.adjacency.specs.declared.End.{End}
 use Rattle.adjacency.specs.declared.End.TheVariants.{Source, Target}
@@ -52,8 +50,18 @@ front-as {a} {b} {i} {j} e f = subst (λ (z : List ℕ). Front a i z b j) e f
 pub pair-done : {a b c : List ℕ} {at i r : ℕ} {k x : ℕ} → Front a at (k ∷ []) b i → Front b i (x ∷ []) c r → Front a at (k ∷ x ∷ []) c r
 pair-done f g = front-then (_ ∷ []) (_ ∷ []) f g
 
+small-number : (l : ℕ) → l < 256 → number_bytes 2 l ≡ l ∷ 0 ∷ []
+small-number l h =
+    let a : l % 256 ≡ l = omega arith in
+    let b : l / 256 ≡ 0 = omega arith in
+    rw (a, b)
+
 pub command-done : {a b c : List ℕ} {at i r : ℕ} (k l : ℕ) → l < 256 → Front a at (k ∷ l ∷ []) b i → Front b i (0 ∷ []) c r → Front a at (k ∷ number_bytes 2 l) c r
-command-done k l h f g = front-as (ap {B = List ℕ} (λ (z : List ℕ). k ∷ z) (sym (low-bytes l h))) (front-then (k ∷ l ∷ []) (0 ∷ []) f g)
+command-done k l h f g = front-as (ap {B = List ℕ} (λ (z : List ℕ). k ∷ z) (sym (small-number l h))) (front-then (k ∷ l ∷ []) (0 ∷ []) f g)
+
+pub programme_bytes-append : (p q : List Command) → programme_bytes (p ++ q) ≡ programme_bytes p ++ programme_bytes q
+programme_bytes-append [] q = refl
+programme_bytes-append (c ∷ p) q = ap (λ (z : List ℕ). command_bytes c ++ z) (programme_bytes-append p q) ∙ sym (append_assoc (command_bytes c) (programme_bytes p) (programme_bytes q))
 
 -- an end of a link, from the sheet's bytes
 pub source-done : (sheet : List ℕ) (v : View) {e : End} (l r : ℕ) → e ≡ Source → r ≡ get_or sheet (source_at v.middle l) 0 → r < 256 → EndIs sheet v e l r
@@ -139,7 +147,7 @@ module _ (sheet : List ℕ) (v : View) (old : List ℕ) (e : End) (start part le
         is =
             λ s k h.
             let f = message_in e s (tasks_of len part) t in
-            front-as (sym (ap programme_bytes (gather-one l f) ∙ programme-append (gather l f) (f l)))
+            front-as (sym (ap programme_bytes (gather-one l f) ∙ programme_bytes-append (gather l f) (f l)))
             (front-then (programme_bytes (gather l f)) (programme_bytes (f l)) (p.is s k (omega arith)) (q.is s k (omega arith)));
       }
 
@@ -168,7 +176,7 @@ module _ (sheet : List ℕ) (v : View) (old : List ℕ) (at part len t : ℕ) wh
             let ts = tasks_of len part in
             let receives = gather (link_count s) (receive_in s ts t) in
             let sends = gather (link_count s) (send_in s ts t) in
-            front-as (sym (programme-append receives (run t ∷ sends)))
+            front-as (sym (programme_bytes-append receives (run t ∷ sends)))
             (front-then (programme_bytes receives) (0x52 ∷ t ∷ programme_bytes sends) (p.is s k) (front-then (0x52 ∷ t ∷ []) (programme_bytes sends) q (u.is s k)));
       }
 
@@ -192,7 +200,7 @@ module _ (sheet : List ℕ) (v : View) (old : List ℕ) (at part len rest : ℕ)
             let ts = tasks_of len part in
             let before = blocks_in s ts (order_of j (rest / 16)) in
             front-as
-            (sym (ap programme_bytes (blocks_in-append s ts (order_of j (rest / 16)) (rest % 8 ∷ [])) ∙ programme-append before (block_in s ts (rest % 8) ++ []) ∙
+            (sym (ap programme_bytes (blocks_in-append s ts (order_of j (rest / 16)) (rest % 8 ∷ [])) ∙ programme_bytes-append before (block_in s ts (rest % 8) ++ []) ∙
             ap (λ (z : List Command). programme_bytes before ++ programme_bytes z) (append-nil (block_in s ts (rest % 8)))))
             (front-then (programme_bytes before) (programme_bytes (block_in s ts (rest % 8))) (p'.is s k) (q.is s k));
       }

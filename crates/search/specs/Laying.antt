@@ -21,7 +21,7 @@ most_links = 36
 abbrev pub block_room : ℕ
 block_room = 6 * most_links + 2
 
--- room for a programme of one block, and for as many as there are tasks, and the claim
+-- .. and a programme at most one block for each task; room for all and the claim
 abbrev pub programme_room : ℕ
 programme_room = block_room + 2
 

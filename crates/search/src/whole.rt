@@ -13,10 +13,10 @@ use crate::walk::walk;
 use crate::walking::Begun;
 use crate::writing::{ROOM, put_bundle};
 use admission::view::View;
+use bundle_writer::writer::Judged;
 use levelling::open;
 use sheet_reader::Reading;
 use stepping_machine::BOARD;
-use workspace::answers::Written;
 
 // The most tasks for which the least time is sought.
 pub const MOST: usize = 6;
@@ -57,7 +57,7 @@ fn copy_front(from: &[u8], n: usize, out: &mut [u8])
 }
 
 // 11, or 12, or the bytes of the best bundle at the front of `out`.
-fn search(sheet: &[u8], w: &mut [u32], v: View, out: &mut [u8]) -> Written
+fn search(sheet: &[u8], w: &mut [u32], v: View, out: &mut [u8]) -> Judged
     requires { Seen sheet.now v × Small v × (extent ≤ length w.old) }
     ensures { SearchIs sheet.now v out.old out.new result }
 {
@@ -65,30 +65,30 @@ fn search(sheet: &[u8], w: &mut [u32], v: View, out: &mut [u8]) -> Written
     let mut other = [0u8; ROOM];
     let best = best_of(sheet, w, &mut buf, &mut other, v);
     if !best.found {
-        return Written::Refused(11, numbers::minus(v.tasks, 1));
+        return Judged::Refused(11, numbers::minus(v.tasks, 1));
     }
     let n = put_bundle(sheet, &mut buf, v, best.code, v.tasks, best.claim);
     if out.len() < n {
-        return Written::Refused(12, n);
+        return Judged::Refused(12, n);
     }
     copy_front(&buf, n, out);
-    Written::Long(n)
+    Judged::Long(n)
 }
 
 // The bundle of a sheet's least time at the front of `out`, or the first refusal, which changes nothing in `out`.
-pub fn least(sheet: &[u8], work: &mut [u32], out: &mut [u8]) -> Written
+pub fn least(sheet: &[u8], work: &mut [u32], out: &mut [u8]) -> Judged
     requires { fixed ≤ length work.old }
     ensures { LeastIs sheet.now work.old work.new out.old out.new result }
 {
     match open::read(sheet, work) {
-        Reading::Refused(r, at) => Written::Refused(r, at),
+        Reading::Refused(r, at) => Judged::Refused(r, at),
         Reading::Read => {
             let v = admission::view::of_tables(work);
             if MOST < v.tasks {
-                return Written::Refused(38, v.tasks);
+                return Judged::Refused(38, v.tasks);
             }
             if v.cube {
-                return Written::Refused(38, v.tasks);
+                return Judged::Refused(38, v.tasks);
             }
             search(sheet, &mut work[BOARD..], v, out)
         }
