@@ -5,7 +5,7 @@ use Rattle.folds.specs.Folds.{all, any, sum, greatest, first, first_with, leadin
 use Rattle.folds.specs.Answers.{Answer, value, refused, and_then}
 use Rattle.numbers.specs.Number.{number_at}
 use Rattle.commands.specs.Commands.{judge, read_from, read_all}
-use Rattle.sheet.specs.Sheet.{Sheet, Link, task_count, link_count, work_of, store_of, source_of, target_of, cost_of, bytes_of}
+use Rattle.sheet.specs.Sheet.{Sheet, Task, Link, task_count, link_count, work_of, store_of, source_of, target_of, cost_of, bytes_of}
 use Rattle.sheet.specs.Format.{joins_by, joins, read_form}
 use Rattle.sheet.specs.Hops.{link_time}
 use Rattle.sheet.specs.Writing.{board_bytes, task_bytes, link_bytes, sheet_bytes}
@@ -33,8 +33,13 @@ use Rattle.planner.specs.Schedule.{Schedule, empty, place_of, start_of, finish_o
 use Rattle.planner.specs.Placing.{comes, lacks, satisfied, ready, partly_ready, arrival_by, arrival, priority, unpacked, ready_arrival, ready_priority, ahead_by, first_ready, first_partly_ready, end_by, end_of, start_by, start_from, elsewhere, near_by, start_on, store_by, bytes_by, store_on, fits, holds_by, holds_predecessor, start_with, best_start, ends_with, delays, barred, is_open, follows_by, follows, spent_by, spent}
 use Rattle.planner.specs.Planner.{may_join, join, may_take, idle, may_open, another, may_share, share, may_crowd, last_resort, choice, turn, turns, planned_by, planned, brings, takes_away, receive_of, send_of, block_of, blocks, programme, running, claim_of, bundle_of, plan}
 use Rattle.planner.specs.Amended.{planned_before}
-use Rattle.least.specs.Trials.{task, link}
 use Rattle.listing.specs.Listing.{decimal_within, decimal, plan_line, task_line, refusal_line, schedule_lines, listing}
+
+abbrev task : ℕ → ℕ → Task
+task w s = record { work = w; store = s }
+
+abbrev link : ℕ → ℕ → ℕ → ℕ → Link
+link a b c d = record { source = a; target = b; cost = c; bytes = d }
 
 -- K1's graph on p processors of store limit m, with work w for task 2
 abbrev pub sheet_k : ℕ → ℕ → ℕ → Sheet

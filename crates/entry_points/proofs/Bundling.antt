@@ -8,8 +8,6 @@ use lib.ListN.{length}
 use lib.Dec.{ltb}
 use Rattle.folds.specs.Folds.{pick}
 use Rattle.folds.specs.Answers.{Answer, value, refused, and_then, fitting, written}
-use Rattle.workspace.specs.declared.answers.Written.{Written}
-use Rattle.workspace.specs.declared.answers.Written.TheVariants as answers
 use Rattle.sheet.specs.Sheet.{Sheet}
 use Rattle.sheet.specs.Tables.{sheet_in}
 use Rattle.sheet_reader.specs.declared.Reading.{Reading}
@@ -21,16 +19,17 @@ use Rattle.bundle.specs.Writing.{bundle_values, value_bytes}
 use Rattle.bundle_writer.specs.Whole.{read_values, write_values}
 use Rattle.bundle.specs.Counts.{Sized}
 use Rattle.bundle_writer.specs.Copies.{copied_of, ValuesIs}
-use Rattle.bundle_writer.specs.Writes.{WriteIs}
+use Rattle.bundle_writer.specs.Writes.{written_of, WriteIs}
 use Rattle.bundle_writer.specs.declared.values.Copied.{Copied}
 use Rattle.bundle_writer.specs.declared.values.Copied.TheVariants as copies
+use Rattle.bundle_writer.specs.declared.writer.Judged.{Judged}
+use Rattle.bundle_writer.specs.declared.writer.Judged.TheVariants as judged
 use Rattle.entry_points.specs.Values.{command_table, claim_after, value_count}
 use Rattle.entry_points.specs.Parts.{outcome_of, PartIs, BundleIs}
 use Rattle.entry_points.specs.declared.ending.Outcome.{Outcome}
 use Rattle.entry_points.specs.declared.ending.Outcome.TheVariants as ends
 use Rattle.levelling.proofs.Opens.{open-value, open-refusal}
 use Rattle.entry_points.proofs.Opening.{part-goes}
-use Rattle.entry_points.proofs.Told.{written-no, written-yes}
 
 -- the bundle whose values fit, or 12
 abbrev pub fitting_bundle : ℕ → Answer Bundle → Answer Bundle
@@ -109,15 +108,25 @@ module _ (b c : List ℕ) (k : ℕ) {a : Answer Sheet} {work mid : List ℕ} {o 
         }
 
 -- the written bundle
-module _ (vs out : List ℕ) (k : ℕ) {a : Answer Sheet} {work mid : List ℕ} {o : Reading} (h : OpenIs a work mid o) (q : o ≡ readings.Read) {p t l : ℕ} {out' : List ℕ} {r : Written} (z : Sized (sheet_in mid) p t l) (g : WriteIs vs k p t l out out' r) where
+pub judged-no : (y : Answer (List ℕ)) (n e : ℕ) → judged.Refused n e ≡ written_of y → ends.Refused n e ≡ outcome_of length y
+unfolding written_of
+judged-no (value v) n e h = let z : ◌≡◌ {A = ℕ} 0 1 = cc in absurd (omega arith)
+judged-no (refused m d) n e h = let p : n ≡ m = cc in let q : e ≡ d = cc in ap (λ (i : ℕ). ends.Refused i e) p ∙ ap (ends.Refused m) q
+
+pub judged-yes : (y : Answer (List ℕ)) (n : ℕ) → judged.Long n ≡ written_of y → ends.Done n ≡ outcome_of length y
+unfolding written_of
+judged-yes (value v) n h = let p : n ≡ length v = cc in ap ends.Done p
+judged-yes (refused m d) n h = let z : ◌≡◌ {A = ℕ} 0 1 = cc in absurd (omega arith)
+
+module _ (vs out : List ℕ) (k : ℕ) {a : Answer Sheet} {work mid : List ℕ} {o : Reading} (h : OpenIs a work mid o) (q : o ≡ readings.Read) {p t l : ℕ} {out' : List ℕ} {r : Judged} (z : Sized (sheet_in mid) p t l) (g : WriteIs vs k p t l out out' r) where
   goes : (i : Outcome) → i ≡ outcome_of length (write_values (sheet_in mid) vs k (length out))
       → PartIs (and_then a (λ s. write_values s vs k (length out))) work mid out out' i
   goes i e = part-goes (λ s. write_values s vs k (length out)) h q mid out' i refl e (g.left (sheet_in mid) z)
 
-  pub writing-no : (n e : ℕ) → r ≡ answers.Refused n e → PartIs (and_then a (λ s. and_then (read_bundle s (value_bytes vs k)) (λ b. fitting (length out) (value_bytes vs k)))) work mid out out' (ends.Refused n e)
+  pub writing-no : (n e : ℕ) → r ≡ judged.Refused n e → PartIs (and_then a (λ s. and_then (read_bundle s (value_bytes vs k)) (λ b. fitting (length out) (value_bytes vs k)))) work mid out out' (ends.Refused n e)
   unfolding write_values
-  writing-no n e w = goes (ends.Refused n e) (written-no (write_values (sheet_in mid) vs k (length out)) n e (sym w ∙ g.answer (sheet_in mid) z))
+  writing-no n e w = goes (ends.Refused n e) (judged-no (write_values (sheet_in mid) vs k (length out)) n e (sym w ∙ g.answer (sheet_in mid) z))
 
-  pub writing-yes : (n : ℕ) → r ≡ answers.Long n → PartIs (and_then a (λ s. and_then (read_bundle s (value_bytes vs k)) (λ b. fitting (length out) (value_bytes vs k)))) work mid out out' (ends.Done n)
+  pub writing-yes : (n : ℕ) → r ≡ judged.Long n → PartIs (and_then a (λ s. and_then (read_bundle s (value_bytes vs k)) (λ b. fitting (length out) (value_bytes vs k)))) work mid out out' (ends.Done n)
   unfolding write_values
-  writing-yes n w = goes (ends.Done n) (written-yes (write_values (sheet_in mid) vs k (length out)) n (sym w ∙ g.answer (sheet_in mid) z))
+  writing-yes n w = goes (ends.Done n) (judged-yes (write_values (sheet_in mid) vs k (length out)) n (sym w ∙ g.answer (sheet_in mid) z))

@@ -8,8 +8,8 @@ use lib.ListN.{length}
 use lib.Dec.{ltb}
 use Rattle.folds.specs.Folds.{pick}
 use Rattle.folds.specs.Answers.{Answer, value, refused, and_then, fitting}
-use Rattle.workspace.specs.declared.answers.Written.{Written}
-use Rattle.workspace.specs.declared.answers.Written.TheVariants as answers
+use Rattle.bundle_writer.specs.declared.writer.Judged.{Judged}
+use Rattle.bundle_writer.specs.declared.writer.Judged.TheVariants as judged
 use Rattle.planner.specs.Planner.{plan}
 use Rattle.plan_writer.specs.Written.{plan_for, PlanIs}
 use Rattle.plan_writer.proofs.Plans.{plan-for}
@@ -22,17 +22,17 @@ use Rattle.search.specs.Whole.{LeastIs}
 use Rattle.entry_points.specs.Parts.{outcome_of, PartIs}
 use Rattle.entry_points.specs.declared.ending.Outcome.{Outcome}
 use Rattle.entry_points.specs.declared.ending.Outcome.TheVariants as ends
-use Rattle.entry_points.proofs.Told.{written-no, written-yes}
+use Rattle.entry_points.proofs.Bundling.{judged-no, judged-yes}
 
-module _ (sheet : List ℕ) {work mid out out' : List ℕ} {r : Written} (h : PlanIs (plan_for (length out) sheet) work mid out out' r) where
+module _ (sheet : List ℕ) {work mid out out' : List ℕ} {r : Judged} (h : PlanIs (plan_for (length out) sheet) work mid out out' r) where
   plan-ends : (o : Outcome) → o ≡ outcome_of length (plan_for (length out) sheet) → PartIs (and_then (plan sheet) (fitting (length out))) work mid out out' o
   plan-ends o e = subst (λ (a : Answer (List ℕ)). PartIs a work mid out out' o) (plan-for (length out) sheet) record { answer = e; output = h.is.left; long = h.long }
 
-  pub plan-no : (n at : ℕ) → r ≡ answers.Refused n at → PartIs (and_then (plan sheet) (fitting (length out))) work mid out out' (ends.Refused n at)
-  plan-no n at q = plan-ends (ends.Refused n at) (written-no (plan_for (length out) sheet) n at (sym q ∙ h.is.answer))
+  pub plan-no : (n at : ℕ) → r ≡ judged.Refused n at → PartIs (and_then (plan sheet) (fitting (length out))) work mid out out' (ends.Refused n at)
+  plan-no n at q = plan-ends (ends.Refused n at) (judged-no (plan_for (length out) sheet) n at (sym q ∙ h.is.answer))
 
-  pub plan-yes : (n : ℕ) → r ≡ answers.Long n → PartIs (and_then (plan sheet) (fitting (length out))) work mid out out' (ends.Done n)
-  plan-yes n q = plan-ends (ends.Done n) (written-yes (plan_for (length out) sheet) n (sym q ∙ h.is.answer))
+  pub plan-yes : (n : ℕ) → r ≡ judged.Long n → PartIs (and_then (plan sheet) (fitting (length out))) work mid out out' (ends.Done n)
+  plan-yes n q = plan-ends (ends.Done n) (judged-yes (plan_for (length out) sheet) n (sym q ∙ h.is.answer))
 
 module _ (sheet : List ℕ) {work mid out out' : List ℕ} {r : Listed} (h : ListIs sheet work mid out out' r) where
   pub list-no : (n : ℕ) → r ≡ listed.Short n → PartIs (fitting (length out) (listing sheet)) work mid out out' (ends.Refused 12 n)
@@ -51,12 +51,12 @@ module _ (sheet : List ℕ) {work mid out out' : List ℕ} {r : Listed} (h : Lis
       by true e = let z : ◌≡◌ {A = ℕ} 0 1 = cc in absurd (omega arith)
       by false e = let z : n ≡ length (listing sheet) = cc in ap ends.Done z
 
-module _ (sheet : List ℕ) {work mid out out' : List ℕ} {r : Written} (h : LeastIs sheet work mid out out' r) where
+module _ (sheet : List ℕ) {work mid out out' : List ℕ} {r : Judged} (h : LeastIs sheet work mid out out' r) where
   abbrev least : Answer (List ℕ)
   least = and_then (least_bundle sheet) (fitting (length out))
 
-  pub least-no : (n at : ℕ) → r ≡ answers.Refused n at → PartIs (and_then (least_bundle sheet) (fitting (length out))) work mid out out' (ends.Refused n at)
-  least-no n at q = record { answer = written-no least n at (sym q ∙ h.answer); output = h.left; long = h.long }
+  pub least-no : (n at : ℕ) → r ≡ judged.Refused n at → PartIs (and_then (least_bundle sheet) (fitting (length out))) work mid out out' (ends.Refused n at)
+  least-no n at q = record { answer = judged-no least n at (sym q ∙ h.answer); output = h.left; long = h.long }
 
-  pub least-yes : (n : ℕ) → r ≡ answers.Long n → PartIs (and_then (least_bundle sheet) (fitting (length out))) work mid out out' (ends.Done n)
-  least-yes n q = record { answer = written-yes least n (sym q ∙ h.answer); output = h.left; long = h.long }
+  pub least-yes : (n : ℕ) → r ≡ judged.Long n → PartIs (and_then (least_bundle sheet) (fitting (length out))) work mid out out' (ends.Done n)
+  least-yes n q = record { answer = judged-yes least n (sym q ∙ h.answer); output = h.left; long = h.long }

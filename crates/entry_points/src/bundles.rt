@@ -12,12 +12,13 @@ ghost use Rattle.entry_points.specs.Parts.{EndIs, PartIs, BundleIs};
 
 use crate::ending::Outcome;
 use bundle_writer::values::Copied;
+use bundle_writer::writer::Judged;
 use bundle_writer::{values, writer};
 use checker::Verdict;
 use levelling::open;
+use releasing::Written;
 use sheet::tables;
 use sheet_reader::Reading;
-use workspace::answers::Written;
 
 // The values of a bundle.
 pub fn read(
@@ -65,8 +66,8 @@ pub fn write(
             let t = tables::tasks(work);
             let l = tables::links(work);
             match writer::write(commands, claim, p, t, l, out) {
-                Written::Refused(r, at) => Outcome::Refused(r, at),
-                Written::Long(n) => Outcome::Done(n),
+                Judged::Refused(r, at) => Outcome::Refused(r, at),
+                Judged::Long(n) => Outcome::Done(n),
             }
         }
     }

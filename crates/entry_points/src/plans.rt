@@ -8,8 +8,8 @@ ghost use Rattle.least.specs.Least.{least_bundle};
 ghost use Rattle.entry_points.specs.Parts.{PartIs};
 
 use crate::ending::Outcome;
+use bundle_writer::writer::Judged;
 use listing_writer::Listed;
-use workspace::answers::Written;
 
 // The bundle of a sheet's plan.
 pub fn write(sheet: &[u8], work: &mut [u32], out: &mut [u8]) -> Outcome
@@ -17,8 +17,8 @@ pub fn write(sheet: &[u8], work: &mut [u32], out: &mut [u8]) -> Outcome
     ensures { PartIs (and_then (plan sheet.now) (fitting (length out.old))) work.old work.new out.old out.new result }
 {
     match plan_writer::whole::plan(sheet, work, out) {
-        Written::Refused(r, at) => Outcome::Refused(r, at),
-        Written::Long(n) => Outcome::Done(n),
+        Judged::Refused(r, at) => Outcome::Refused(r, at),
+        Judged::Long(n) => Outcome::Done(n),
     }
 }
 
@@ -39,7 +39,7 @@ pub fn least(sheet: &[u8], work: &mut [u32], out: &mut [u8]) -> Outcome
     ensures { PartIs (and_then (least_bundle sheet.now) (fitting (length out.old))) work.old work.new out.old out.new result }
 {
     match search::whole::least(sheet, work, out) {
-        Written::Refused(r, at) => Outcome::Refused(r, at),
-        Written::Long(n) => Outcome::Done(n),
+        Judged::Refused(r, at) => Outcome::Refused(r, at),
+        Judged::Long(n) => Outcome::Done(n),
     }
 }

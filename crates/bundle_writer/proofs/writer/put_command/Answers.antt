@@ -1,0 +1,21 @@
+-- `bundle::writer::put_command` meets its contract.
+use Rattle.bundle_writer.proofs.Puts.{put-message, put-short}
+use lib.ListN.{length-set}
+use mathlib.Core.Path.{◌∙◌, sym}
+use native.Mathlib.Omega.{arith}
+use Rattle.bundle_writer.proofs.writer.put_command.Goals as goal
+
+pub put16-requires : goal.put16-requires
+put16-requires c = simp length-set (omega arith)
+
+pub shape_of-out-then-is_message : goal.shape_of-out-then-is_message
+shape_of-out-then-is_message c = simp length-set at c.put16.auto.s
+
+pub returns-then-is_message : goal.returns-then-is_message
+returns-then-is_message c = put-message c.args.out.now _ c.args.at c.args.command c.args.operand (omega arith) (sym c.is_message.ensures ∙ c.if-is_message.true) c.put16.ensures
+
+pub bounds-out-at-2 : goal.bounds-out-at-2
+bounds-out-at-2 c = simp length-set (omega arith)
+
+pub returns : goal.returns
+returns c = put-short c.args.out.now c.args.at c.args.command c.args.operand (omega arith) (sym c.is_message.ensures ∙ c.if-is_message.false)

@@ -1,0 +1,17 @@
+-- `idle_among` (src/lib.rt) keeps its contract: its loops.
+use Prim.Native.Nat.{◌-◌, ◌≤◌}
+use mathlib.Core.Path.{◌≡◌, ◌∙◌, sym}
+use native.Mathlib.Omega.{arith}
+use Rattle.folds.specs.Folds.{greatest}
+use Rattle.folds.proofs.Loops.{greatest-at, greatest-more, greatest-zero}
+use Rattle.placing.specs.Ranks.{idle_key}
+use Rattle.placing.proofs.Steps.{idle-is}
+use Rattle.schedule.specs.Layout.{schedule_in}
+use Rattle.sheet.specs.Tables.{sheet_in}
+use Rattle.placing.proofs.idle_among.Given as goal
+
+abbrev pub invariant-loop-k : goal.invariant-loop-k
+invariant-loop-k l = (l.k ≤ l.n) × (l.best ≡ greatest l.k (idle_key (sheet_in l.w) (schedule_in l.w) l.t))
+
+abbrev pub decreases-loop-k : goal.decreases-loop-k
+decreases-loop-k l = l.n - l.k

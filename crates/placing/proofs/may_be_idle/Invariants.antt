@@ -1,0 +1,15 @@
+-- `may_be_idle` (src/lib.rt) keeps its contract: its loops.
+use Prim.Native.Nat.{ℕ, ◌-◌, ◌≤◌}
+use mathlib.Core.Path.{◌≡◌, ◌∙◌, ap, ap₂, sym}
+use native.Mathlib.Omega.{arith}
+use lib.Dec.{leb}
+use Rattle.folds.specs.Folds.{any, both, either}
+use Rattle.folds.proofs.Loops.{any-one, any-zero}
+use Rattle.placing.specs.Ranks.{may_be_idle}
+use Rattle.placing.proofs.may_be_idle.Given as goal
+
+abbrev pub invariant-loop-k : goal.invariant-loop-k
+invariant-loop-k l = (l.k ≤ l.n) × (l.found ≡ any l.k (may_be_idle l.kept l.a l.d))
+
+abbrev pub decreases-loop-k : goal.decreases-loop-k
+decreases-loop-k l = l.n - l.k

@@ -1,0 +1,39 @@
+-- `share_on` (src/lib.rt) keeps its contract.
+use Prim.Native.Nat.{◌-◌, ◌<◌, ◌≤◌}
+use mathlib.Core.Option.{none}
+use mathlib.Core.Path.{◌≡◌, ◌∙◌, sym}
+use native.Mathlib.Omega.{arith}
+use Rattle.folds.specs.Folds.{first}
+use Rattle.folds.proofs.Laws.{first_found, first-none, none_first}
+use Rattle.folds.proofs.Loops.{first-at, first-passed}
+use Rattle.planner.specs.Placing.{barred}
+use Rattle.planner.specs.Planner.{may_share}
+use Rattle.schedule.specs.Layout.{schedule_in}
+use Rattle.sheet.specs.Tables.{sheet_in}
+use Rattle.placing.proofs.share_on.Goals as goal
+
+pub loop-k-init : goal.loop-k-init
+loop-k-init c = (omega arith, none_first 0 _ (λ k l. absurd (omega arith)))
+
+pub offset_bounds-starts-k : goal.offset_bounds-starts-k
+offset_bounds-starts-k c = omega (arith, c.loop-k-test.true, c.opened-n.ensures.1)
+
+pub bounds-starts-k : goal.bounds-starts-k
+bounds-starts-k c = omega (arith, c.loop-k-test.true, c.opened-n.ensures.1)
+
+pub may_share_on-requires : goal.may_share_on-requires
+may_share_on-requires c =
+    let below : c.loop-k.k < 16 = omega (arith, c.loop-k-test.true, c.opened-n.ensures.1) in
+    record { choosing = c.requires.choosing.0; a_value = (c.requires.a_value, below); bars = (c.requires.bars, c.wide.ensures.0 ∙ c.requires.choosing.1.on c.loop-k.k below) }
+
+pub returns-then-may_share_on : goal.returns-then-may_share_on
+returns-then-may_share_on c =
+    let loop = c.loop-k in
+    let opened = c.opened-n.ensures in
+    (sym (first_found _ _ loop.k (first-none loop.k _ loop.invariant.1) (sym c.may_share_on.ensures ∙ c.if-may_share_on.true) (omega (arith, c.loop-k-test.true, opened.0))), omega (arith, c.loop-k-test.true, opened.1))
+
+pub loop-k-preserved : goal.loop-k-preserved
+loop-k-preserved c = let loop = c.loop-k in (omega (arith, c.loop-k-test.true), first-passed loop.k _ loop.invariant.1 (sym c.may_share_on.ensures ∙ c.if-may_share_on.false))
+
+pub returns : goal.returns
+returns c = (first-at _ _ _ c.loop-k.invariant.1 (omega (arith, c.loop-k.invariant.0, c.loop-k-test.false, c.opened-n.ensures.0)), tt)

@@ -1,0 +1,15 @@
+-- `some_closed` (src/lib.rt) keeps its contract: its loops.
+use Prim.Native.Nat.{ℕ, ◌-◌, ◌≤◌}
+use mathlib.Core.Path.{◌≡◌, ◌∙◌, ap, ap₂, sym}
+use native.Mathlib.Omega.{arith}
+use lib.Dec.{eqb}
+use Rattle.folds.specs.Folds.{any, either}
+use Rattle.folds.proofs.Loops.{any-one, any-zero}
+use Rattle.placing.specs.Sets.{closed_in}
+use Rattle.placing.proofs.some_closed.Given as goal
+
+abbrev pub invariant-loop-k : goal.invariant-loop-k
+invariant-loop-k l = (l.k ≤ l.n) × (l.found ≡ any l.k (closed_in l.kept))
+
+abbrev pub decreases-loop-k : goal.decreases-loop-k
+decreases-loop-k l = l.n - l.k

@@ -1,0 +1,13 @@
+-- `queue_things` (src/queueing.rt) keeps its contract: its loops.
+use Prim.Native.Nat.{◌-◌, ◌≤◌}
+use mathlib.Core.Path.{◌≡◌, sym, subst}
+use native.Mathlib.Omega.{arith}
+use Rattle.releasing.specs.Queues.{QueuesIs}
+use Rattle.releasing.proofs.Queuing.{queues-none, queues-more, queues-at}
+use Rattle.releasing.proofs.queueing.queue_things.Given as goal
+
+abbrev pub invariant-loop-x : goal.invariant-loop-x
+invariant-loop-x l = (l.a ≤ l.x) × (l.x ≤ l.e) × QueuesIs l.initial.w l.w l.x l.e
+
+abbrev pub decreases-loop-x : goal.decreases-loop-x
+decreases-loop-x l = l.x - l.a
