@@ -1,0 +1,17 @@
+-- `listing_writer::rows::needed` meets its contract: its loops.
+use native.Mathlib.Omega.{arith}
+use Prim.Native.Nat.{◌+◌, ◌-◌, ◌*◌, ◌≤◌}
+use mathlib.Core.Path.{◌≡◌}
+use lib.ListN.{length}
+use Rattle.listing.specs.Listing.{task_line}
+use Rattle.schedule.specs.Layout.{schedule_in}
+use Rattle.sheet.specs.Tables.{sheet_in}
+use Rattle.folds.specs.Folds.{gather}
+use Rattle.listing_writer.proofs.Parts.{needed-none, needed-more, needed-all}
+use Rattle.listing_writer.proofs.rows.needed.Given as goal
+
+abbrev pub invariant-loop-t : goal.invariant-loop-t
+invariant-loop-t l = (l.t ≤ l.tasks) × (l.n ≤ 47 + 84 * l.t) × (l.n ≡ l.initial.n + length (gather l.t (task_line (schedule_in l.w))))
+
+abbrev pub decreases-loop-t : goal.decreases-loop-t
+decreases-loop-t l = l.tasks - l.t

@@ -1,0 +1,17 @@
+-- `listing_writer::rows::put_tasks` meets its contract: its loops.
+use Prim.Native.Nat.{◌-◌, ◌≤◌}
+use native.Mathlib.Omega.{arith}
+use mathlib.Core.Path.{◌≡◌, refl, ◌∙◌}
+use lib.ListN.{length}
+use Rattle.listing.specs.Listing.{task_line}
+use Rattle.schedule.specs.Layout.{schedule_in}
+use Rattle.folds.specs.Folds.{gather}
+use Rattle.listing_writer.proofs.Parts.{tasks-none, tasks-more, tasks-all, tasks-room}
+use Rattle.numbers.specs.Number.{Put}
+use Rattle.listing_writer.proofs.rows.put_tasks.Given as goal
+
+abbrev pub invariant-loop-t : goal.invariant-loop-t
+invariant-loop-t l = (l.t ≤ l.n) × (length l.out ≡ length l.initial.out) × Put l.initial.out l.at (gather l.t (task_line (schedule_in l.w))) l.out l.end
+
+abbrev pub decreases-loop-t : goal.decreases-loop-t
+decreases-loop-t l = l.n - l.t

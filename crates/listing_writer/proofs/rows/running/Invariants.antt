@@ -1,0 +1,17 @@
+-- `running` (src/rows.rt) keeps its contract: its loops.
+use Prim.Native.Nat.{ℕ, ◌-◌, ◌≤◌, ◌<◌}
+use mathlib.Core.Path.{◌≡◌, ◌∙◌, sym}
+use native.Mathlib.Omega.{arith}
+use Rattle.folds.specs.Folds.{bit, sum}
+use Rattle.folds.proofs.Loops.{sum-zero}
+use Rattle.planner.specs.Placing.{is_open}
+use Rattle.schedule.specs.Layout.{schedule_in}
+use Rattle.sheet.specs.Tables.{sheet_in}
+use Rattle.listing_writer.proofs.Running.{mark-low, count-more, count-end}
+use Rattle.listing_writer.proofs.rows.running.Given as goal
+
+abbrev pub invariant-loop-k : goal.invariant-loop-k
+invariant-loop-k l = (l.k ≤ l.n) × (l.found ≤ l.k) × (l.found ≡ sum l.k (λ j. bit (is_open (sheet_in l.w) (schedule_in l.w) j)))
+
+abbrev pub decreases-loop-k : goal.decreases-loop-k
+decreases-loop-k l = l.n - l.k

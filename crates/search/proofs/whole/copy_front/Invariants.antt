@@ -1,0 +1,14 @@
+-- `copy_front` (src/whole.rt) keeps its contract: its loops.
+use native.Mathlib.Omega.{arith}
+use Prim.Native.Nat.{◌-◌, ◌≤◌}
+use mathlib.Core.Path.{◌≡◌, refl, ap, ◌∙◌}
+use lib.ListN.{length, take, length-set}
+use Rattle.numbers.specs.Number.{stored}
+use Rattle.search.proofs.Ends.{copied_none, copied_more}
+use Rattle.search.proofs.whole.copy_front.Given as goal
+
+abbrev pub invariant-loop-i : goal.invariant-loop-i
+invariant-loop-i l = (l.i ≤ l.n) × (length l.out ≡ length l.initial.out) × (l.out ≡ stored l.initial.out 0 (take l.i l.from))
+
+abbrev pub decreases-loop-i : goal.decreases-loop-i
+decreases-loop-i l = l.n - l.i

@@ -1,0 +1,6 @@
+-- `put_pair` (src/writing.rt) keeps its contract.
+use Rattle.search.proofs.Fronts.{pair-done}
+use Rattle.search.proofs.writing.put_pair.Goals as goal
+
+pub returns : goal.returns
+returns c = pair-done c.put_byte-a.ensures c.put_byte.ensures
