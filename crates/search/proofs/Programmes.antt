@@ -11,7 +11,8 @@ use Rattle.numbers.specs.Number.{number_bytes}
 use Rattle.admission.specs.declared.view.View.{View}
 use Rattle.least.specs.Written.{among, brings_in, takes_in, receive_in, send_in, block_in, blocks_in, programme_in, programmes_in}
 use Rattle.least.specs.Least.{most}
-use Rattle.least.proofs.Normal.{gather_cong, programmes_in-append}
+use Rattle.folds.proofs.Lists.{gather_cong}
+use Rattle.least.proofs.Normal.{programmes_in-append}
 use Rattle.least.proofs.Arranging.{length-in}
 use Rattle.least.proofs.Heads.{programmes_bytes-append}
 use Rattle.search.specs.Codes.{arranged, tasks_of, opens_of, Coded, order_of, front_of, LastIs}

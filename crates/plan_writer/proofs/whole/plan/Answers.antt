@@ -19,7 +19,7 @@ write-requires c =
     let h = c.read.ensures in
     let e = c.in-Read.is in
     let planned = c.schedule in
-    plan-scheduled c.args.sheet.now h e planned.ensures.1 (ap (λ (x : Planned). answer_of x (schedule_in planned.new.0)) (sym c.in-Done.is) ∙ planned.ensures.0)
+    plan-scheduled c.args.sheet.now h e planned.ensures.1 (ap (λ (x : Planned). answer_of x (schedule_in planned.new.w)) (sym c.in-Done.is) ∙ planned.ensures.0)
 
 pub returns-in-Refused : goal.returns-in-Refused
 returns-in-Refused c = plan-refused c.args.sheet.now c.read.ensures c.args.out.now _ _ c.in-Refused.is
@@ -29,11 +29,11 @@ returns-in-Refused-schedule c =
     let h = c.read.ensures in
     let e = c.in-Read.is in
     let planned = c.schedule in
-    plan-none c.args.sheet.now h e planned.ensures.1 c.args.out.now _ (ap (λ (x : Planned). answer_of x (schedule_in planned.new.0)) (sym c.in-Refused-schedule.is) ∙ planned.ensures.0)
+    plan-none c.args.sheet.now h e planned.ensures.1 c.args.out.now _ (ap (λ (x : Planned). answer_of x (schedule_in planned.new.w)) (sym c.in-Refused-schedule.is) ∙ planned.ensures.0)
 
 pub returns-in-Done : goal.returns-in-Done
 returns-in-Done c =
     let h = c.read.ensures in
     let e = c.in-Read.is in
     let planned = c.schedule in
-    plan-done c.args.sheet.now h e planned.ensures.1 (ap (λ (x : Planned). answer_of x (schedule_in planned.new.0)) (sym c.in-Done.is) ∙ planned.ensures.0) c.args.out.now _ c.write.ensures
+    plan-done c.args.sheet.now h e planned.ensures.1 (ap (λ (x : Planned). answer_of x (schedule_in planned.new.w)) (sym c.in-Done.is) ∙ planned.ensures.0) c.args.out.now _ c.write.ensures

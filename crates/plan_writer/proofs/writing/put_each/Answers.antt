@@ -34,7 +34,7 @@ loop-k-preserved c =
     let opened = c.opened-p.ensures.0 in
     let below = c.loop-k-test.true in
     let room = filled-room _ _ _ in-loop.2 (schedule_in c.args.w.now).opened (omega (arith, below, opened)) (omega (arith, c.requires.w_in_bounds)) in
-    let more = filled-lent _ _ _ in-loop.2 in-loop.1 put.ensures put.auto.1.1.0 in
+    let more = filled-lent _ _ _ in-loop.2 in-loop.1 put.ensures put.auto.out in
     (omega arith, omega (arith, put.ensures.next, room, more.long, in-loop.2.long), more)
 
 pub shape_of-out : goal.shape_of-out

@@ -1,0 +1,29 @@
+-- The functions branch, joining, opening, walk (src/walk.rt), which call each other, keep their contracts: fewer tasks are left at each call of `walk`.
+use lib.ListN.{length}
+use mathlib.Core.Path.{◌≡◌, refl}
+use Rattle.search.proofs.Folds.{ready_on, leaf-coded}
+use Prim.Native.Nat.{ℕ, ◌+◌, ◌-◌, ◌*◌, ◌<◌, ◌≤◌}
+use native.Mathlib.Omega.{arith}
+use borrow.Author.Tests.{not-true, not-false}
+use mathlib.Core.Path.{refl}
+use Rattle.search.proofs.Folds.{leaf-done, Turned, none-turned, more-turned, all-turned, used-done, free-done, opening-skip, opening-done, joining-none, joining-skip, joining-done, late-done}
+use Prim.Native.Nat.{ℕ, ◌<◌}
+use Rattle.search.proofs.walk.+branch_joining_opening_walk.Given as goal
+
+abbrev pub decreases-branch : goal.decreases-branch
+decreases-branch l = 3 * l.left + 2
+
+abbrev pub decreases-joining : goal.decreases-joining
+decreases-joining l = 3 * l.left + 1
+
+abbrev pub decreases-opening : goal.decreases-opening
+decreases-opening l = 3 * l.left + 1
+
+abbrev pub decreases-walk : goal.decreases-walk
+decreases-walk l = 3 * l.left
+
+abbrev pub invariant-walk-loop-t : goal.invariant-walk-loop-t
+invariant-walk-loop-t l = (l.t ≤ l.v.tasks) × Turned l.sheet l.v l.b l.initial.k l.left l.t l.k × (length l.w ≡ length l.initial.w) × (length l.buf ≡ length l.initial.buf) × (length l.other ≡ length l.initial.other)
+
+abbrev pub decreases-walk-loop-t : goal.decreases-walk-loop-t
+decreases-walk-loop-t l = l.v.tasks - l.t
