@@ -14,5 +14,5 @@ abbrev pub sheet_end : List ℕ → ℕ → ℕ
 sheet_end b at = name_end b at + 2 + number_at 2 b (name_end b at)
 
 -- the record at `at`: cut where the sheet's length or the sheet is missing
-unfoldable pub record_at : List ℕ → ℕ → Record
+abbrev pub record_at : List ℕ → ℕ → Record
 record_at b at = pick (ltb (length b) (name_end b at + 2)) Cut (pick (ltb (length b) (sheet_end b at)) Cut (Whole (name_end b at) (sheet_end b at)))

@@ -1,11 +1,14 @@
 // Lists the sheets of the trials on standard input, each behind its name. The input is a record for each trial: the name's length (u8), the
-// name, the sheet's length (u16, lowest byte first), the sheet. A record that is cut ends the run, as one is where a read fails.
+// name, the sheet's length (u16, lowest byte first), the sheet. A record that is cut ends the run. Where a read fails, nothing is listed; a read or a
+// write that fails is the error that `main` returns.
 #![tactic(auto)]
 
-ghost use Rattle.std.specs.Prelude.{◌≡◌, ◌<◌, length};
+ghost use Rattle.std.specs.Prelude.{◌≡◌, ◌≤◌, ◌<◌, length, take, IfOk};
+ghost use Rattle.std.specs.Io.KnownBytes.{Consumes, IsAtEnd};
 ghost use Rattle.trials.specs.Records.{record_at};
 
-use libc::{STDIN_FILENO, STDOUT_FILENO};
+use std::io;
+use std::io::Read;
 
 // A record of the input, by the ends of its name and of its sheet.
 #[derive(Clone, Copy)]
@@ -36,50 +39,68 @@ fn record_at(input: &[u8], at: usize) -> Record
     Record::Whole(name_end, sheet_end)
 }
 
-// Prints these bytes.
-fn print(bytes: &[u8]) {
-    if !io::write_all(STDOUT_FILENO, bytes) {
-        os::fail(b"standard output");
+// Reads until the input ends or the buffer is full, however many pieces it comes in, and answers how many bytes that were: the first that the
+// input had, and all of them where the buffer is not full.
+fn read_full<R: Read>(input: &mut R, buf: &mut [u8]) -> io::Result<usize>
+    ensures within { IfOk result (λ n. n ≤ length buf.new) }
+    ensures bytes { IfOk result (λ n. Consumes (R.remaining input.old) (R.remaining input.new) (take n buf.new)) }
+    ensures end { IfOk result (λ n. n < length buf.new → IsAtEnd (R.remaining input.new)) }
+{
+    let mut at: usize = 0;
+    while at < buf.len() {
+        let n = input.read(&mut buf[at..])?;
+        if n == 0 {
+            return Ok(at);
+        }
+        at += n;
     }
+    Ok(at)
 }
 
 // Prints the listing of these bytes.
-fn print_listing(sheet: &[u8]) {
+fn print_listing(rt: &impl Print, sheet: &[u8]) -> io::Result<()> {
     let mut out = [0u8; 21551];
     let n = console::put_listing(sheet, &mut out);
-    print(&out[..n]);
+    rt.write_all(&out[..n])
 }
 
 // Prints the name and the listing of the record at `at`.
-fn print_record(input: &[u8], at: usize, name_end: usize, sheet_end: usize)
+fn print_record(
+    rt: &impl Print,
+    input: &[u8],
+    at: usize,
+    name_end: usize,
+    sheet_end: usize,
+) -> io::Result<()>
     requires { record_at input.now at ≡ Record.Whole name_end sheet_end }
 {
     let name = at + 1;
     let sheet = name_end + 2;
-    print(&input[name..name_end]);
-    print(b"\n");
-    print_listing(&input[sheet..sheet_end]);
+    rt.write_all(&input[name..name_end])?;
+    rt.write_all(b"\n")?;
+    print_listing(rt, &input[sheet..sheet_end])
 }
 
 // Prints each record of the input, up to one that is cut.
-fn print_records(input: &[u8]) {
+fn print_records(rt: &impl Print, input: &[u8]) -> io::Result<()> {
     let mut at: usize = 0;
     while at < input.len() {
         match record_at(input, at) {
             Record::Cut => {
-                return;
+                return Ok(());
             }
             Record::Whole(name_end, sheet_end) => {
-                print_record(input, at, name_end, sheet_end);
+                print_record(rt, input, at, name_end, sheet_end)?;
                 at = sheet_end;
             }
         }
     }
+    Ok(())
 }
 
 // The trials take about 4 KB. Of an input longer than 16 KB, the records that are whole in its first 16,384 bytes are printed.
-fn main() {
+fn main(rt: HostRuntime) -> io::Result<()> {
     let mut input = [0u8; 16384];
-    let n = io::read_full(STDIN_FILENO, &mut input);
-    print_records(&input[..n]);
+    let n = read_full(&mut rt.stdin(), &mut input)?;
+    print_records(&rt, &input[..n])
 }

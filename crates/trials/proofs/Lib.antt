@@ -1,2 +1,0 @@
--- The laws of `trials`.
-pub mod Records

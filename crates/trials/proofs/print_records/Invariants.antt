@@ -1,0 +1,9 @@
+-- The next record begins within the input, or at its end.
+use Rattle.std.proofs.Common.{length, ◌-◌, ◌≤◌}
+use Rattle.trials.proofs.print_records.Given as goal
+
+abbrev pub invariant-loop-at : goal.invariant-loop-at
+invariant-loop-at g l = l.at ≤ length l.input
+
+abbrev pub decreases-loop-at : goal.decreases-loop-at
+decreases-loop-at g l = length l.input - l.at
