@@ -7,9 +7,7 @@ use native.Mathlib.Omega.{arith}
 use Rattle.entry_points.proofs.sheets.read.Goals as goal
 
 pub tasks-n-requires : goal.tasks-n-requires
-tasks-n-requires c =
-    let all = open-loaded c.read.ensures c.in-Read.is in
-    record { loaded = all.0; w_in_bounds = all.1 }
+tasks-n-requires c = open-loaded c.read.ensures c.in-Read.is
 
 pub shape_of-work-then-tasks-n : goal.shape_of-work-then-tasks-n
 shape_of-work-then-tasks-n c = c.read.ensures.long
@@ -18,9 +16,7 @@ pub returns-then-tasks-n : goal.returns-then-tasks-n
 returns-then-tasks-n c = tasks-short c.args.tasks.now c.args.links.now c.args.board.now c.read.ensures c.in-Read.is _ (ap (λ (k : ℕ). 2 * k) c.tasks-n.ensures.0) c.if-tasks-n.true
 
 pub links-m-requires : goal.links-m-requires
-links-m-requires c =
-    let all = open-loaded c.read.ensures c.in-Read.is in
-    record { loaded = all.0; w_in_bounds = all.1 }
+links-m-requires c = open-loaded c.read.ensures c.in-Read.is
 
 pub shape_of-work-then-links-m : goal.shape_of-work-then-links-m
 shape_of-work-then-links-m c = c.read.ensures.long
