@@ -1,5 +1,5 @@
 -- `copy_levels` (src/sheets.rt) keeps its contract.
-use Prim.Native.Nat.{◌+◌, ◌-◌, ◌≤◌, ℕ}
+use Prim.Native.Nat.{◌+◌, ◌-◌, ℕ}
 use Rattle.workspace.specs.Area.{levels_at}
 use Rattle.folds.specs.Folds.{listed}
 use Rattle.graph.specs.Graph.{level}
@@ -8,7 +8,7 @@ use Rattle.sheet.specs.Sheet.{task_count}
 use Rattle.sheet.specs.Tables.{sheet_in}
 use Rattle.entry_points.proofs.Opening.{level-next, level-none}
 use Rattle.entry_points.specs.Values.{levels_of}
-use lib.ListN.{get_or, length, length-set}
+use lib.ListN.{get_or, length-set}
 use mathlib.Core.Path.{◌∙◌, ◌≡◌, ap, refl}
 use native.Mathlib.Omega.{arith}
 use Rattle.entry_points.proofs.sheets.copy_levels.Goals as goal

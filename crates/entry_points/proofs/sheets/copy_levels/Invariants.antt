@@ -1,16 +1,11 @@
 -- `copy_levels` (src/sheets.rt) keeps its contract: its loops.
-use Prim.Native.Nat.{◌+◌, ◌-◌, ◌≤◌, ℕ}
-use Rattle.workspace.specs.Area.{levels_at}
+use Prim.Native.Nat.{◌-◌, ◌≤◌}
 use Rattle.folds.specs.Folds.{listed}
 use Rattle.graph.specs.Graph.{level}
 use Rattle.numbers.specs.Number.{stored}
-use Rattle.sheet.specs.Sheet.{task_count}
 use Rattle.sheet.specs.Tables.{sheet_in}
-use Rattle.entry_points.proofs.Opening.{level-next, level-none}
-use Rattle.entry_points.specs.Values.{levels_of}
-use lib.ListN.{get_or, length, length-set}
-use mathlib.Core.Path.{◌∙◌, ◌≡◌, ap, refl}
-use native.Mathlib.Omega.{arith}
+use lib.ListN.{length}
+use mathlib.Core.Path.{◌≡◌}
 use Rattle.entry_points.proofs.sheets.copy_levels.Given as goal
 
 abbrev pub invariant-loop-t : goal.invariant-loop-t
