@@ -119,7 +119,8 @@ def with_lemmas(path, text):
 
 
 def in_ticks(text, rows):
-    return re.sub(r"`[^`\n]*`", lambda m: respelled(m[0], rows), text)
+    """What stands between ticks, but for the names of files of the examples."""
+    return re.sub(r"`[^`\n]*`", lambda m: m[0] if re.search(r"\.(sheet|bundle|txt)`", m[0]) else respelled(m[0], rows), text)
 
 
 def clashes(rows, fields, items):

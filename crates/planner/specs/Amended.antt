@@ -13,7 +13,7 @@ module _ (s : Sheet) (guard : Schedule → ℕ → ℕ → Bool) where
   unfoldable pub uses_three : Schedule → ℕ → Bool
   uses_three σ t = both (not (is_some (join s guard σ t))) (both (not (is_some (idle s guard σ t))) (is_some (another s guard σ t)))
 
-  -- step 3 opens a processor, "while such a processor existed": one that step 4 may share
+  -- .. "while such a processor existed"
   unfoldable pub opens_in_vain : Schedule → ℕ → Bool
   opens_in_vain σ t = both (uses_three σ t) (is_some (first σ.opened (may_share s guard σ t)))
 
