@@ -19,10 +19,10 @@ use Rattle.least.specs.Written.{among, brings_in, takes_in, receive_in, send_in,
 use Rattle.least.specs.Ranking.{order, choice}
 use Rattle.least.specs.Least.{opens, joins, among_all, extended, completions, candidates, bundle_in, is_value, consider, best_from, best, least_time}
 
-abbrev pub task : ℕ → ℕ → Task
+abbrev task : ℕ → ℕ → Task
 task w s = record { work = w; store = s }
 
-abbrev pub link : ℕ → ℕ → ℕ → ℕ → Link
+abbrev link : ℕ → ℕ → ℕ → ℕ → Link
 link a b c d = record { source = a; target = b; cost = c; bytes = d }
 
 abbrev board_of : ℕ → ℕ → ℕ → Bool → List Task → List Link → Sheet

@@ -76,12 +76,7 @@ pub fn zeldrupa_generate(
 }
 
 // The level of each task of a sheet.
-pub fn zeldrupa_levels(
-    sheet: &[u8],
-    work: &mut [u32],
-    out: &mut [u32],
-    place: &mut u64,
-) -> u8
+pub fn zeldrupa_levels(sheet: &[u8], work: &mut [u32], out: &mut [u32], place: &mut u64) -> u8
     ensures { Gives (levels_answer sheet.now (length work.old) (length out.old)) work.old work.new out.old out.new place.new result }
 {
     if work.len() < workspace::LENGTH {
@@ -134,12 +129,7 @@ pub fn zeldrupa_write_bundle(
 }
 
 // Checks a bundle for a sheet.
-pub fn zeldrupa_check(
-    sheet: &[u8],
-    bundle: &[u8],
-    work: &mut [u32],
-    place: &mut u64,
-) -> u8
+pub fn zeldrupa_check(sheet: &[u8], bundle: &[u8], work: &mut [u32], place: &mut u64) -> u8
     ensures { GivesCheck sheet.now bundle.now work.old work.new place.new result }
 {
     if work.len() < workspace::LENGTH {
@@ -207,12 +197,7 @@ pub fn zeldrupa_better<'a>(
 }
 
 // Plans a sheet: the bytes of the bundle.
-pub fn zeldrupa_plan(
-    sheet: &[u8],
-    work: &mut [u32],
-    out: &mut [u8],
-    place: &mut u64,
-) -> u8
+pub fn zeldrupa_plan(sheet: &[u8], work: &mut [u32], out: &mut [u8], place: &mut u64) -> u8
     ensures { GivesPlan sheet.now work.old work.new out.old out.new place.new result }
 {
     if work.len() < workspace::LENGTH {
@@ -225,12 +210,7 @@ pub fn zeldrupa_plan(
 }
 
 // The bytes of the bundle of the least time, for a sheet of at most six tasks that is no cube.
-pub fn zeldrupa_least(
-    sheet: &[u8],
-    work: &mut [u32],
-    out: &mut [u8],
-    place: &mut u64,
-) -> u8
+pub fn zeldrupa_least(sheet: &[u8], work: &mut [u32], out: &mut [u8], place: &mut u64) -> u8
     ensures { GivesLeast sheet.now work.old work.new out.old out.new place.new result }
 {
     if work.len() < workspace::LENGTH {
@@ -243,12 +223,7 @@ pub fn zeldrupa_least(
 }
 
 // The listing of a sheet's plan, or of its refusal.
-pub fn zeldrupa_listing(
-    sheet: &[u8],
-    work: &mut [u32],
-    out: &mut [u8],
-    place: &mut u64,
-) -> u8
+pub fn zeldrupa_listing(sheet: &[u8], work: &mut [u32], out: &mut [u8], place: &mut u64) -> u8
     ensures { GivesListing sheet.now work.old work.new out.old out.new place.new result }
 {
     if work.len() < workspace::LENGTH {

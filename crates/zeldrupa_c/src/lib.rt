@@ -35,7 +35,9 @@ pub extern "C" fn zeldrupa_write_sheet(
 ) -> u8
     ensures { Gives (write_sheet_answer processors limit unpacking cube tasks.now links.now (length work.old) (length out.old)) work.old work.new out.old out.new place.new result }
 {
-    zeldrupa::zeldrupa_write_sheet(processors, limit, unpacking, cube, tasks, links, work, out, place)
+    zeldrupa::zeldrupa_write_sheet(
+        processors, limit, unpacking, cube, tasks, links, work, out, place,
+    )
 }
 
 // Writes the sheet that a seed gives, with so many tasks and tries for links.

@@ -1,9 +1,8 @@
 -- `chain_all` (src/lib.rt) keeps its contract.
-use Rattle.adjacency.specs.Chains.{ChainedFrom, Rechained}
-use Prim.Native.Nat.{◌≤◌, ℕ}
+use Rattle.adjacency.specs.Chains.{ChainedFrom}
+use Prim.Native.Nat.{ℕ}
 use native.Mathlib.Omega.{arith}
 use Rattle.adjacency.proofs.Building.{chain-whole, chains-more, chains-still, rechained-none}
-use Rattle.sheet.specs.Sheet.{link_count}
 use Rattle.adjacency.proofs.Frames.{only-loaded, only-sheet}
 use Rattle.sheet.specs.Tables.{sheet_in}
 use mathlib.Core.Path.{subst, sym}

@@ -1,12 +1,8 @@
 -- `chain_all` (src/lib.rt) keeps its contract: its loops.
 use Rattle.adjacency.specs.Chains.{ChainedFrom, Rechained}
-use Prim.Native.Nat.{◌≤◌, ℕ}
-use native.Mathlib.Omega.{arith}
-use Rattle.adjacency.proofs.Building.{chain-whole, chains-more, chains-still, rechained-none}
+use Prim.Native.Nat.{◌≤◌}
 use Rattle.sheet.specs.Sheet.{link_count}
-use Rattle.adjacency.proofs.Frames.{only-loaded, only-sheet}
 use Rattle.sheet.specs.Tables.{sheet_in}
-use mathlib.Core.Path.{subst, sym}
 use Rattle.adjacency.proofs.chain_all.Given as goal
 
 abbrev pub invariant-loop-l : goal.invariant-loop-l

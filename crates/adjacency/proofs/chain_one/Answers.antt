@@ -45,7 +45,7 @@ bounds-w-t c = simp length-set (omega (arith, task-index c.args.w.now c.end_of-t
 
 pub returns : goal.returns
 returns c =
-        let e = c.end_of-t.ensures in
+    let e = c.end_of-t.ensures in
     let u = c.with_half.ensures in
     let v = c.with_half-2.ensures in
     chained-by _ _ c.requires.loaded.long (ranged c.args.w.now c.requires.loaded) c.requires.l_bound e.0 e.1 c.requires.chained_from c.word-x.ensures.0

@@ -14,5 +14,5 @@ word-requires c = omega (arith, task-index c.args.w.now c.args.t c.requires.load
 pub returns : goal.returns
 unfolding head_of
 returns c =
-        let q = c.half.ensures ∙ ap (half c.args.e) c.word.ensures.0 in
+    let q = c.half.ensures ∙ ap (half c.args.e) c.word.ensures.0 in
     (q, rw q (c.requires.chained.head_few c.args.t c.requires.t_bound))

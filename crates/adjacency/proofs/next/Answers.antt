@@ -14,5 +14,5 @@ word-requires c = omega (arith, link-index c.args.w.now c.args.l c.requires.load
 pub returns : goal.returns
 unfolding next_of
 returns c =
-        let q = c.half.ensures ∙ ap (half c.args.e) c.word.ensures.0 in
+    let q = c.half.ensures ∙ ap (half c.args.e) c.word.ensures.0 in
     (q, rw q (c.requires.chained.next_few c.args.l c.requires.l_bound), rw q (c.requires.chained.next_more c.args.l c.requires.l_bound))

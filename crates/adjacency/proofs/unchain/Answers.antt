@@ -1,11 +1,11 @@
 -- `unchain` (src/lib.rt) keeps its contract.
 use mathlib.Core.Path.{◌∙◌, ap}
 use native.Mathlib.Omega.{arith}
-use Prim.Native.Nat.{◌+◌, ◌-◌, ◌<◌, ◌≤◌}
+use Prim.Native.Nat.{◌+◌, ◌-◌, ◌<◌}
 use lib.ListN.{length}
 use Rattle.workspace.specs.Area.{heads_at}
-use Rattle.adjacency.specs.Chains.{rest, Rechained}
-use Rattle.adjacency.proofs.Building.{Headed, chain-none, headed-more, headed-none, rechained-none, rechained-set}
+use Rattle.adjacency.specs.Chains.{rest}
+use Rattle.adjacency.proofs.Building.{chain-none, headed-more, headed-none, rechained-none, rechained-set}
 use Rattle.adjacency.proofs.unchain.Goals as goal
 
 pub loop-t-init : goal.loop-t-init
@@ -25,7 +25,7 @@ bounds-w-t c = omega (arith, c.loop-t.invariant.1.only.long, c.requires.long, c.
 
 pub loop-t-preserved : goal.loop-t-preserved
 loop-t-preserved c =
-        let n = c.tasks-n.ensures in
+    let n = c.tasks-n.ensures in
     let v = c.loop-t.invariant in
     let h = c.with_half.ensures in
     let l : heads_at + c.loop-t.t < length c.loop-t.w = omega (arith, v.1.only.long, c.requires.long, n) in (

@@ -1,11 +1,7 @@
 -- `unchain` (src/lib.rt) keeps its contract: its loops.
-use mathlib.Core.Path.{◌∙◌, ap}
-use native.Mathlib.Omega.{arith}
-use Prim.Native.Nat.{◌+◌, ◌-◌, ◌<◌, ◌≤◌}
-use lib.ListN.{length}
-use Rattle.workspace.specs.Area.{heads_at}
-use Rattle.adjacency.specs.Chains.{rest, Rechained}
-use Rattle.adjacency.proofs.Building.{Headed, chain-none, headed-more, headed-none, rechained-none, rechained-set}
+use Prim.Native.Nat.{◌-◌, ◌≤◌}
+use Rattle.adjacency.specs.Chains.{Rechained}
+use Rattle.adjacency.proofs.Building.{Headed}
 use Rattle.adjacency.proofs.unchain.Given as goal
 
 abbrev pub invariant-loop-t : goal.invariant-loop-t

@@ -1,10 +1,8 @@
 -- `begun` (src/lib.rt) keeps its contract.
-use Prim.Native.Nat.{◌+◌, ◌-◌}
+use Prim.Native.Nat.{◌-◌}
 use mathlib.Core.Path.{refl}
 use native.Mathlib.Omega.{arith}
-use lib.ListN.{get_or}
-use Rattle.arrivals.proofs.Stepping.{Halfway, halfway-none, halfway-more, halfway-end}
-use Rattle.arrivals.specs.Layout.{ends_from}
+use Rattle.arrivals.proofs.Stepping.{halfway-none, halfway-more, halfway-end}
 use borrow.Author.Rules.{rules}
 use Rattle.arrivals.proofs.begun.Goals as goal
 

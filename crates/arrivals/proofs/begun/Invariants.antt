@@ -1,9 +1,7 @@
 -- `begun` (src/lib.rt) keeps its contract: its loops.
 use Prim.Native.Nat.{◌+◌, ◌-◌}
-use mathlib.Core.Path.{refl}
-use native.Mathlib.Omega.{arith}
 use lib.ListN.{get_or}
-use Rattle.arrivals.proofs.Stepping.{Halfway, halfway-none, halfway-more, halfway-end}
+use Rattle.arrivals.proofs.Stepping.{Halfway}
 use Rattle.arrivals.specs.Layout.{ends_from}
 use Rattle.arrivals.proofs.begun.Given as goal
 

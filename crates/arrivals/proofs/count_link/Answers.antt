@@ -54,7 +54,9 @@ write_link-requires c =
     let small : Small c.reached-reach.result =
     subst Small (sym c.reached-reach.ensures) (further-small _ a.k _ before (omega (arith, c.requires.k_bound.0)) (omega (arith, c.cost-c.ensures.1, c.requires.k_bound.1))) in
     let number = ap₂ ◌+◌ c.word-number.ensures.0 c.one_of.ensures in
-    record { kept_length_in_bounds = c.requires.loaded.1; v_bound = (
+    record {
+      kept_length_in_bounds = c.requires.loaded.1;
+      v_bound = (
         task-index w v.result c.requires.loaded.0 v.ensures.1,
         c.requires.k_bound.0,
         omega (arith, few.seen, c.word-seen.ensures.0),
@@ -62,13 +64,14 @@ write_link-requires c =
         small.most,
         omega (arith, few.pending, c.word-pending.ensures.0),
         number_small (sheet_in w) (schedule_in w) a.kept.now a.t a.l a.k a.f c.requires.k_bound.0 c.requires.k_bound.2 (range.target a.l c.requires.k_bound.2) c.requires.k_bound.3 c.requires.single.1 c.requires.counted v.result v.ensures.0 range c.requires.single.0 number,
-      ) }
+      );
+    }
 
 pub returns : goal.returns
 returns c =
     let a = c.args in
     let w = a.w.now in
-        let y = ap (λ (x : ℕ). a.f + x) c.cost-c.ensures.0 in
+    let y = ap (λ (x : ℕ). a.f + x) c.cost-c.ensures.0 in
     let seen = ap (λ (x : ℕ). x + 1) c.word-seen.ensures.0 in
     let pending = ap (λ (x : ℕ). x + 1) c.word-pending.ensures.0 in
     let number = ap₂ ◌+◌ c.word-number.ensures.0 c.one_of.ensures in

@@ -1,10 +1,8 @@
 -- `fresh_start` (src/lib.rt) keeps its contract.
 use Prim.Native.Nat.{◌-◌}
 use native.Mathlib.Omega.{arith}
-use Rattle.sheet.specs.Tables.{sheet_in}
 use Rattle.sheet.proofs.Rows.{ranged}
-use Rattle.schedule.specs.Layout.{schedule_in}
-use Rattle.arrivals.proofs.Unpacking.{Receiving, receive-begins, receive-more, receive-small, receive-done}
+use Rattle.arrivals.proofs.Unpacking.{receive-begins, receive-more, receive-small, receive-done}
 use Rattle.arrivals.proofs.fresh_start.Goals as goal
 
 pub loop-l-init : goal.loop-l-init

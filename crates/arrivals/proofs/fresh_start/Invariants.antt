@@ -1,10 +1,8 @@
 -- `fresh_start` (src/lib.rt) keeps its contract: its loops.
 use Prim.Native.Nat.{◌-◌}
-use native.Mathlib.Omega.{arith}
 use Rattle.sheet.specs.Tables.{sheet_in}
-use Rattle.sheet.proofs.Rows.{ranged}
 use Rattle.schedule.specs.Layout.{schedule_in}
-use Rattle.arrivals.proofs.Unpacking.{Receiving, receive-begins, receive-more, receive-small, receive-done}
+use Rattle.arrivals.proofs.Unpacking.{Receiving}
 use Rattle.arrivals.proofs.fresh_start.Given as goal
 
 abbrev pub invariant-loop-l : goal.invariant-loop-l

@@ -1,11 +1,7 @@
 -- `gather` (src/lib.rt) keeps its contract.
-use Prim.Native.Nat.{◌-◌, ◌≤◌}
+use Prim.Native.Nat.{◌-◌}
 use native.Mathlib.Omega.{arith}
-use Rattle.sheet.specs.Tables.{sheet_in}
-use Rattle.adjacency.specs.Frames.{Only}
 use Rattle.adjacency.proofs.Frames.{only_none, only-trans}
-use Rattle.arrivals.specs.Layout.{seen_from}
-use Rattle.arrivals.specs.Steps.{GatheredTo}
 use Rattle.arrivals.proofs.Gathering.{gathers-at}
 use Rattle.arrivals.proofs.gather.Goals as goal
 

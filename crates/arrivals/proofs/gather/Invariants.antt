@@ -1,12 +1,9 @@
 -- `gather` (src/lib.rt) keeps its contract: its loops.
 use Prim.Native.Nat.{◌-◌, ◌≤◌}
-use native.Mathlib.Omega.{arith}
 use Rattle.sheet.specs.Tables.{sheet_in}
 use Rattle.adjacency.specs.Frames.{Only}
-use Rattle.adjacency.proofs.Frames.{only_none, only-trans}
 use Rattle.arrivals.specs.Layout.{seen_from}
 use Rattle.arrivals.specs.Steps.{GatheredTo}
-use Rattle.arrivals.proofs.Gathering.{gathers-at}
 use Rattle.arrivals.proofs.gather.Given as goal
 
 abbrev pub invariant-loop-l : goal.invariant-loop-l

@@ -1,9 +1,8 @@
 -- `hops_from` (src/lib.rt) keeps its contract.
 use Prim.Native.Nat.{◌-◌}
-use mathlib.Core.Path.{◌∙◌}
 use native.Mathlib.Omega.{arith}
 use Rattle.sheet.specs.Hops.{hops}
-use Rattle.arrivals.proofs.Stepping.{Halfway, halfway-none, halfway-more, row-end}
+use Rattle.arrivals.proofs.Stepping.{halfway-none, halfway-more, row-end}
 use borrow.Author.Rules.{rules}
 use Rattle.arrivals.proofs.hops_from.Goals as goal
 

@@ -1,9 +1,7 @@
 -- `hops_from` (src/lib.rt) keeps its contract: its loops.
 use Prim.Native.Nat.{◌-◌}
-use mathlib.Core.Path.{◌∙◌}
-use native.Mathlib.Omega.{arith}
 use Rattle.sheet.specs.Hops.{hops}
-use Rattle.arrivals.proofs.Stepping.{Halfway, halfway-none, halfway-more, row-end}
+use Rattle.arrivals.proofs.Stepping.{Halfway}
 use Rattle.arrivals.proofs.hops_from.Given as goal
 
 abbrev pub invariant-loop-k : goal.invariant-loop-k

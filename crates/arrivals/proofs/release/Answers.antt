@@ -1,7 +1,6 @@
 -- `release` (src/lib.rt) keeps its contract.
-use Prim.Native.Nat.{◌-◌, ◌≤◌}
+use Prim.Native.Nat.{◌-◌}
 use native.Mathlib.Omega.{arith}
-use Rattle.arrivals.specs.Steps.{Released}
 use Rattle.arrivals.proofs.Settling.{released-at, released-more, released-none, released-sub}
 use Rattle.arrivals.proofs.release.Goals as goal
 

@@ -1,8 +1,6 @@
 -- `release` (src/lib.rt) keeps its contract: its loops.
 use Prim.Native.Nat.{◌-◌, ◌≤◌}
-use native.Mathlib.Omega.{arith}
 use Rattle.arrivals.specs.Steps.{Released}
-use Rattle.arrivals.proofs.Settling.{released-at, released-more, released-none, released-sub}
 use Rattle.arrivals.proofs.release.Given as goal
 
 abbrev pub invariant-loop-j : goal.invariant-loop-j

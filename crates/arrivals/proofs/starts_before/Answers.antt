@@ -1,10 +1,8 @@
 -- `starts_before` (src/lib.rt) keeps its contract.
 use Prim.Native.Nat.{◌-◌}
 use native.Mathlib.Omega.{arith}
-use Rattle.sheet.specs.Tables.{sheet_in}
 use Rattle.sheet.proofs.Rows.{task-index}
-use Rattle.schedule.specs.Layout.{schedule_in}
-use Rattle.arrivals.proofs.Reaching.{Waiting, wait-begins, wait-done, wait-late, wait-more, wait-there}
+use Rattle.arrivals.proofs.Reaching.{wait-begins, wait-done, wait-late, wait-more, wait-there}
 use Rattle.arrivals.proofs.starts_before.Goals as goal
 
 pub word-n-requires : goal.word-n-requires

@@ -4,7 +4,7 @@ use mathlib.Core.Path.{◌∙◌, ap}
 use native.Mathlib.Omega.{arith}
 use lib.ListN.{get_or}
 use Rattle.arrivals.specs.Lanes.{start_unpacked, start_hopped}
-use Rattle.arrivals.proofs.Stepping.{Halfway, halfway-none, halfway-more, halfway-end, halfway-soon}
+use Rattle.arrivals.proofs.Stepping.{halfway-none, halfway-more, halfway-end, halfway-soon}
 use borrow.Author.Rules.{rules}
 use Rattle.arrivals.proofs.starts_hopped.Goals as goal
 

@@ -1,10 +1,7 @@
 -- `starts_hopped` (src/lib.rt) keeps its contract: its loops.
-use Prim.Native.Nat.{◌-◌, ◌+◌}
-use mathlib.Core.Path.{◌∙◌, ap}
-use native.Mathlib.Omega.{arith}
-use lib.ListN.{get_or}
-use Rattle.arrivals.specs.Lanes.{start_unpacked, start_hopped}
-use Rattle.arrivals.proofs.Stepping.{Halfway, halfway-none, halfway-more, halfway-end, halfway-soon}
+use Prim.Native.Nat.{◌-◌}
+use Rattle.arrivals.specs.Lanes.{start_hopped}
+use Rattle.arrivals.proofs.Stepping.{Halfway}
 use Rattle.arrivals.proofs.starts_hopped.Given as goal
 
 abbrev pub invariant-loop-k : goal.invariant-loop-k

@@ -1,8 +1,7 @@
 -- `starts_past` (src/lib.rt) keeps its contract: its loops.
 use Prim.Native.Nat.{◌-◌}
-use native.Mathlib.Omega.{arith}
 use Rattle.arrivals.specs.Lanes.{start_past}
-use Rattle.arrivals.proofs.Stepping.{Halfway, halfway-none, halfway-more, halfway-end}
+use Rattle.arrivals.proofs.Stepping.{Halfway}
 use Rattle.arrivals.proofs.starts_past.Given as goal
 
 abbrev pub invariant-loop-k : goal.invariant-loop-k

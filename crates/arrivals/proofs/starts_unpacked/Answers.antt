@@ -2,7 +2,7 @@
 use Prim.Native.Nat.{◌-◌}
 use native.Mathlib.Omega.{arith}
 use Rattle.arrivals.specs.Lanes.{start_unpacked}
-use Rattle.arrivals.proofs.Stepping.{Halfway, halfway-none, halfway-more, halfway-end, halfway-soon}
+use Rattle.arrivals.proofs.Stepping.{halfway-none, halfway-more, halfway-end, halfway-soon}
 use borrow.Author.Rules.{rules}
 use Rattle.arrivals.proofs.starts_unpacked.Goals as goal
 

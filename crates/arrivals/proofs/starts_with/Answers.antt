@@ -1,5 +1,5 @@
 -- `starts_with` (src/lib.rt) keeps its contract.
-use mathlib.Core.Path.{◌≡◌, refl, sym, ap, ◌∙◌}
+use mathlib.Core.Path.{refl, sym, ap, ◌∙◌}
 use native.Mathlib.Omega.{arith}
 use Rattle.sheet.specs.Sheet.{source_of}
 use Rattle.sheet.specs.Tables.{sheet_in}
@@ -38,12 +38,11 @@ pub overflow_add-f : goal.overflow_add-f
 overflow_add-f c = record { fits = omega (arith, c.narrow-f.ensures, c.finish.ensures.0, c.requires.early.0.early c.source-u.result, c.narrow-time.ensures, c.cost-cost.ensures.1) }
 
 pub starts_unpacked-requires : goal.starts_unpacked-requires
-starts_unpacked-requires c =
-    (
-      c.requires.early.1,
-      omega (arith, c.narrow-f.ensures, c.finish.ensures.0, c.requires.early.0.early c.source-u.result, c.narrow-time.ensures, c.cost-cost.ensures.1),
-      omega (arith, c.requires.early.3, (ranged c.args.w.now c.requires.loaded.0).unpacks),
-    )
+starts_unpacked-requires c = (
+  c.requires.early.1,
+  omega (arith, c.narrow-f.ensures, c.finish.ensures.0, c.requires.early.0.early c.source-u.result, c.narrow-time.ensures, c.cost-cost.ensures.1),
+  omega (arith, c.requires.early.3, (ranged c.args.w.now c.requires.loaded.0).unpacks),
+)
 
 pub returns : goal.returns
 returns c =

@@ -2,10 +2,8 @@
 use Prim.Native.Nat.{◌-◌}
 use mathlib.Core.Path.{◌∙◌}
 use native.Mathlib.Omega.{arith}
-use Rattle.sheet.specs.Tables.{sheet_in}
-use Rattle.schedule.specs.Layout.{schedule_in}
 use Rattle.sheet.proofs.Rows.{task-index, ranged}
-use Rattle.arrivals.proofs.Surveys.{Surveying, survey-begins, survey-done, survey-more, there-link, there-more, there-soon}
+use Rattle.arrivals.proofs.Surveys.{survey-begins, survey-done, survey-more, there-link, there-more, there-soon}
 use Rattle.arrivals.proofs.survey_links.Goals as goal
 
 pub word-n-requires : goal.word-n-requires

@@ -1,11 +1,8 @@
 -- `survey_links` (src/lib.rt) keeps its contract: its loops.
 use Prim.Native.Nat.{◌-◌}
-use mathlib.Core.Path.{◌∙◌}
-use native.Mathlib.Omega.{arith}
 use Rattle.sheet.specs.Tables.{sheet_in}
 use Rattle.schedule.specs.Layout.{schedule_in}
-use Rattle.sheet.proofs.Rows.{task-index, ranged}
-use Rattle.arrivals.proofs.Surveys.{Surveying, survey-begins, survey-done, survey-more, there-link, there-more, there-soon}
+use Rattle.arrivals.proofs.Surveys.{Surveying}
 use Rattle.arrivals.proofs.survey_links.Given as goal
 
 abbrev pub invariant-loop-i : goal.invariant-loop-i

@@ -1,5 +1,5 @@
 -- `time_to` (src/lib.rt) keeps its contract.
-use mathlib.Core.Path.{◌∙◌, sym, ap}
+use mathlib.Core.Path.{◌∙◌, sym}
 use native.Mathlib.Omega.{arith}
 use Rattle.sheet.specs.Tables.{sheet_in}
 use Rattle.arrivals.proofs.Reaching.{time-hopped, time-flat}

@@ -1,16 +1,15 @@
 -- The readers of an atom, a product and a sum (src/lib.rt), which call each other, keep their contracts. A call either stays at the same number of parentheses that may
 -- be opened and goes from sum to product to atom, or lowers that number.
 -- the fourth argument is the number of parentheses that may be opened
-use Prim.Native.Nat.{ℕ, ◌+◌, ◌*◌, ◌-◌, ◌<◌}
+use Prim.Native.Nat.{◌-◌}
 use native.Mathlib.Omega.{arith}
 use mathlib.Core.Path.{sym, subst, ◌∙◌}
-use lib.ListN.{length}
 use Rattle.formulas.specs.Grammar.{opener, plus_sign, times_sign}
 use Rattle.formulas.specs.Parts.{AtomIs, ProductIs, AtomAt, ProductAt}
 use Rattle.formulas.proofs.Bytes.{stands-true, further}
 use Rattle.formulas.proofs.Atoms.{atom-full, group-is}
-use Rattle.formulas.proofs.Products.{Multiplying, multiplying-none, product-stops, product-read, product-more}
-use Rattle.formulas.proofs.Sums.{Summing, summing-none, sum-stops, sum-read, sum_more}
+use Rattle.formulas.proofs.Products.{multiplying-none, product-stops, product-read, product-more}
+use Rattle.formulas.proofs.Sums.{summing-none, sum-stops, sum-read, sum_more}
 use Rattle.formulas.proofs.+atom_product_sum.Goals as goal
 
 pub atom-returns-then-room-eq0 : goal.atom-returns-then-room-eq0
@@ -23,7 +22,7 @@ pub atom-sum-requires : goal.atom-sum-requires
 atom-sum-requires t c = (omega (arith, c.decreases), tt)
 
 pub atom-returns-then-stands : goal.atom-returns-then-stands
-atom-returns-then-stands t c = 
+atom-returns-then-stands t c =
     let opens = sym c.stands.ensures ∙ c.if-stands.true in
     let b = c.args.text.now in
     let ls = c.args.letters.now in
@@ -43,7 +42,7 @@ pub product-atom-requires : goal.product-atom-requires
 product-atom-requires t c = (omega (arith, c.decreases), tt)
 
 pub product-returns-in-Outside : goal.product-returns-in-Outside
-product-returns-in-Outside t c = 
+product-returns-in-Outside t c =
     let s = c.args in
     let loop = c.loop-q in
     product-stops _ loop.invariant (subst (AtomIs s.text.now s.letters.now loop.at s.room) c.in-Outside.is c.atom.ensures)
@@ -67,7 +66,7 @@ pub sum-product-requires : goal.sum-product-requires
 sum-product-requires t c = (omega (arith, c.decreases), tt)
 
 pub sum-returns-in-Outside : goal.sum-returns-in-Outside
-sum-returns-in-Outside t c = 
+sum-returns-in-Outside t c =
     let s = c.args in
     let loop = c.loop-q in
     sum-stops _ loop.invariant (subst (ProductIs s.text.now s.letters.now loop.at s.room) c.in-Outside.is c.product.ensures)

@@ -1,14 +1,8 @@
 -- The readers of an atom, a product and a sum (src/lib.rt), which call each other, keep their contracts. A call either stays at the same number of parentheses that may
-use Prim.Native.Nat.{ℕ, ◌+◌, ◌*◌, ◌-◌, ◌<◌}
-use native.Mathlib.Omega.{arith}
-use mathlib.Core.Path.{sym, subst, ◌∙◌}
+use Prim.Native.Nat.{◌+◌, ◌*◌, ◌-◌}
 use lib.ListN.{length}
-use Rattle.formulas.specs.Grammar.{opener, plus_sign, times_sign}
-use Rattle.formulas.specs.Parts.{AtomIs, ProductIs, AtomAt, ProductAt}
-use Rattle.formulas.proofs.Bytes.{stands-true, further}
-use Rattle.formulas.proofs.Atoms.{atom-full, group-is}
-use Rattle.formulas.proofs.Products.{Multiplying, multiplying-none, product-stops, product-read, product-more}
-use Rattle.formulas.proofs.Sums.{Summing, summing-none, sum-stops, sum-read, sum_more}
+use Rattle.formulas.proofs.Products.{Multiplying}
+use Rattle.formulas.proofs.Sums.{Summing}
 use Rattle.formulas.proofs.+atom_product_sum.Given as goal
 
 abbrev pub decreases-atom : goal.decreases-atom

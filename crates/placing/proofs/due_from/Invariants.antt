@@ -1,15 +1,11 @@
 -- `due_from` (src/lib.rt) keeps its contract: its loops.
 use Prim.Native.Nat.{◌*◌, ◌-◌, ◌<◌, ◌≤◌}
 use mathlib.Core.Path.{◌≡◌}
-use native.Mathlib.Omega.{arith}
-use Rattle.placing.proofs.Spent.{due-else, due-own, target_free}
 use Rattle.placing.specs.Choosing.{due_by}
 use Rattle.sheet.specs.Sheet.{link_count, source_of}
-use Rattle.adjacency.proofs.Walks.{own_first, own-next, sum_first, sum-next}
 use Rattle.schedule.specs.Layout.{schedule_in}
 use Rattle.sheet.specs.Tables.{sheet_in}
 use Rattle.folds.specs.Folds.{sum}
-use Rattle.folds.proofs.Loops.{sum-at}
 use Rattle.placing.proofs.due_from.Given as goal
 
 abbrev pub invariant-loop-l : goal.invariant-loop-l

@@ -1,12 +1,11 @@
 -- `dues_of` (src/lib.rt) keeps its contract.
-use Prim.Native.Nat.{◌-◌, ◌≤◌, ◌<◌}
-use mathlib.Core.Path.{◌≡◌}
+use Prim.Native.Nat.{◌-◌, ◌<◌}
 use native.Mathlib.Omega.{arith}
-use Rattle.sheet.specs.Sheet.{link_count, source_of}
+use Rattle.sheet.specs.Sheet.{link_count}
 use Rattle.sheet.specs.Tables.{sheet_in}
 use Rattle.schedule.specs.Layout.{schedule_in}
 use Rattle.adjacency.proofs.Walks.{own_first, own-next}
-use Rattle.placing.specs.Choosing.{due_by, DuesTo}
+use Rattle.placing.specs.Choosing.{due_by}
 use Rattle.placing.specs.declared.Senders.TheVariants.{Four}
 use Rattle.placing.proofs.Spent.{due-else, target_free}
 use Rattle.placing.proofs.Due.{dues-first, dues-next, dues-at, small-dues}

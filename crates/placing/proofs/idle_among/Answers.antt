@@ -1,13 +1,10 @@
 -- `idle_among` (src/lib.rt) keeps its contract.
-use Prim.Native.Nat.{◌-◌, ◌≤◌}
-use mathlib.Core.Path.{◌≡◌, ◌∙◌, sym}
+use Prim.Native.Nat.{◌-◌}
+use mathlib.Core.Path.{◌∙◌, sym}
 use native.Mathlib.Omega.{arith}
-use Rattle.folds.specs.Folds.{greatest}
 use Rattle.folds.proofs.Loops.{greatest-at, greatest-more, greatest-zero}
 use Rattle.placing.specs.Ranks.{idle_key}
 use Rattle.placing.proofs.Steps.{idle-is}
-use Rattle.schedule.specs.Layout.{schedule_in}
-use Rattle.sheet.specs.Tables.{sheet_in}
 use Rattle.placing.proofs.idle_among.Goals as goal
 
 pub loop-k-init : goal.loop-k-init

@@ -1,11 +1,8 @@
 -- `idle_among` (src/lib.rt) keeps its contract: its loops.
 use Prim.Native.Nat.{◌-◌, ◌≤◌}
-use mathlib.Core.Path.{◌≡◌, ◌∙◌, sym}
-use native.Mathlib.Omega.{arith}
+use mathlib.Core.Path.{◌≡◌}
 use Rattle.folds.specs.Folds.{greatest}
-use Rattle.folds.proofs.Loops.{greatest-at, greatest-more, greatest-zero}
 use Rattle.placing.specs.Ranks.{idle_key}
-use Rattle.placing.proofs.Steps.{idle-is}
 use Rattle.schedule.specs.Layout.{schedule_in}
 use Rattle.sheet.specs.Tables.{sheet_in}
 use Rattle.placing.proofs.idle_among.Given as goal

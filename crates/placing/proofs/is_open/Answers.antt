@@ -1,5 +1,4 @@
 -- `is_open` (src/lib.rt) keeps its contract.
-use mathlib.Core.Path.{◌∙◌}
 use Rattle.placing.proofs.Steps.{open_is}
 use Rattle.placing.proofs.is_open.Goals as goal
 

@@ -2,11 +2,9 @@
 use Prim.Native.Nat.{◌-◌}
 use mathlib.Core.Path.{◌∙◌}
 use native.Mathlib.Omega.{arith}
-use Rattle.placing.proofs.Joins.{Joining, join-begins, join-can, join-done, join_more, join-there}
+use Rattle.placing.proofs.Joins.{join-begins, join-can, join-done, join_more, join-there}
 use Rattle.placing.proofs.Starts.{start_small}
 use Rattle.placing.proofs.Steps.{join_is}
-use Rattle.schedule.specs.Layout.{schedule_in}
-use Rattle.sheet.specs.Tables.{sheet_in}
 use Rattle.placing.proofs.join_on.Goals as goal
 
 pub first-l-requires : goal.first-l-requires

@@ -1,14 +1,11 @@
 -- `last_on` (src/lib.rt) keeps its contract.
-use Prim.Native.Nat.{◌-◌, ◌≤◌}
-use mathlib.Core.Path.{◌≡◌, ◌∙◌, sym}
+use Prim.Native.Nat.{◌-◌}
+use mathlib.Core.Path.{◌∙◌, sym}
 use native.Mathlib.Omega.{arith}
-use Rattle.folds.specs.Folds.{greatest}
 use Rattle.folds.proofs.Loops.{greatest-at, greatest-more, greatest-zero}
-use Rattle.placing.specs.Ranks.{last_key}
 use Rattle.placing.proofs.Starts.{start_small}
 use Rattle.placing.proofs.Steps.{last-is, last-key-is}
 use Rattle.schedule.specs.Layout.{schedule_in}
-use Rattle.sheet.specs.Tables.{sheet_in}
 use Rattle.placing.proofs.last_on.Goals as goal
 
 pub loop-k-init : goal.loop-k-init

@@ -3,7 +3,6 @@ use Prim.Native.Nat.{ℕ}
 use native.Mathlib.Omega.{arith}
 use mathlib.Core.Path.{sym, ap, ◌∙◌}
 use mathlib.Core.Option.{some}
-use lib.Count.{count_trailing_zeros}
 use Rattle.folds.specs.Folds.{first}
 use Rattle.placing.specs.Sets.{member}
 use Rattle.placing.proofs.Sets.{lowest-is, lowest-none, trailing_lt}

@@ -1,6 +1,6 @@
 -- `may_be_idle` (src/lib.rt) keeps its contract.
-use Prim.Native.Nat.{ℕ, ◌-◌, ◌≤◌}
-use mathlib.Core.Path.{◌≡◌, ◌∙◌, ap, ap₂, sym}
+use Prim.Native.Nat.{ℕ, ◌-◌}
+use mathlib.Core.Path.{◌∙◌, ap, ap₂, sym}
 use native.Mathlib.Omega.{arith}
 use lib.Dec.{leb}
 use Rattle.folds.specs.Folds.{any, both, either}

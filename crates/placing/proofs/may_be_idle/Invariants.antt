@@ -1,10 +1,7 @@
 -- `may_be_idle` (src/lib.rt) keeps its contract: its loops.
-use Prim.Native.Nat.{ℕ, ◌-◌, ◌≤◌}
-use mathlib.Core.Path.{◌≡◌, ◌∙◌, ap, ap₂, sym}
-use native.Mathlib.Omega.{arith}
-use lib.Dec.{leb}
-use Rattle.folds.specs.Folds.{any, both, either}
-use Rattle.folds.proofs.Loops.{any-one, any-zero}
+use Prim.Native.Nat.{◌-◌, ◌≤◌}
+use mathlib.Core.Path.{◌≡◌}
+use Rattle.folds.specs.Folds.{any}
 use Rattle.placing.specs.Ranks.{may_be_idle}
 use Rattle.placing.proofs.may_be_idle.Given as goal
 

@@ -1,12 +1,9 @@
 -- `open_among` (src/lib.rt) keeps its contract.
-use Prim.Native.Nat.{◌-◌, ◌≤◌, ◌<◌}
-use mathlib.Core.Path.{◌≡◌, ◌∙◌, sym}
+use Prim.Native.Nat.{◌-◌, ◌<◌}
+use mathlib.Core.Path.{◌∙◌, sym}
 use native.Mathlib.Omega.{arith}
-use Rattle.planner.specs.Placing.{barred, start_on}
-use Rattle.planner.specs.Planner.{may_open, another}
-use Rattle.schedule.specs.Layout.{schedule_in}
-use Rattle.sheet.specs.Tables.{sheet_in}
-use Rattle.placing.proofs.Ties.{Ties, ties-none, ties-next, ties-end}
+use Rattle.planner.specs.Planner.{another}
+use Rattle.placing.proofs.Ties.{ties-none, ties-next, ties-end}
 use Rattle.placing.proofs.open_among.Goals as goal
 
 pub loop-k-init : goal.loop-k-init

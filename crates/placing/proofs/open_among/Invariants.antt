@@ -1,12 +1,10 @@
 -- `open_among` (src/lib.rt) keeps its contract: its loops.
-use Prim.Native.Nat.{◌-◌, ◌≤◌, ◌<◌}
-use mathlib.Core.Path.{◌≡◌, ◌∙◌, sym}
-use native.Mathlib.Omega.{arith}
+use Prim.Native.Nat.{◌-◌, ◌≤◌}
 use Rattle.planner.specs.Placing.{barred, start_on}
-use Rattle.planner.specs.Planner.{may_open, another}
+use Rattle.planner.specs.Planner.{may_open}
 use Rattle.schedule.specs.Layout.{schedule_in}
 use Rattle.sheet.specs.Tables.{sheet_in}
-use Rattle.placing.proofs.Ties.{Ties, ties-none, ties-next, ties-end}
+use Rattle.placing.proofs.Ties.{Ties}
 use Rattle.placing.proofs.open_among.Given as goal
 
 abbrev pub invariant-loop-k : goal.invariant-loop-k

@@ -1,15 +1,9 @@
 -- `share_on` (src/lib.rt) keeps its contract.
-use Prim.Native.Nat.{◌-◌, ◌<◌, ◌≤◌}
-use mathlib.Core.Option.{none}
-use mathlib.Core.Path.{◌≡◌, ◌∙◌, sym}
+use Prim.Native.Nat.{◌-◌, ◌<◌}
+use mathlib.Core.Path.{◌∙◌, sym}
 use native.Mathlib.Omega.{arith}
-use Rattle.folds.specs.Folds.{first}
 use Rattle.folds.proofs.Laws.{first_found, first-none, none_first}
 use Rattle.folds.proofs.Loops.{first-at, first-passed}
-use Rattle.planner.specs.Placing.{barred}
-use Rattle.planner.specs.Planner.{may_share}
-use Rattle.schedule.specs.Layout.{schedule_in}
-use Rattle.sheet.specs.Tables.{sheet_in}
 use Rattle.placing.proofs.share_on.Goals as goal
 
 pub loop-k-init : goal.loop-k-init

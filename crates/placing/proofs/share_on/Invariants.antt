@@ -1,11 +1,8 @@
 -- `share_on` (src/lib.rt) keeps its contract: its loops.
-use Prim.Native.Nat.{◌-◌, ◌<◌, ◌≤◌}
+use Prim.Native.Nat.{◌-◌, ◌≤◌}
 use mathlib.Core.Option.{none}
-use mathlib.Core.Path.{◌≡◌, ◌∙◌, sym}
-use native.Mathlib.Omega.{arith}
+use mathlib.Core.Path.{◌≡◌}
 use Rattle.folds.specs.Folds.{first}
-use Rattle.folds.proofs.Laws.{first_found, first-none, none_first}
-use Rattle.folds.proofs.Loops.{first-at, first-passed}
 use Rattle.planner.specs.Placing.{barred}
 use Rattle.planner.specs.Planner.{may_share}
 use Rattle.schedule.specs.Layout.{schedule_in}

@@ -1,10 +1,7 @@
 -- `some_closed` (src/lib.rt) keeps its contract: its loops.
-use Prim.Native.Nat.{ℕ, ◌-◌, ◌≤◌}
-use mathlib.Core.Path.{◌≡◌, ◌∙◌, ap, ap₂, sym}
-use native.Mathlib.Omega.{arith}
-use lib.Dec.{eqb}
-use Rattle.folds.specs.Folds.{any, either}
-use Rattle.folds.proofs.Loops.{any-one, any-zero}
+use Prim.Native.Nat.{◌-◌, ◌≤◌}
+use mathlib.Core.Path.{◌≡◌}
+use Rattle.folds.specs.Folds.{any}
 use Rattle.placing.specs.Sets.{closed_in}
 use Rattle.placing.proofs.some_closed.Given as goal
 

@@ -1,11 +1,8 @@
 -- `begin` (src/lib.rt) keeps its contract.
-use Prim.Native.Nat.{◌-◌, ◌≤◌}
+use Prim.Native.Nat.{◌-◌}
 use native.Mathlib.Omega.{arith}
 use Rattle.arrivals.proofs.Walks.{kept-arrived}
 use Rattle.readiness.proofs.Renewing.{keyed-more, keyed-none, keyed-at}
-use Rattle.readiness.specs.Keyed.{KeyedTo}
-use Rattle.schedule.specs.Layout.{schedule_in}
-use Rattle.sheet.specs.Tables.{sheet_in}
 use Rattle.readiness.proofs.begin.Goals as goal
 
 pub loop-t-init : goal.loop-t-init

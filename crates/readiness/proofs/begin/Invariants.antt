@@ -1,8 +1,5 @@
 -- `begin` (src/lib.rt) keeps its contract: its loops.
 use Prim.Native.Nat.{◌-◌, ◌≤◌}
-use native.Mathlib.Omega.{arith}
-use Rattle.arrivals.proofs.Walks.{kept-arrived}
-use Rattle.readiness.proofs.Renewing.{keyed-more, keyed-none, keyed-at}
 use Rattle.readiness.specs.Keyed.{KeyedTo}
 use Rattle.schedule.specs.Layout.{schedule_in}
 use Rattle.sheet.specs.Tables.{sheet_in}

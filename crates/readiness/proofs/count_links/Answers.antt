@@ -5,9 +5,7 @@ use native.Mathlib.Omega.{arith}
 use Rattle.sheet.specs.Sheet.{link_count}
 use Rattle.sheet.specs.Tables.{sheet_in}
 use Rattle.sheet.proofs.Rows.{ranged}
-use Rattle.schedule.specs.Layout.{schedule_in}
-use Rattle.arrivals.proofs.Walks.{Walking, walk_begins, walk_more, walk-done, target-arrived}
-use Rattle.readiness.specs.Keyed.{KeyedPast}
+use Rattle.arrivals.proofs.Walks.{walk_begins, walk_more, walk-done, target-arrived}
 use Rattle.readiness.proofs.Renewing.{past-begins, past_first, past_next, past_all, target-waits}
 use Rattle.readiness.proofs.count_links.Goals as goal
 

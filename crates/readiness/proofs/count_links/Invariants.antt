@@ -1,14 +1,9 @@
 -- `count_links` (src/lib.rt) keeps its contract: its loops.
-use Prim.Native.Nat.{◌-◌, ◌≤◌, ◌<◌}
-use mathlib.Core.Path.{◌∙◌, sym}
-use native.Mathlib.Omega.{arith}
-use Rattle.sheet.specs.Sheet.{link_count}
+use Prim.Native.Nat.{◌-◌}
 use Rattle.sheet.specs.Tables.{sheet_in}
-use Rattle.sheet.proofs.Rows.{ranged}
 use Rattle.schedule.specs.Layout.{schedule_in}
-use Rattle.arrivals.proofs.Walks.{Walking, walk_begins, walk_more, walk-done, target-arrived}
+use Rattle.arrivals.proofs.Walks.{Walking}
 use Rattle.readiness.specs.Keyed.{KeyedPast}
-use Rattle.readiness.proofs.Renewing.{past-begins, past_first, past_next, past_all, target-waits}
 use Rattle.readiness.proofs.count_links.Given as goal
 
 abbrev pub invariant-loop-l : goal.invariant-loop-l

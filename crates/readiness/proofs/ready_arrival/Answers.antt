@@ -1,9 +1,8 @@
 -- `ready_arrival` (src/lib.rt) keeps its contract.
-use mathlib.Core.Path.{◌≡◌, sym, ◌∙◌}
+use mathlib.Core.Path.{sym, ◌∙◌}
 use native.Mathlib.Omega.{arith}
 use Rattle.sheet.specs.Tables.{sheet_in}
 use Rattle.schedule.specs.Layout.{schedule_in}
-use Rattle.planner.specs.Placing.{ready_arrival}
 use Rattle.planner.proofs.Unpacking.{arrival-none}
 use Rattle.arrivals.proofs.Unpacking.{arrival-small}
 use Rattle.readiness.proofs.ready_arrival.Goals as goal

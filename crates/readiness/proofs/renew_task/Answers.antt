@@ -1,5 +1,4 @@
 -- `renew_task` (src/lib.rt) keeps its contract.
-use mathlib.Core.Path.{◌∙◌}
 use native.Mathlib.Omega.{arith}
 use Rattle.sheet.specs.Tables.{sheet_in}
 use Rattle.schedule.specs.Layout.{schedule_in}

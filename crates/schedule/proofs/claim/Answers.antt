@@ -1,12 +1,9 @@
 -- `claim` (src/lib.rt) keeps its contract.
-use Prim.Native.Nat.{◌-◌, ◌<◌, ◌≤◌}
-use mathlib.Core.Path.{◌≡◌, sym}
+use Prim.Native.Nat.{◌-◌}
+use mathlib.Core.Path.{sym}
 use native.Mathlib.Omega.{arith}
 use Rattle.planner.specs.Planner.{claim_of}
-use Rattle.planner.specs.Schedule.{finish_of}
-use Rattle.folds.specs.Folds.{greatest}
 use Rattle.folds.proofs.Loops.{greatest-at, greatest-more, greatest-zero}
-use Rattle.schedule.specs.Layout.{schedule_in}
 use Rattle.schedule.proofs.claim.Goals as goal
 
 pub loop-t-init : goal.loop-t-init

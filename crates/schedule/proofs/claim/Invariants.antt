@@ -1,11 +1,8 @@
 -- `claim` (src/lib.rt) keeps its contract: its loops.
 use Prim.Native.Nat.{◌-◌, ◌<◌, ◌≤◌}
-use mathlib.Core.Path.{◌≡◌, sym}
-use native.Mathlib.Omega.{arith}
-use Rattle.planner.specs.Planner.{claim_of}
+use mathlib.Core.Path.{◌≡◌}
 use Rattle.planner.specs.Schedule.{finish_of}
 use Rattle.folds.specs.Folds.{greatest}
-use Rattle.folds.proofs.Loops.{greatest-at, greatest-more, greatest-zero}
 use Rattle.schedule.specs.Layout.{schedule_in}
 use Rattle.schedule.proofs.claim.Given as goal
 

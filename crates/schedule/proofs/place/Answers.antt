@@ -13,8 +13,7 @@ pub word-requires : goal.word-requires
 word-requires c = omega (arith, task-index c.args.w.now c.args.t c.requires.loaded c.requires.t_bound, c.requires.loaded.long)
 
 pub returns : goal.returns
-returns c =
-    (
-      ap (λ (x : ℕ). x % 65536) c.word.ensures.0 ∙ sym (place-in c.args.w.now c.args.t c.requires.t_bound),
-      omega (arith, c.word.ensures.1),
-    )
+returns c = (
+  ap (λ (x : ℕ). x % 65536) c.word.ensures.0 ∙ sym (place-in c.args.w.now c.args.t c.requires.t_bound),
+  omega (arith, c.word.ensures.1),
+)

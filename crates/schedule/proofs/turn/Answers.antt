@@ -6,8 +6,7 @@ use Rattle.schedule.proofs.Rows.{order-in}
 use Rattle.schedule.proofs.turn.Goals as goal
 
 pub returns : goal.returns
-returns c =
-    (
-      ap (λ (x : ℕ). x / 65536) c.word.ensures.0 ∙ sym (order-in c.args.w.now c.args.i c.requires.i_bound.1),
-      omega (arith, c.word.ensures.1),
-    )
+returns c = (
+  ap (λ (x : ℕ). x / 65536) c.word.ensures.0 ∙ sym (order-in c.args.w.now c.args.i c.requires.i_bound.1),
+  omega (arith, c.word.ensures.1),
+)

@@ -1,6 +1,5 @@
 -- `clear_tables` (src/lib.rt) keeps its contract.
-use Rattle.turns.specs.Turns.{Cleared}
-use Prim.Native.Nat.{◌-◌, ◌≤◌}
+use Prim.Native.Nat.{◌-◌}
 use native.Mathlib.Omega.{arith}
 use Rattle.turns.proofs.Emptying.{cleared_at, cleared_more, cleared-none}
 use lib.ListN.{length-set}

@@ -1,9 +1,6 @@
 -- `clear_tables` (src/lib.rt) keeps its contract: its loops.
 use Rattle.turns.specs.Turns.{Cleared}
 use Prim.Native.Nat.{◌-◌, ◌≤◌}
-use native.Mathlib.Omega.{arith}
-use Rattle.turns.proofs.Emptying.{cleared_at, cleared_more, cleared-none}
-use lib.ListN.{length-set}
 use Rattle.turns.proofs.clear_tables.Given as goal
 
 abbrev pub invariant-loop-t : goal.invariant-loop-t

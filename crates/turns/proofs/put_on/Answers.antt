@@ -26,13 +26,16 @@ put-requires c =
     let work = c.work.ensures.0 in
     let u = putting c.requires.going c.requires.j_bound.0 c.requires.j_bound.1 c.requires.j_bound.2 c.requires.t_value.0 c.requires.t_value.1 c.requires.j_bound.3 work c.placed-n.ensures.1 c.opened.ensures.0 c.later-open.ensures in
     let ends = c.settle.ensures in
-    record { fixed_in_bounds = c.requires.going.kept.loaded.long; t_bound = (
+    record {
+      fixed_in_bounds = c.requires.going.kept.loaded.long;
+      t_bound = (
         t-small u ends.0 ends.1,
         omega (arith, c.requires.j_bound.2),
         omega (arith, u.small),
         omega (arith, u.placed_is, u.going.placed, u.turn),
         omega (arith, u.opened_is, u.going.kept.few_opened, c.requires.j_bound.2),
-      ) }
+      );
+    }
 
 pub count_links-requires : goal.count_links-requires
 count_links-requires c =

@@ -1,12 +1,9 @@
 -- `take_each` (src/lib.rt) keeps its contract.
-use Prim.Native.Nat.{◌-◌, ◌≤◌}
+use Prim.Native.Nat.{◌-◌}
 use mathlib.Core.Path.{◌∙◌, sym}
 use native.Mathlib.Omega.{arith}
-use Rattle.sheet.specs.Tables.{sheet_in}
-use Rattle.schedule.specs.Layout.{schedule_in}
-use Rattle.readiness.specs.Keyed.{Keyed}
 use Rattle.turns.proofs.Going.{after, later-turns, from-here}
-use Rattle.turns.proofs.Turns.{Turning, turning-begins, turning-done, turning-on, turning-refused, turns_at}
+use Rattle.turns.proofs.Turns.{turning-begins, turning-done, turning-on, turning-refused, turns_at}
 use borrow.Author.Rules.{rules}
 use Rattle.turns.proofs.take_each.Goals as goal
 

@@ -1,9 +1,7 @@
 -- `clear` (src/lib.rt) keeps its contract.
-use Prim.Native.Nat.{◌-◌, ◌≤◌}
+use Prim.Native.Nat.{◌-◌}
 use mathlib.Core.Path.{◌∙◌}
 use native.Mathlib.Omega.{arith}
-use lib.ListN.{length}
-use Rattle.workspace.specs.Area.{ClearIs}
 use Rattle.workspace.proofs.Clearing.{cleared-none, cleared-then, cleared-all}
 use Rattle.workspace.proofs.clear.Goals as goal
 

@@ -1,10 +1,7 @@
 -- `clear` (src/lib.rt) keeps its contract: its loops.
 use Prim.Native.Nat.{◌-◌, ◌≤◌}
-use mathlib.Core.Path.{◌∙◌}
-use native.Mathlib.Omega.{arith}
 use lib.ListN.{length}
 use Rattle.workspace.specs.Area.{ClearIs}
-use Rattle.workspace.proofs.Clearing.{cleared-none, cleared-then, cleared-all}
 use Rattle.workspace.proofs.clear.Given as goal
 
 abbrev pub invariant-loop-work : goal.invariant-loop-work

@@ -1,6 +1,6 @@
 -- `clear_words` (src/lib.rt) keeps its contract.
 use Prim.Native.Nat.{◌-◌}
-use Rattle.workspace.proofs.Clearing.{Clearing, clearing-ends, clearing-more, clearing-starts}
+use Rattle.workspace.proofs.Clearing.{clearing-ends, clearing-more, clearing-starts}
 use mathlib.Core.Path.{refl}
 use native.Mathlib.Omega.{arith}
 use Rattle.workspace.proofs.clear_words.Goals as goal

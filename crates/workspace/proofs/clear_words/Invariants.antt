@@ -1,8 +1,6 @@
 -- `clear_words` (src/lib.rt) keeps its contract: its loops.
 use Prim.Native.Nat.{◌-◌}
-use Rattle.workspace.proofs.Clearing.{Clearing, clearing-ends, clearing-more, clearing-starts}
-use mathlib.Core.Path.{refl}
-use native.Mathlib.Omega.{arith}
+use Rattle.workspace.proofs.Clearing.{Clearing}
 use Rattle.workspace.proofs.clear_words.Given as goal
 
 abbrev pub invariant-loop-i : goal.invariant-loop-i

@@ -1,7 +1,6 @@
 -- `united` (src/lib.rt) keeps its contract.
-use Prim.Native.Nat.{◌-◌, ◌≤◌, max}
+use Prim.Native.Nat.{◌-◌}
 use native.Mathlib.Omega.{arith}
-use Rattle.workspace.specs.Area.{UnitedIs}
 use Rattle.workspace.proofs.Clearing.{united-none, united-more}
 use Rattle.workspace.proofs.united.Goals as goal
 

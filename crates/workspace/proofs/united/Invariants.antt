@@ -1,8 +1,6 @@
 -- `united` (src/lib.rt) keeps its contract: its loops.
 use Prim.Native.Nat.{◌-◌, ◌≤◌, max}
-use native.Mathlib.Omega.{arith}
 use Rattle.workspace.specs.Area.{UnitedIs}
-use Rattle.workspace.proofs.Clearing.{united-none, united-more}
 use Rattle.workspace.proofs.united.Given as goal
 
 abbrev pub invariant-loop-i : goal.invariant-loop-i

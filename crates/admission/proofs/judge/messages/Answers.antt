@@ -1,5 +1,4 @@
 -- `messages` (src/judge.rt) keeps its contract.
-use native.Mathlib.Omega.{arith}
 use Rattle.admission.proofs.Admits.{message-right, message-wrong}
 use Rattle.admission.proofs.judge.messages.Goals as goal
 

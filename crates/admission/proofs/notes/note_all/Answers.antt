@@ -2,9 +2,9 @@
 use Prim.Native.Nat.{◌-◌}
 use Rattle.bundle.specs.Kinds.{size_by}
 use Rattle.admission.proofs.Passes.{size-between}
-use Rattle.admission.proofs.Noted.{Noting, run-slot, message-slot, notes-after, noting-command, noting-release, noting-ends, noting-open, noting-starts}
+use Rattle.admission.proofs.Noted.{run-slot, message-slot, notes-after, noting-command, noting-release, noting-ends, noting-open, noting-starts}
 use native.Mathlib.Omega.{arith}
-use mathlib.Core.Path.{◌∙◌, ap, sym}
+use mathlib.Core.Path.{◌∙◌, ap}
 use Rattle.admission.proofs.notes.note_all.Goals as goal
 
 pub loop-at-init : goal.loop-at-init

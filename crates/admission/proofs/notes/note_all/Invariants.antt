@@ -1,10 +1,6 @@
 -- `note_all` (src/notes.rt) keeps its contract: its loops. `b` is behind the byte that was read.
 use Prim.Native.Nat.{◌-◌}
-use Rattle.bundle.specs.Kinds.{size_by}
-use Rattle.admission.proofs.Passes.{size-between}
-use Rattle.admission.proofs.Noted.{Noting, run-slot, message-slot, notes-after, noting-command, noting-release, noting-ends, noting-open, noting-starts}
-use native.Mathlib.Omega.{arith}
-use mathlib.Core.Path.{◌∙◌, ap, sym}
+use Rattle.admission.proofs.Noted.{Noting}
 use Rattle.admission.proofs.notes.note_all.Given as goal
 
 abbrev pub invariant-loop-at : goal.invariant-loop-at

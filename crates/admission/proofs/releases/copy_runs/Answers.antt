@@ -1,9 +1,6 @@
 -- `copy_runs` (src/releases.rt) keeps its contract.
-use Prim.Native.Nat.{◌≤◌, ◌-◌}
-use lib.ListN.{length}
+use Prim.Native.Nat.{◌-◌}
 use native.Mathlib.Omega.{arith}
-use Rattle.admission.specs.Lasts.{CopyIs}
-use Rattle.admission.specs.Notes.{slots_end}
 use Rattle.admission.proofs.Keeping.{copy_start, copy_more}
 use Rattle.admission.proofs.releases.copy_runs.Goals as goal
 

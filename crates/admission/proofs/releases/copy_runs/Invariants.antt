@@ -1,10 +1,8 @@
 -- `copy_runs` (src/releases.rt) keeps its contract: its loops.
 use Prim.Native.Nat.{◌≤◌, ◌-◌}
 use lib.ListN.{length}
-use native.Mathlib.Omega.{arith}
 use Rattle.admission.specs.Lasts.{CopyIs}
 use Rattle.admission.specs.Notes.{slots_end}
-use Rattle.admission.proofs.Keeping.{copy_start, copy_more}
 use Rattle.admission.proofs.releases.copy_runs.Given as goal
 
 abbrev pub invariant-loop-t : goal.invariant-loop-t

@@ -1,11 +1,8 @@
 -- `keep_lasts` (src/releases.rt) keeps its contract.
-use Prim.Native.Nat.{◌≤◌, ◌-◌}
-use lib.ListN.{length}
+use Prim.Native.Nat.{◌-◌}
 use native.Mathlib.Omega.{arith}
 use mathlib.Core.Path.{◌∙◌}
-use Rattle.admission.specs.Fields.{Bounded}
-use Rattle.admission.specs.Notes.{slots_end}
-use Rattle.admission.proofs.Keeping.{Keeping, keeping-starts, keeping-more, keeping-ends, from-copy}
+use Rattle.admission.proofs.Keeping.{keeping-starts, keeping-more, keeping-ends, from-copy}
 use Rattle.admission.proofs.releases.keep_lasts.Goals as goal
 
 pub loop-l-init : goal.loop-l-init

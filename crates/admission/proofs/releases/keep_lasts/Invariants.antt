@@ -1,11 +1,9 @@
 -- `keep_lasts` (src/releases.rt) keeps its contract: its loops.
 use Prim.Native.Nat.{◌≤◌, ◌-◌}
 use lib.ListN.{length}
-use native.Mathlib.Omega.{arith}
-use mathlib.Core.Path.{◌∙◌}
 use Rattle.admission.specs.Fields.{Bounded}
 use Rattle.admission.specs.Notes.{slots_end}
-use Rattle.admission.proofs.Keeping.{Keeping, keeping-starts, keeping-more, keeping-ends, from-copy}
+use Rattle.admission.proofs.Keeping.{Keeping}
 use Rattle.admission.proofs.releases.keep_lasts.Given as goal
 
 abbrev pub invariant-loop-l : goal.invariant-loop-l

@@ -4,7 +4,7 @@ use mathlib.Core.Path.{◌∙◌, ap, refl, sym}
 use Rattle.bundle.specs.Kinds.{size_by}
 use native.Mathlib.Omega.{arith}
 use Rattle.admission.proofs.Passes.{size-between}
-use Rattle.admission.proofs.Freeing.{Freeing, freeing-starts, freeing-open, freeing-plain, freeing-wrong, freeing-right, freeing-ends, wrong-after}
+use Rattle.admission.proofs.Freeing.{freeing-starts, freeing-open, freeing-plain, freeing-wrong, freeing-right, freeing-ends, wrong-after}
 use Rattle.admission.proofs.releases.wrong_release.Goals as goal
 
 pub loop-at-init : goal.loop-at-init

@@ -1,6 +1,6 @@
 -- `not_once` (src/rules.rt) keeps its contract.
-use Prim.Native.Nat.{◌-◌, ◌≤◌}
-use Rattle.admission.proofs.Ruled.{Onces, once-found, once_more, once-none, once-starts}
+use Prim.Native.Nat.{◌-◌}
+use Rattle.admission.proofs.Ruled.{once-found, once_more, once-none, once-starts}
 use native.Mathlib.Omega.{arith}
 use Rattle.admission.proofs.rules.not_once.Goals as goal
 

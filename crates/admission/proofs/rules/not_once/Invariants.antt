@@ -1,7 +1,6 @@
 -- `not_once` (src/rules.rt) keeps its contract: its loops.
 use Prim.Native.Nat.{◌-◌, ◌≤◌}
-use Rattle.admission.proofs.Ruled.{Onces, once-found, once_more, once-none, once-starts}
-use native.Mathlib.Omega.{arith}
+use Rattle.admission.proofs.Ruled.{Onces}
 use Rattle.admission.proofs.rules.not_once.Given as goal
 
 abbrev pub invariant-loop-t : goal.invariant-loop-t

@@ -1,7 +1,7 @@
 -- `wrong_message` (src/rules.rt) keeps its contract.
-use Prim.Native.Nat.{◌-◌, ◌≤◌}
+use Prim.Native.Nat.{◌-◌}
 use native.Mathlib.Omega.{arith}
-use Rattle.admission.proofs.Ruled.{Clear, clear-found, clear-more, clear_none, clear-start}
+use Rattle.admission.proofs.Ruled.{clear-found, clear-more, clear_none, clear-start}
 use Rattle.admission.proofs.rules.wrong_message.Goals as goal
 
 pub loop-l-init : goal.loop-l-init

@@ -1,7 +1,6 @@
 -- `wrong_message` (src/rules.rt) keeps its contract: its loops.
 use Prim.Native.Nat.{◌-◌, ◌≤◌}
-use native.Mathlib.Omega.{arith}
-use Rattle.admission.proofs.Ruled.{Clear, clear-found, clear-more, clear_none, clear-start}
+use Rattle.admission.proofs.Ruled.{Clear}
 use Rattle.admission.proofs.rules.wrong_message.Given as goal
 
 abbrev pub invariant-loop-l : goal.invariant-loop-l

@@ -1,9 +1,7 @@
 -- `by_bytes` (src/order.rt) keeps its contract.
-use Prim.Native.Nat.{◌-◌, min}
+use Prim.Native.Nat.{◌-◌}
 use native.Mathlib.Omega.{arith}
-use mathlib.Core.Path.{◌≡◌}
-use lib.ListN.{length}
-use Rattle.better.proofs.Bytes.{Alike, alike-none, alike-more, lower, higher, by_length}
+use Rattle.better.proofs.Bytes.{alike-none, alike-more, lower, higher, by_length}
 use Rattle.better.proofs.order.by_bytes.Goals as goal
 
 pub loop-i-init : goal.loop-i-init

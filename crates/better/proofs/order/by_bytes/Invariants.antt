@@ -1,9 +1,8 @@
 -- `by_bytes` (src/order.rt) keeps its contract: its loops.
 use Prim.Native.Nat.{◌-◌, min}
-use native.Mathlib.Omega.{arith}
 use mathlib.Core.Path.{◌≡◌}
 use lib.ListN.{length}
-use Rattle.better.proofs.Bytes.{Alike, alike-none, alike-more, lower, higher, by_length}
+use Rattle.better.proofs.Bytes.{Alike}
 use Rattle.better.proofs.order.by_bytes.Given as goal
 
 abbrev pub invariant-loop-i : goal.invariant-loop-i

@@ -1,8 +1,8 @@
 -- `runners` (src/standings.rt) keeps its contract.
 use Rattle.folds.proofs.Tests.{bit_le}
-use Prim.Native.Nat.{◌-◌, ◌≤◌}
+use Prim.Native.Nat.{◌-◌}
 use native.Mathlib.Omega.{arith}
-use Rattle.better.proofs.Running.{Counted, counted_none, counted-more, counted-all}
+use Rattle.better.proofs.Running.{counted_none, counted-more, counted-all}
 use Rattle.better.proofs.standings.runners.Goals as goal
 
 pub loop-k-init : goal.loop-k-init

@@ -1,8 +1,6 @@
 -- `runners` (src/standings.rt) keeps its contract: its loops.
-use Rattle.folds.proofs.Tests.{bit_le}
 use Prim.Native.Nat.{◌-◌, ◌≤◌}
-use native.Mathlib.Omega.{arith}
-use Rattle.better.proofs.Running.{Counted, counted_none, counted-more, counted-all}
+use Rattle.better.proofs.Running.{Counted}
 use Rattle.better.proofs.standings.runners.Given as goal
 
 abbrev pub invariant-loop-k : goal.invariant-loop-k

@@ -1,9 +1,7 @@
 -- `runs_task` (src/standings.rt) keeps its contract: its loops.
 use Prim.Native.Nat.{◌-◌}
-use native.Mathlib.Omega.{arith}
-use mathlib.Core.Path.{sym, ap, subst, ◌∙◌}
-use Rattle.stepping_machine.specs.Words.{first_in, kind_in}
-use Rattle.better.proofs.Running.{Passed, passed_none, passed-more, run-found, run_none}
+use Rattle.stepping_machine.specs.Words.{first_in}
+use Rattle.better.proofs.Running.{Passed}
 use Rattle.better.proofs.standings.runs_task.Given as goal
 
 abbrev pub invariant-loop-i : goal.invariant-loop-i

@@ -1,7 +1,6 @@
 -- `bundle_reader::bytes::read` meets its contract.
-use Prim.Native.Nat.{◌-◌, ◌<◌}
-use Rattle.bundle_reader.proofs.Scans.{Scan, claim-on, claim-room, open-on, open-room, refused-at, scan-starts, step-on}
-use lib.ListN.{length}
+use Prim.Native.Nat.{◌-◌}
+use Rattle.bundle_reader.proofs.Scans.{claim-on, claim-room, open-on, open-room, refused-at, scan-starts, step-on}
 use native.Mathlib.Omega.{arith}
 use Rattle.bundle_reader.proofs.bytes.read.Goals as goal
 

@@ -1,8 +1,7 @@
 -- `bundle_reader::bytes::read` meets its contract: its loops.
 use Prim.Native.Nat.{◌-◌, ◌<◌}
-use Rattle.bundle_reader.proofs.Scans.{Scan, claim-on, claim-room, open-on, open-room, refused-at, scan-starts, step-on}
+use Rattle.bundle_reader.proofs.Scans.{Scan}
 use lib.ListN.{length}
-use native.Mathlib.Omega.{arith}
 use Rattle.bundle_reader.proofs.bytes.read.Given as goal
 
 abbrev pub invariant-loop-size : goal.invariant-loop-size

@@ -1,7 +1,7 @@
 -- `bundle::values::copy` meets its contract.
 use Prim.Native.Nat.{◌-◌}
-use Rattle.bundle_writer.proofs.Copying.{Copying, copy-long, copying-ends, copying-long, copying-on, copying-room, copying-starts}
-use lib.ListN.{length, length-set}
+use Rattle.bundle_writer.proofs.Copying.{copy-long, copying-ends, copying-long, copying-on, copying-room, copying-starts}
+use lib.ListN.{length-set}
 use native.Mathlib.Omega.{arith}
 use Rattle.bundle_writer.proofs.values.copy.Goals as goal
 

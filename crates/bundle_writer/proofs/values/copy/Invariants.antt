@@ -1,8 +1,7 @@
 -- `bundle::values::copy` meets its contract: its loops.
 use Prim.Native.Nat.{◌-◌}
-use Rattle.bundle_writer.proofs.Copying.{Copying, copy-long, copying-ends, copying-long, copying-on, copying-room, copying-starts}
-use lib.ListN.{length, length-set}
-use native.Mathlib.Omega.{arith}
+use Rattle.bundle_writer.proofs.Copying.{Copying}
+use lib.ListN.{length}
 use Rattle.bundle_writer.proofs.values.copy.Given as goal
 
 abbrev pub invariant-loop-at : goal.invariant-loop-at

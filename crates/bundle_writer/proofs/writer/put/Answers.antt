@@ -1,7 +1,7 @@
 -- `bundle::writer::put` meets its contract.
 use Prim.Native.Nat.{◌-◌}
-use Rattle.bundle_writer.proofs.Plain.{Putting, putting-ends, putting-last, putting-long, putting-next, putting-on, putting-starts}
-use lib.ListN.{length, length-set}
+use Rattle.bundle_writer.proofs.Plain.{putting-ends, putting-last, putting-long, putting-next, putting-on, putting-starts}
+use lib.ListN.{length-set}
 use mathlib.Core.Path.{◌∙◌}
 use native.Mathlib.Omega.{arith}
 use Rattle.bundle_writer.proofs.writer.put.Goals as goal

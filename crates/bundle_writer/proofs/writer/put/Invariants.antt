@@ -1,9 +1,7 @@
 -- `bundle::writer::put` meets its contract: its loops.
 use Prim.Native.Nat.{◌-◌}
-use Rattle.bundle_writer.proofs.Plain.{Putting, putting-ends, putting-last, putting-long, putting-next, putting-on, putting-starts}
-use lib.ListN.{length, length-set}
-use mathlib.Core.Path.{◌∙◌}
-use native.Mathlib.Omega.{arith}
+use Rattle.bundle_writer.proofs.Plain.{Putting}
+use lib.ListN.{length}
 use Rattle.bundle_writer.proofs.writer.put.Given as goal
 
 abbrev pub invariant-loop-i : goal.invariant-loop-i

@@ -1,9 +1,7 @@
 -- `refusal` (src/writer.rt) keeps its contract.
 use Prim.Native.Nat.{◌-◌}
 use mathlib.Core.Path.{◌∙◌, sym}
-use lib.ListN.{length}
 use native.Mathlib.Omega.{arith}
-use Rattle.bundle_writer.specs.Judges.{Judges}
 use Rattle.bundle_writer.proofs.Judging.{judges-start, judges-cut, judges-bare, judges-long}
 use Rattle.bundle_writer.proofs.writer.refusal.Goals as goal
 

@@ -1,9 +1,6 @@
 -- `latest` (src/whole.rt) keeps its contract.
-use Prim.Native.Nat.{◌-◌, ◌≤◌}
-use Rattle.stepping_machine.specs.Words.{clock_in}
+use Prim.Native.Nat.{◌-◌}
 use Rattle.checker.proofs.Closing.{latest-is, latest-more, latest-none}
-use Rattle.folds.specs.Folds.{greatest}
-use mathlib.Core.Path.{◌≡◌}
 use native.Mathlib.Omega.{arith}
 use Rattle.checker.proofs.whole.latest.Goals as goal
 

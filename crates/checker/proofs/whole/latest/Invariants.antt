@@ -1,10 +1,8 @@
 -- `latest` (src/whole.rt) keeps its contract: its loops.
 use Prim.Native.Nat.{◌-◌, ◌≤◌}
 use Rattle.stepping_machine.specs.Words.{clock_in}
-use Rattle.checker.proofs.Closing.{latest-is, latest-more, latest-none}
 use Rattle.folds.specs.Folds.{greatest}
 use mathlib.Core.Path.{◌≡◌}
-use native.Mathlib.Omega.{arith}
 use Rattle.checker.proofs.whole.latest.Given as goal
 
 abbrev pub invariant-loop-k : goal.invariant-loop-k

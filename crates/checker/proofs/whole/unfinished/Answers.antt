@@ -1,8 +1,7 @@
 -- `unfinished` (src/whole.rt) keeps its contract.
-use Rattle.checker.proofs.Closing.{Finished, finished-all, finished-found, finished-more, finished-none}
-use Prim.Native.Nat.{◌-◌, ◌≤◌}
+use Rattle.checker.proofs.Closing.{finished-all, finished-found, finished-more, finished-none}
+use Prim.Native.Nat.{◌-◌}
 use native.Mathlib.Omega.{arith}
-use Rattle.stepping_machine.specs.Layout.{count}
 use Rattle.checker.proofs.whole.unfinished.Goals as goal
 
 pub loop-k-init : goal.loop-k-init

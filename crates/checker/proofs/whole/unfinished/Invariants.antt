@@ -1,7 +1,6 @@
 -- `unfinished` (src/whole.rt) keeps its contract: its loops.
-use Rattle.checker.proofs.Closing.{Finished, finished-all, finished-found, finished-more, finished-none}
+use Rattle.checker.proofs.Closing.{Finished}
 use Prim.Native.Nat.{◌-◌, ◌≤◌}
-use native.Mathlib.Omega.{arith}
 use Rattle.stepping_machine.specs.Layout.{count}
 use Rattle.checker.proofs.whole.unfinished.Given as goal
 

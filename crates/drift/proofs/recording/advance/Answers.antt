@@ -1,11 +1,9 @@
 -- `advance` (src/recording.rt) keeps its contract.
-use Prim.Native.Nat.{◌+◌, ◌-◌, ◌≤◌}
+use Prim.Native.Nat.{◌-◌}
 use native.Mathlib.Omega.{arith}
-use mathlib.Core.Path.{◌∙◌, ap, sym}
+use mathlib.Core.Path.{◌∙◌, ap}
 use Rattle.folds.specs.Folds.{bit}
-use Rattle.stepping_machine.specs.Layout as lay
-use Rattle.stepping_machine.proofs.Going.{Advancing, advance-full, advance-more, advance-starts, advance-stops}
-use Rattle.drift.specs.Recording.{NoteIs}
+use Rattle.stepping_machine.proofs.Going.{advance-full, advance-more, advance-starts, advance-stops}
 use Rattle.drift.proofs.Noting.{note-none, note-then, note-as}
 use Rattle.drift.proofs.recording.advance.Goals as goal
 

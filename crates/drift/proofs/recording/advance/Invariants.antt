@@ -1,12 +1,8 @@
 -- `advance` (src/recording.rt) keeps its contract: its loops.
 use Prim.Native.Nat.{◌+◌, ◌-◌, ◌≤◌}
-use native.Mathlib.Omega.{arith}
-use mathlib.Core.Path.{◌∙◌, ap, sym}
-use Rattle.folds.specs.Folds.{bit}
 use Rattle.stepping_machine.specs.Layout as lay
-use Rattle.stepping_machine.proofs.Going.{Advancing, advance-full, advance-more, advance-starts, advance-stops}
+use Rattle.stepping_machine.proofs.Going.{Advancing}
 use Rattle.drift.specs.Recording.{NoteIs}
-use Rattle.drift.proofs.Noting.{note-none, note-then, note-as}
 use Rattle.drift.proofs.recording.advance.Given as goal
 
 abbrev pub invariant-loop-m : goal.invariant-loop-m

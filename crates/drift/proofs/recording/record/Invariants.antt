@@ -1,11 +1,8 @@
 -- `record` (src/recording.rt) keeps its contract: its loops.
 use Prim.Native.Nat.{◌+◌, ◌*◌, ◌-◌, ◌≤◌}
-use native.Mathlib.Omega.{arith}
-use mathlib.Core.Path.{refl, ◌∙◌}
 use Rattle.stepping_machine.specs.Layout as lay
-use Rattle.stepping_machine.proofs.Going.{Rounds, settle-ends, settle-more, settle-starts, settle-stops}
+use Rattle.stepping_machine.proofs.Going.{Rounds}
 use Rattle.drift.specs.Recording.{NoteIs}
-use Rattle.drift.proofs.Noting.{note-none, note-then, note-as}
 use Rattle.drift.proofs.recording.record.Given as goal
 
 abbrev pub invariant-loop-rounds : goal.invariant-loop-rounds

@@ -1,8 +1,7 @@
 -- `round` (src/recording.rt) keeps its contract.
-use Prim.Native.Nat.{◌+◌, ◌-◌, ◌≤◌}
+use Prim.Native.Nat.{◌-◌}
 use native.Mathlib.Omega.{arith}
-use Rattle.stepping_machine.proofs.Going.{Rounding, round-ends, round-more, round-starts}
-use Rattle.drift.specs.Recording.{NoteIs}
+use Rattle.stepping_machine.proofs.Going.{round-ends, round-more, round-starts}
 use Rattle.drift.proofs.Noting.{note-none, note-then, note-as}
 use Rattle.drift.proofs.recording.round.Goals as goal
 

@@ -1,9 +1,7 @@
 -- `round` (src/recording.rt) keeps its contract: its loops.
 use Prim.Native.Nat.{◌+◌, ◌-◌, ◌≤◌}
-use native.Mathlib.Omega.{arith}
-use Rattle.stepping_machine.proofs.Going.{Rounding, round-ends, round-more, round-starts}
+use Rattle.stepping_machine.proofs.Going.{Rounding}
 use Rattle.drift.specs.Recording.{NoteIs}
-use Rattle.drift.proofs.Noting.{note-none, note-then, note-as}
 use Rattle.drift.proofs.recording.round.Given as goal
 
 abbrev pub invariant-loop-k : goal.invariant-loop-k

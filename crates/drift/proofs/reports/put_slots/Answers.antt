@@ -1,11 +1,10 @@
 -- `put_slots` (src/reports.rt) keeps its contract.
-use Prim.Native.Nat.{◌-◌, ◌≤◌}
+use Prim.Native.Nat.{◌-◌}
 use native.Mathlib.Omega.{arith}
-use mathlib.Core.Path.{◌≡◌, refl, ◌∙◌, ap}
+use mathlib.Core.Path.{refl, ◌∙◌, ap}
 use lib.ListN.{length}
-use Rattle.numbers.specs.Number.{stored, number_bytes}
+use Rattle.numbers.specs.Number.{number_bytes}
 use Rattle.numbers.proofs.Laws.{length-stored}
-use Rattle.drift.specs.Reporting.{slot_bytes}
 use Rattle.drift.proofs.Putting.{slots-none, slots-more, slots_end}
 use Rattle.drift.proofs.reports.put_slots.Goals as goal
 

@@ -1,12 +1,9 @@
 -- `put_slots` (src/reports.rt) keeps its contract: its loops.
 use Prim.Native.Nat.{◌-◌, ◌≤◌}
-use native.Mathlib.Omega.{arith}
-use mathlib.Core.Path.{◌≡◌, refl, ◌∙◌, ap}
+use mathlib.Core.Path.{◌≡◌}
 use lib.ListN.{length}
-use Rattle.numbers.specs.Number.{stored, number_bytes}
-use Rattle.numbers.proofs.Laws.{length-stored}
+use Rattle.numbers.specs.Number.{stored}
 use Rattle.drift.specs.Reporting.{slot_bytes}
-use Rattle.drift.proofs.Putting.{slots-none, slots-more, slots_end}
 use Rattle.drift.proofs.reports.put_slots.Given as goal
 
 abbrev pub invariant-loop-t : goal.invariant-loop-t

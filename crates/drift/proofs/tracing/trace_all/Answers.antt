@@ -1,6 +1,6 @@
 -- `trace_all` (src/tracing.rt) keeps its contract.
 use native.Mathlib.Omega.{arith}
-use Rattle.drift.proofs.Backwards.{Tracing, tracing-starts, tracing-more, tracing-ends}
+use Rattle.drift.proofs.Backwards.{tracing-starts, tracing-more, tracing-ends}
 use Rattle.drift.proofs.tracing.trace_all.Goals as goal
 
 pub loop-i-init : goal.loop-i-init

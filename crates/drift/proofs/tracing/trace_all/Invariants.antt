@@ -1,6 +1,5 @@
 -- `trace_all` (src/tracing.rt) keeps its contract: its loops.
-use native.Mathlib.Omega.{arith}
-use Rattle.drift.proofs.Backwards.{Tracing, tracing-starts, tracing-more, tracing-ends}
+use Rattle.drift.proofs.Backwards.{Tracing}
 use Rattle.drift.proofs.tracing.trace_all.Given as goal
 
 abbrev pub invariant-loop-i : goal.invariant-loop-i

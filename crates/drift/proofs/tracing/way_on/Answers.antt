@@ -1,5 +1,4 @@
 -- `way_on` (src/tracing.rt) keeps its contract.
-use native.Mathlib.Omega.{arith}
 use Rattle.drift.proofs.Backward.{way-none, way-some}
 use Rattle.drift.proofs.tracing.way_on.Goals as goal
 

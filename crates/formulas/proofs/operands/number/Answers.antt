@@ -1,10 +1,10 @@
 -- `number` (src/operands.rt) keeps its contract.
 use Prim.Native.Nat.{◌-◌}
-use lib.ListN.{length, get_or}
+use lib.ListN.{get_or}
 use native.Mathlib.Omega.{arith}
 use mathlib.Core.Path.{sym, ◌∙◌}
 use Rattle.formulas.proofs.Bytes.{digit-true, digit-range}
-use Rattle.formulas.proofs.Counts.{Counting, counting-none, counting_more, bounded, number_read}
+use Rattle.formulas.proofs.Counts.{counting-none, counting_more, bounded, number_read}
 use Rattle.formulas.proofs.operands.number.Goals as goal
 
 pub loop-value-init : goal.loop-value-init

@@ -1,10 +1,7 @@
 -- `number` (src/operands.rt) keeps its contract: its loops.
 use Prim.Native.Nat.{◌-◌}
-use lib.ListN.{length, get_or}
-use native.Mathlib.Omega.{arith}
-use mathlib.Core.Path.{sym, ◌∙◌}
-use Rattle.formulas.proofs.Bytes.{digit-true, digit-range}
-use Rattle.formulas.proofs.Counts.{Counting, counting-none, counting_more, bounded, number_read}
+use lib.ListN.{length}
+use Rattle.formulas.proofs.Counts.{Counting}
 use Rattle.formulas.proofs.operands.number.Given as goal
 
 abbrev pub invariant-loop-value : goal.invariant-loop-value

@@ -1,5 +1,5 @@
 -- `put_link` (src/bytes.rt) keeps its contract.
-use Rattle.std.proofs.Common.{◌∙◌, arith, rules}
+use Rattle.std.proofs.Common.{◌∙◌, arith}
 use Rattle.sheet.specs.Tables.{link_in}
 use Rattle.sheet.proofs.Rows.{tasks-in, source_in, target-in, cost-in, bytes-in}
 use Rattle.generator.proofs.Stores.{link-bytes}

@@ -1,6 +1,5 @@
 -- `put_links` (src/bytes.rt) keeps its contract.
-use Rattle.std.proofs.Common.{◌≡◌, ◌-◌, ◌≤◌, List, length, refl, ap, ◌∙◌, arith, rules}
-use Rattle.folds.specs.Folds.{listed}
+use Rattle.std.proofs.Common.{◌-◌, List, refl, ap, ◌∙◌, arith}
 use Rattle.numbers.specs.Number.{stored}
 use Rattle.sheet.specs.Sheet.{Link}
 use Rattle.sheet.specs.Tables.{link_in}

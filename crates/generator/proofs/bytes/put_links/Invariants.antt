@@ -1,12 +1,9 @@
 -- `put_links` (src/bytes.rt) keeps its contract: its loops.
-use Rattle.std.proofs.Common.{◌≡◌, ◌-◌, ◌≤◌, List, length, refl, ap, ◌∙◌, arith, rules}
+use Rattle.std.proofs.Common.{◌≡◌, ◌-◌, ◌≤◌, length}
 use Rattle.folds.specs.Folds.{listed}
 use Rattle.numbers.specs.Number.{stored}
-use Rattle.sheet.specs.Sheet.{Link}
 use Rattle.sheet.specs.Tables.{link_in}
 use Rattle.sheet.specs.Writing.{link_bytes}
-use Rattle.sheet.proofs.Rows.{all-links}
-use Rattle.sheet_writer.proofs.Stores.{links-next, links-none}
 use Rattle.generator.proofs.bytes.put_links.Given as goal
 
 abbrev pub invariant-loop-l : goal.invariant-loop-l

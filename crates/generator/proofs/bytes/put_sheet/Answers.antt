@@ -1,5 +1,5 @@
 -- `put_sheet` (src/bytes.rt) keeps its contract.
-use Rattle.std.proofs.Common.{ℕ, Bool, ◌∙◌, ap₂, arith, length-set, rules}
+use Rattle.std.proofs.Common.{ℕ, Bool, ◌∙◌, ap₂, arith, length-set}
 use Rattle.numbers.specs.Number.{stored}
 use Rattle.numbers.proofs.Laws.{stored-lent}
 use Rattle.sheet.specs.Tables.{sheet_in}

@@ -1,5 +1,5 @@
 -- `put_task` (src/bytes.rt) keeps its contract.
-use Rattle.std.proofs.Common.{◌∙◌, rules}
+use Rattle.std.proofs.Common.{◌∙◌}
 use Rattle.sheet.specs.Tables.{task_in}
 use Rattle.sheet.proofs.Rows.{work_in, store_in_lem}
 use Rattle.generator.proofs.Stores.{task-bytes}

@@ -1,12 +1,9 @@
 -- `put_tasks` (src/bytes.rt) keeps its contract: its loops.
-use Rattle.std.proofs.Common.{◌≡◌, ◌-◌, ◌≤◌, List, length, refl, ap, ◌∙◌, arith, rules}
+use Rattle.std.proofs.Common.{◌≡◌, ◌-◌, ◌≤◌, length}
 use Rattle.folds.specs.Folds.{listed}
 use Rattle.numbers.specs.Number.{stored}
-use Rattle.sheet.specs.Sheet.{Task}
 use Rattle.sheet.specs.Tables.{task_in}
 use Rattle.sheet.specs.Writing.{task_bytes}
-use Rattle.sheet.proofs.Rows.{all-tasks}
-use Rattle.sheet_writer.proofs.Stores.{tasks-next, tasks-none}
 use Rattle.generator.proofs.bytes.put_tasks.Given as goal
 
 abbrev pub invariant-loop-i : goal.invariant-loop-i

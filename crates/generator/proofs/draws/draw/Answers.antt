@@ -1,5 +1,4 @@
 -- `draw` (src/draws.rt) keeps its contract.
-use Rattle.std.proofs.Common.{rules}
 use Rattle.generator.proofs.draws.draw.Goals as goal
 
 pub returns : goal.returns

@@ -1,6 +1,5 @@
 -- `next` (src/draws.rt) keeps its contract.
 use Rattle.generator.proofs.Steps.{next-is}
-use Rattle.std.proofs.Common.{rules}
 use Rattle.generator.proofs.draws.next.Goals as goal
 
 pub returns : goal.returns

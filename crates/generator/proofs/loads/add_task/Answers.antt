@@ -1,6 +1,5 @@
 -- `add_task` (src/loads.rt) keeps its contract.
 use Rattle.generator.proofs.Steps.{task-put}
-use Rattle.std.proofs.Common.{rules}
 use Rattle.generator.proofs.loads.add_task.Goals as goal
 
 pub returns : goal.returns

@@ -1,5 +1,5 @@
 -- `add_try` (src/loads.rt) keeps its contract.
-use Rattle.std.proofs.Common.{ℕ, ◌%◌, ◌<◌, get_or, subst, mod-lt, rules}
+use Rattle.std.proofs.Common.{ℕ, ◌%◌, ◌<◌, get_or, subst, mod-lt}
 use Rattle.sheet.specs.Sheet.{Link}
 use Rattle.generator.specs.Filled.{TriedIn}
 use Rattle.generator.proofs.Steps.{fourth-states, try-is}

@@ -1,6 +1,5 @@
 -- `fill` (src/loads.rt) keeps its contract.
-use Rattle.std.proofs.Common.{◌-◌, ◌≤◌, sym, ◌∙◌, arith, rules}
-use Rattle.generator.specs.Filled.{Trying}
+use Rattle.std.proofs.Common.{◌-◌, sym, ◌∙◌, arith}
 use Rattle.generator.proofs.Fills.{trying-none, trying-more, trying-few, all-tried}
 use Rattle.generator.proofs.loads.fill.Goals as goal
 

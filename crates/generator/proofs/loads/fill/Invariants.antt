@@ -1,7 +1,6 @@
 -- `fill` (src/loads.rt) keeps its contract: its loops.
-use Rattle.std.proofs.Common.{◌-◌, ◌≤◌, sym, ◌∙◌, arith, rules}
+use Rattle.std.proofs.Common.{◌-◌, ◌≤◌}
 use Rattle.generator.specs.Filled.{Trying}
-use Rattle.generator.proofs.Fills.{trying-none, trying-more, trying-few, all-tried}
 use Rattle.generator.proofs.loads.fill.Given as goal
 
 abbrev pub invariant-loop-j : goal.invariant-loop-j

@@ -1,7 +1,6 @@
 -- `put_tasks` (src/loads.rt) keeps its contract.
 use Rattle.generator.proofs.Fills.{tasked-none, tasked-more, all-tasked}
-use Rattle.std.proofs.Common.{◌-◌, ◌≤◌, ◌∙◌, arith, rules}
-use Rattle.generator.specs.Filled.{Tasked}
+use Rattle.std.proofs.Common.{◌-◌, ◌∙◌, arith}
 use Rattle.generator.proofs.loads.put_tasks.Goals as goal
 
 pub loop-i-init : goal.loop-i-init

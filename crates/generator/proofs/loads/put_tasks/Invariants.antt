@@ -1,6 +1,5 @@
 -- `put_tasks` (src/loads.rt) keeps its contract: its loops.
-use Rattle.generator.proofs.Fills.{tasked-none, tasked-more, all-tasked}
-use Rattle.std.proofs.Common.{◌-◌, ◌≤◌, ◌∙◌, arith, rules}
+use Rattle.std.proofs.Common.{◌-◌, ◌≤◌}
 use Rattle.generator.specs.Filled.{Tasked}
 use Rattle.generator.proofs.loads.put_tasks.Given as goal
 

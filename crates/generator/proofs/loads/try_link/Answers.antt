@@ -1,5 +1,5 @@
 -- `try_link` (src/loads.rt) keeps its contract.
-use Rattle.std.proofs.Common.{sym, ◌∙◌, arith, rules}
+use Rattle.std.proofs.Common.{sym, ◌∙◌, arith}
 use Rattle.sheet.specs.Tables.{sheet_in}
 use Rattle.sheet.specs.Sheet.{Link}
 use Rattle.generator.proofs.Fills.{left_alone, not-later, there, joined_by, added}

@@ -1,7 +1,5 @@
 -- `empty` (src/search.rt) keeps its contract.
-use Rattle.topological_order.specs.Words.{Outside}
-use Rattle.topological_order.specs.Peeling.{Emptied}
-use Prim.Native.Nat.{◌-◌, ◌≤◌}
+use Prim.Native.Nat.{◌-◌}
 use native.Mathlib.Omega.{arith}
 use Rattle.topological_order.proofs.Frames.{outside-none, outside_set}
 use Rattle.levelling.proofs.Spreads.{emptied-at, emptied-more, emptied-none}

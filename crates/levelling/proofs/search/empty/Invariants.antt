@@ -2,9 +2,6 @@
 use Rattle.topological_order.specs.Words.{Outside}
 use Rattle.topological_order.specs.Peeling.{Emptied}
 use Prim.Native.Nat.{◌-◌, ◌≤◌}
-use native.Mathlib.Omega.{arith}
-use Rattle.topological_order.proofs.Frames.{outside-none, outside_set}
-use Rattle.levelling.proofs.Spreads.{emptied-at, emptied-more, emptied-none}
 use Rattle.levelling.proofs.search.empty.Given as goal
 
 abbrev pub invariant-loop-t : goal.invariant-loop-t

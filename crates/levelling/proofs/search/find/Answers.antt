@@ -1,14 +1,10 @@
 -- `find` (src/search.rt) keeps its contract.
-use Rattle.topological_order.specs.Words.{Outside}
-use Prim.Native.Nat.{◌-◌, ◌≤◌}
-use mathlib.Core.Path.{◌∙◌, ◌≡◌}
+use Prim.Native.Nat.{◌-◌}
+use mathlib.Core.Path.{◌∙◌}
 use native.Mathlib.Omega.{arith}
 use Rattle.topological_order.proofs.Frames.{outside-none, outside_trans}
 use Rattle.levelling.proofs.Spreads.{find-asks, find-done, find-hit, find-miss, find-start}
-use Rattle.folds.specs.Folds.{first}
-use mathlib.Core.Option.{none}
 use Rattle.graph.specs.Graph.{on_circle}
-use Rattle.sheet.specs.Tables.{sheet_in}
 use Rattle.levelling.proofs.search.find.Goals as goal
 
 pub loop-t-init : goal.loop-t-init

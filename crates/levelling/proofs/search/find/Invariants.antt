@@ -1,10 +1,7 @@
 -- `find` (src/search.rt) keeps its contract: its loops.
 use Rattle.topological_order.specs.Words.{Outside}
 use Prim.Native.Nat.{◌-◌, ◌≤◌}
-use mathlib.Core.Path.{◌∙◌, ◌≡◌}
-use native.Mathlib.Omega.{arith}
-use Rattle.topological_order.proofs.Frames.{outside-none, outside_trans}
-use Rattle.levelling.proofs.Spreads.{find-asks, find-done, find-hit, find-miss, find-start}
+use mathlib.Core.Path.{◌≡◌}
 use Rattle.folds.specs.Folds.{first}
 use mathlib.Core.Option.{none}
 use Rattle.graph.specs.Graph.{on_circle}

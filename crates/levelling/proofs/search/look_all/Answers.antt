@@ -1,13 +1,9 @@
 -- `look_all` (src/search.rt) keeps its contract.
-use Rattle.topological_order.specs.Words.{Outside}
-use Rattle.topological_order.specs.Peeling.{Searched}
 use Prim.Native.Nat.{◌-◌}
 use mathlib.Core.Path.{◌∙◌}
 use native.Mathlib.Omega.{arith}
 use Rattle.topological_order.proofs.Frames.{outside-none, outside_trans}
 use Rattle.levelling.proofs.Spreads.{look-asks, look-back, look-ends, look-index, look-on}
-use Rattle.sheet.specs.Tables.{sheet_in}
-use Rattle.sheet.specs.Sheet.{task_count}
 use Rattle.levelling.proofs.search.look_all.Goals as goal
 
 pub loop-i-init : goal.loop-i-init

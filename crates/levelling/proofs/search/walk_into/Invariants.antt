@@ -1,9 +1,6 @@
 -- `walk_into` (src/search.rt) keeps its contract: its loops.
-use Rattle.levelling.proofs.Spreads.{SpreadTo, spread-asks, spread-closes, spread-ends, spread-goes, spread-is-back, spread-is-on, spread-less, spread-source, spread-starts}
+use Rattle.levelling.proofs.Spreads.{SpreadTo}
 use Prim.Native.Nat.{◌-◌}
-use native.Mathlib.Omega.{arith}
-use Rattle.topological_order.proofs.Frames.{outside-held, outside_trans}
-use Rattle.topological_order.proofs.Turns.{next-asks}
 use Rattle.levelling.proofs.search.walk_into.Given as goal
 
 abbrev pub invariant-loop-l : goal.invariant-loop-l

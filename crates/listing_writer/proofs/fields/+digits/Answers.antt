@@ -3,7 +3,6 @@ use Rattle.listing_writer.proofs.Digits.{decimal-small, length-large, decimal-le
 use lib.ListN.{length}
 use mathlib.Core.Path.{sym, ap}
 use native.Mathlib.Omega.{arith}
-use Prim.Native.Nat.{ℕ, ◌<◌}
 use Rattle.listing_writer.proofs.fields.+digits.Goals as goal
 
 pub returns-then-n-lt10 : goal.returns-then-n-lt10
@@ -16,7 +15,7 @@ pub overflow_add-result : goal.overflow_add-result
 overflow_add-result t c = omega (arith, c.digits.ensures.1)
 
 pub returns : goal.returns
-returns t c = 
+returns t c =
     let n = c.args.n in
     let e = length-large n c.if-n-lt10.false (omega (arith, c.ranges.n)) in
     (omega (arith, c.digits.ensures.0, e), omega (arith, c.digits.ensures.0, e, decimal-length n))

@@ -2,7 +2,6 @@
 use Rattle.listing_writer.proofs.Puts.{high-room, low-room, put-more}
 use mathlib.Core.Path.{◌∙◌}
 use native.Mathlib.Omega.{arith}
-use Prim.Native.Nat.{ℕ, ◌<◌}
 use Rattle.listing_writer.proofs.fields.+put_long.Goals as goal
 
 pub put_short-requires : goal.put_short-requires

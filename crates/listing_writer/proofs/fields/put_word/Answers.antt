@@ -1,9 +1,8 @@
 -- `listing_writer::fields::put_word` meets its contract.
-use Rattle.numbers.specs.Number.{Put}
 use Rattle.listing_writer.proofs.Puts.{word_none, word_more, word-whole}
-use lib.ListN.{length, take, length-set}
-use Prim.Native.Nat.{◌+◌, ◌-◌, ◌≤◌}
-use mathlib.Core.Path.{◌≡◌, refl}
+use lib.ListN.{length-set}
+use Prim.Native.Nat.{◌-◌}
+use mathlib.Core.Path.{refl}
 use native.Mathlib.Omega.{arith}
 use Rattle.listing_writer.proofs.fields.put_word.Goals as goal
 

@@ -1,10 +1,8 @@
 -- `listing_writer::fields::put_word` meets its contract: its loops.
 use Rattle.numbers.specs.Number.{Put}
-use Rattle.listing_writer.proofs.Puts.{word_none, word_more, word-whole}
-use lib.ListN.{length, take, length-set}
+use lib.ListN.{length, take}
 use Prim.Native.Nat.{◌+◌, ◌-◌, ◌≤◌}
-use mathlib.Core.Path.{◌≡◌, refl}
-use native.Mathlib.Omega.{arith}
+use mathlib.Core.Path.{◌≡◌}
 use Rattle.listing_writer.proofs.fields.put_word.Given as goal
 
 abbrev pub invariant-loop-i : goal.invariant-loop-i

@@ -1,12 +1,9 @@
 -- `listing_writer::rows::needed` meets its contract.
 use native.Mathlib.Omega.{arith}
-use Prim.Native.Nat.{◌+◌, ◌-◌, ◌*◌, ◌≤◌}
-use mathlib.Core.Path.{◌≡◌}
-use lib.ListN.{length}
+use Prim.Native.Nat.{◌-◌}
 use Rattle.listing.specs.Listing.{task_line}
 use Rattle.schedule.specs.Layout.{schedule_in}
 use Rattle.sheet.specs.Tables.{sheet_in}
-use Rattle.folds.specs.Folds.{gather}
 use Rattle.listing_writer.proofs.Parts.{needed-none, needed-more, needed-all}
 use Rattle.listing_writer.proofs.rows.needed.Goals as goal
 
@@ -23,8 +20,7 @@ pub loop-t-preserved : goal.loop-t-preserved
 loop-t-preserved c = (omega arith, omega (arith, c.loop-t.invariant.1, c.task_length-n.ensures.1), needed-more (task_line (schedule_in c.args.w.now)) _ _ _ _ c.loop-t.invariant.2 c.task_length-n.ensures.0)
 
 pub returns : goal.returns
-returns c =
-    (
-    needed-all (sheet_in c.args.w.now) (schedule_in c.args.w.now) _ _ _ c.plan_length-n.ensures.0 c.loop-t.invariant.2 (omega (arith, c.loop-t.invariant.0, c.tasks-tasks.ensures.0)),
-    omega (arith, c.loop-t.invariant.0, c.loop-t.invariant.1, c.tasks-tasks.ensures.1),
-    )
+returns c = (
+  needed-all (sheet_in c.args.w.now) (schedule_in c.args.w.now) _ _ _ c.plan_length-n.ensures.0 c.loop-t.invariant.2 (omega (arith, c.loop-t.invariant.0, c.tasks-tasks.ensures.0)),
+  omega (arith, c.loop-t.invariant.0, c.loop-t.invariant.1, c.tasks-tasks.ensures.1),
+)

@@ -1,13 +1,10 @@
 -- `listing_writer::rows::needed` meets its contract: its loops.
-use native.Mathlib.Omega.{arith}
 use Prim.Native.Nat.{◌+◌, ◌-◌, ◌*◌, ◌≤◌}
 use mathlib.Core.Path.{◌≡◌}
 use lib.ListN.{length}
 use Rattle.listing.specs.Listing.{task_line}
 use Rattle.schedule.specs.Layout.{schedule_in}
-use Rattle.sheet.specs.Tables.{sheet_in}
 use Rattle.folds.specs.Folds.{gather}
-use Rattle.listing_writer.proofs.Parts.{needed-none, needed-more, needed-all}
 use Rattle.listing_writer.proofs.rows.needed.Given as goal
 
 abbrev pub invariant-loop-t : goal.invariant-loop-t

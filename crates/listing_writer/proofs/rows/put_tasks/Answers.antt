@@ -1,13 +1,10 @@
 -- `listing_writer::rows::put_tasks` meets its contract.
-use Prim.Native.Nat.{◌-◌, ◌≤◌}
+use Prim.Native.Nat.{◌-◌}
 use native.Mathlib.Omega.{arith}
-use mathlib.Core.Path.{◌≡◌, refl, ◌∙◌}
-use lib.ListN.{length}
+use mathlib.Core.Path.{refl, ◌∙◌}
 use Rattle.listing.specs.Listing.{task_line}
 use Rattle.schedule.specs.Layout.{schedule_in}
-use Rattle.folds.specs.Folds.{gather}
 use Rattle.listing_writer.proofs.Parts.{tasks-none, tasks-more, tasks-all, tasks-room}
-use Rattle.numbers.specs.Number.{Put}
 use Rattle.listing_writer.proofs.rows.put_tasks.Goals as goal
 
 pub tasks-n-requires : goal.tasks-n-requires

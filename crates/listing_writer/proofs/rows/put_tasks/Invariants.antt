@@ -1,12 +1,10 @@
 -- `listing_writer::rows::put_tasks` meets its contract: its loops.
 use Prim.Native.Nat.{◌-◌, ◌≤◌}
-use native.Mathlib.Omega.{arith}
-use mathlib.Core.Path.{◌≡◌, refl, ◌∙◌}
+use mathlib.Core.Path.{◌≡◌}
 use lib.ListN.{length}
 use Rattle.listing.specs.Listing.{task_line}
 use Rattle.schedule.specs.Layout.{schedule_in}
 use Rattle.folds.specs.Folds.{gather}
-use Rattle.listing_writer.proofs.Parts.{tasks-none, tasks-more, tasks-all, tasks-room}
 use Rattle.numbers.specs.Number.{Put}
 use Rattle.listing_writer.proofs.rows.put_tasks.Given as goal
 

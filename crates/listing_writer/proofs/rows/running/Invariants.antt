@@ -1,13 +1,10 @@
 -- `running` (src/rows.rt) keeps its contract: its loops.
-use Prim.Native.Nat.{ℕ, ◌-◌, ◌≤◌, ◌<◌}
-use mathlib.Core.Path.{◌≡◌, ◌∙◌, sym}
-use native.Mathlib.Omega.{arith}
+use Prim.Native.Nat.{◌-◌, ◌≤◌}
+use mathlib.Core.Path.{◌≡◌}
 use Rattle.folds.specs.Folds.{bit, sum}
-use Rattle.folds.proofs.Loops.{sum-zero}
 use Rattle.planner.specs.Placing.{is_open}
 use Rattle.schedule.specs.Layout.{schedule_in}
 use Rattle.sheet.specs.Tables.{sheet_in}
-use Rattle.listing_writer.proofs.Running.{mark-low, count-more, count-end}
 use Rattle.listing_writer.proofs.rows.running.Given as goal
 
 abbrev pub invariant-loop-k : goal.invariant-loop-k

@@ -1,10 +1,9 @@
 -- `runs_of` (src/rows.rt) keeps its contract.
-use Prim.Native.Nat.{ℕ, ◌-◌, ◌≤◌, ◌<◌}
-use mathlib.Core.Path.{◌≡◌, refl, ◌∙◌, sym}
+use Prim.Native.Nat.{ℕ, ◌-◌}
+use mathlib.Core.Path.{refl}
 use native.Mathlib.Omega.{arith}
 use Rattle.folds.proofs.Lists.{get_d_replicate}
-use Rattle.schedule.specs.Layout.{schedule_in}
-use Rattle.listing_writer.proofs.Running.{Marks, marks-none, marks-more, marks-end}
+use Rattle.listing_writer.proofs.Running.{marks-none, marks-more, marks-end}
 use Rattle.listing_writer.proofs.rows.runs_of.Goals as goal
 
 pub loop-t-init : goal.loop-t-init

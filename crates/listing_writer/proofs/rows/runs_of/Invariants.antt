@@ -1,10 +1,7 @@
 -- `runs_of` (src/rows.rt) keeps its contract: its loops.
-use Prim.Native.Nat.{ℕ, ◌-◌, ◌≤◌, ◌<◌}
-use mathlib.Core.Path.{◌≡◌, refl, ◌∙◌, sym}
-use native.Mathlib.Omega.{arith}
-use Rattle.folds.proofs.Lists.{get_d_replicate}
+use Prim.Native.Nat.{◌-◌, ◌≤◌}
 use Rattle.schedule.specs.Layout.{schedule_in}
-use Rattle.listing_writer.proofs.Running.{Marks, marks-none, marks-more, marks-end}
+use Rattle.listing_writer.proofs.Running.{Marks}
 use Rattle.listing_writer.proofs.rows.runs_of.Given as goal
 
 abbrev pub invariant-loop-t : goal.invariant-loop-t

@@ -1,8 +1,7 @@
 -- `of_messages` (src/measuring.rt) keeps its contract.
-use Prim.Native.Nat.{◌*◌, ◌-◌, ◌≤◌}
-use mathlib.Core.Path.{◌≡◌, sym}
+use Prim.Native.Nat.{◌-◌}
+use mathlib.Core.Path.{sym}
 use native.Mathlib.Omega.{arith}
-use Rattle.folds.specs.Folds.{sum}
 use Rattle.folds.proofs.Loops.{sum-at, sum_more, sum-zero}
 use Rattle.schedule.specs.Layout.{schedule_in}
 use Rattle.sheet.specs.Sheet.{link_count}

@@ -1,11 +1,8 @@
 -- `of_messages` (src/measuring.rt) keeps its contract: its loops.
 use Prim.Native.Nat.{◌*◌, ◌-◌, ◌≤◌}
-use mathlib.Core.Path.{◌≡◌, sym}
-use native.Mathlib.Omega.{arith}
+use mathlib.Core.Path.{◌≡◌}
 use Rattle.folds.specs.Folds.{sum}
-use Rattle.folds.proofs.Loops.{sum-at, sum_more, sum-zero}
 use Rattle.schedule.specs.Layout.{schedule_in}
-use Rattle.sheet.specs.Sheet.{link_count}
 use Rattle.sheet.specs.Tables.{sheet_in}
 use Rattle.plan_writer.specs.Bytes.{message_length}
 use Rattle.plan_writer.proofs.measuring.of_messages.Given as goal

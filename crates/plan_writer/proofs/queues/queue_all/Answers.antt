@@ -1,9 +1,9 @@
 -- `queue_all` (src/queues.rt) keeps its contract.
 use native.Mathlib.Omega.{arith}
 use Rattle.schedule.specs.Layout.{schedule_in}
-use Prim.Native.Nat.{ℕ, ◌≤◌}
-use mathlib.Core.Path.{◌≡◌, ◌∙◌, ap, refl, subst, sym}
-use lib.ListN.{length, replicate}
+use Prim.Native.Nat.{ℕ}
+use mathlib.Core.Path.{◌∙◌, ap, refl, subst, sym}
+use lib.ListN.{replicate}
 use Rattle.plan_writer.specs.Queues.{Queued}
 use Rattle.plan_writer.proofs.Queueing.{queued-none}
 use Rattle.plan_writer.proofs.queues.queue_all.Goals as goal

@@ -8,7 +8,7 @@ use Rattle.plan_writer.proofs.Lays.{laid_as}
 use Rattle.sheet.specs.Tables.{sheet_in}
 use Rattle.plan_writer.proofs.Measures.{turn_is}
 use Rattle.plan_writer.proofs.Puts.{filled-all, filled-room}
-use Rattle.plan_writer.proofs.Queueing.{Blocks, blocks-first, blocks_more, turn-stands, turn-task}
+use Rattle.plan_writer.proofs.Queueing.{blocks-first, blocks_more, turn-stands, turn-task}
 use Rattle.plan_writer.proofs.writing.put_blocks.Goals as goal
 
 pub word-i-requires : goal.word-i-requires

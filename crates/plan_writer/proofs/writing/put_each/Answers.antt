@@ -1,11 +1,8 @@
 -- `put_each` (src/writing.rt) keeps its contract.
 use native.Mathlib.Omega.{arith}
 use Rattle.schedule.specs.Layout.{schedule_in}
-use Rattle.sheet.specs.Tables.{sheet_in}
-use Prim.Native.Nat.{◌+◌, ◌-◌, ◌≤◌}
-use lib.ListN.{length}
-use Rattle.plan_writer.specs.Bytes.{open_bytes}
-use Rattle.plan_writer.proofs.Puts.{Filled, filled-all, filled-lent, filled_none, filled-rest, filled-room}
+use Prim.Native.Nat.{◌-◌}
+use Rattle.plan_writer.proofs.Puts.{filled-all, filled-lent, filled_none, filled-rest, filled-room}
 use Rattle.plan_writer.proofs.writing.put_each.Goals as goal
 
 pub loop-k-init : goal.loop-k-init

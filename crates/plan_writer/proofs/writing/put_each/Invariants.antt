@@ -1,11 +1,10 @@
 -- `put_each` (src/writing.rt) keeps its contract: its loops.
-use native.Mathlib.Omega.{arith}
 use Rattle.schedule.specs.Layout.{schedule_in}
 use Rattle.sheet.specs.Tables.{sheet_in}
-use Prim.Native.Nat.{◌+◌, ◌-◌, ◌≤◌}
+use Prim.Native.Nat.{◌-◌, ◌≤◌}
 use lib.ListN.{length}
 use Rattle.plan_writer.specs.Bytes.{open_bytes}
-use Rattle.plan_writer.proofs.Puts.{Filled, filled-all, filled-lent, filled_none, filled-rest, filled-room}
+use Rattle.plan_writer.proofs.Puts.{Filled}
 use Rattle.plan_writer.proofs.writing.put_each.Given as goal
 
 abbrev pub invariant-loop-k : goal.invariant-loop-k

@@ -1,5 +1,5 @@
 -- `put_messages` (src/writing.rt) keeps its contract.
-use Rattle.plan_writer.proofs.Puts.{Putting, putting-done, putting-on, putting-room, putting-starts}
+use Rattle.plan_writer.proofs.Puts.{putting-done, putting-on, putting-room, putting-starts}
 use Prim.Native.Nat.{◌-◌, ◌<◌}
 use native.Mathlib.Omega.{arith}
 use Rattle.plan_writer.proofs.Measures.{chained-of}

@@ -1,9 +1,6 @@
 -- `put_messages` (src/writing.rt) keeps its contract: its loops.
-use Rattle.plan_writer.proofs.Puts.{Putting, putting-done, putting-on, putting-room, putting-starts}
-use Prim.Native.Nat.{◌-◌, ◌<◌}
-use native.Mathlib.Omega.{arith}
-use Rattle.plan_writer.proofs.Measures.{chained-of}
-use Rattle.sheet.specs.Sheet.{link_count}
+use Rattle.plan_writer.proofs.Puts.{Putting}
+use Prim.Native.Nat.{◌-◌}
 use Rattle.schedule.specs.Layout.{schedule_in}
 use Rattle.sheet.specs.Tables.{sheet_in}
 use Rattle.plan_writer.proofs.writing.put_messages.Given as goal

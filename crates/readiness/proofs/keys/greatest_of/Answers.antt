@@ -1,8 +1,7 @@
 -- `greatest_of` (src/lib.rt) keeps its contract.
-use Prim.Native.Nat.{◌+◌, ◌-◌, ◌≤◌, max}
+use Prim.Native.Nat.{◌-◌, max}
 use mathlib.Core.Path.{◌≡◌, ◌∙◌, ap₂, refl, sym}
 use native.Mathlib.Omega.{arith}
-use Rattle.folds.specs.Folds.{greatest}
 use Rattle.folds.proofs.Loops.{greatest-at, greatest-more, greatest-zero}
 use Rattle.readiness.specs.Keys.{key_by}
 use Rattle.readiness.proofs.Blocks.{four_quarters}

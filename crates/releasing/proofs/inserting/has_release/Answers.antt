@@ -1,10 +1,10 @@
 -- `has_release` (src/inserting.rt) keeps its contract.
 use Prim.Native.Nat.{◌-◌}
-use mathlib.Core.Path.{◌∙◌, ap, sym}
+use mathlib.Core.Path.{◌∙◌, ap}
 use native.Mathlib.Omega.{arith}
 use Rattle.bundle.specs.Kinds.{size_by}
 use Rattle.admission.proofs.Passes.{size-between}
-use Rattle.releasing.proofs.Finding.{Finding, finding-starts, finding-found, finding-on, finding-ends}
+use Rattle.releasing.proofs.Finding.{finding-starts, finding-found, finding-on, finding-ends}
 use Rattle.releasing.proofs.inserting.has_release.Goals as goal
 
 pub loop-at-init : goal.loop-at-init

@@ -4,7 +4,7 @@ use mathlib.Core.Path.{◌∙◌, ap, refl, sym}
 use native.Mathlib.Omega.{arith}
 use Rattle.bundle.specs.Kinds.{size_by}
 use Rattle.admission.proofs.Passes.{size-between}
-use Rattle.releasing.proofs.Insertions.{Inserted, insert-starts, first_small, insert-open, insert-command, insert-ends, near, size-of-command}
+use Rattle.releasing.proofs.Insertions.{insert-starts, first_small, insert-open, insert-command, insert-ends, near, size-of-command}
 use Rattle.releasing.proofs.Lays.{lay-long}
 use Rattle.releasing.proofs.inserting.insert.Goals as goal
 

@@ -1,7 +1,7 @@
 -- `put_behind` (src/inserting.rt) keeps its contract. `g` is the loop.
 use native.Mathlib.Omega.{arith}
 use mathlib.Core.Path.{refl}
-use Rattle.releasing.proofs.Emptying.{Emptying, emptying-starts, emptying-small, emptying-more, emptying-less, emptying-ends}
+use Rattle.releasing.proofs.Emptying.{emptying-starts, emptying-small, emptying-more, emptying-less, emptying-ends}
 use Rattle.releasing.proofs.inserting.put_behind.Goals as goal
 
 pub loop-left-init : goal.loop-left-init

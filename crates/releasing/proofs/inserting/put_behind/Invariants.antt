@@ -1,7 +1,5 @@
 -- `put_behind` (src/inserting.rt) keeps its contract: its loops. `g` is the loop.
-use native.Mathlib.Omega.{arith}
-use mathlib.Core.Path.{refl}
-use Rattle.releasing.proofs.Emptying.{Emptying, emptying-starts, emptying-small, emptying-more, emptying-less, emptying-ends}
+use Rattle.releasing.proofs.Emptying.{Emptying}
 use Rattle.releasing.proofs.inserting.put_behind.Given as goal
 
 abbrev pub invariant-loop-left : goal.invariant-loop-left

@@ -1,9 +1,8 @@
 -- `copy` (src/laying.rt) keeps its contract.
-use Prim.Native.Nat.{◌+◌, ◌-◌, ◌≤◌}
-use mathlib.Core.Path.{◌≡◌, sym, ap, ◌∙◌}
+use Prim.Native.Nat.{◌-◌}
+use mathlib.Core.Path.{◌≡◌, sym, ap}
 use native.Mathlib.Omega.{arith}
-use lib.ListN.{length}
-use Rattle.releasing.specs.Inserting.{Lay, part}
+use Rattle.releasing.specs.Inserting.{part}
 use Rattle.releasing.proofs.Lays.{lay-none, lay-as, lay-one, lay-long, part_none, part-more}
 use Rattle.releasing.proofs.laying.copy.Goals as goal
 

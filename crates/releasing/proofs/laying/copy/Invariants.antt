@@ -1,10 +1,7 @@
 -- `copy` (src/laying.rt) keeps its contract: its loops.
 use Prim.Native.Nat.{◌+◌, ◌-◌, ◌≤◌}
-use mathlib.Core.Path.{◌≡◌, sym, ap, ◌∙◌}
-use native.Mathlib.Omega.{arith}
-use lib.ListN.{length}
+use mathlib.Core.Path.{◌≡◌}
 use Rattle.releasing.specs.Inserting.{Lay, part}
-use Rattle.releasing.proofs.Lays.{lay-none, lay-as, lay-one, lay-long, part_none, part-more}
 use Rattle.releasing.proofs.laying.copy.Given as goal
 
 abbrev pub invariant-loop-i : goal.invariant-loop-i

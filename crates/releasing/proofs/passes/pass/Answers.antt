@@ -1,5 +1,5 @@
 -- `pass` (src/passes.rt) keeps its contract.
-use mathlib.Core.Path.{◌∙◌, sym}
+use mathlib.Core.Path.{◌∙◌}
 use native.Mathlib.Omega.{arith}
 use Rattle.releasing.proofs.Endings.{pass-refused, pass-good, good-short}
 use Rattle.releasing.proofs.passes.pass.Goals as goal

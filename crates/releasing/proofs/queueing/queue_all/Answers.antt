@@ -1,5 +1,4 @@
 -- `queue_all` (src/queueing.rt) keeps its contract.
-use native.Mathlib.Omega.{arith}
 use Rattle.releasing.proofs.Queuing.{queue-all}
 use Rattle.releasing.proofs.queueing.queue_all.Goals as goal
 

@@ -1,5 +1,4 @@
 -- `queue_thing` (src/queueing.rt) keeps its contract.
-use native.Mathlib.Omega.{arith}
 use mathlib.Core.Path.{refl}
 use Rattle.releasing.proofs.Queuing.{queue-more}
 use Rattle.releasing.proofs.queueing.queue_thing.Goals as goal

@@ -1,8 +1,6 @@
 -- `queue_things` (src/queueing.rt) keeps its contract.
-use Prim.Native.Nat.{◌-◌, ◌≤◌}
-use mathlib.Core.Path.{◌≡◌, sym, subst}
+use Prim.Native.Nat.{◌-◌}
 use native.Mathlib.Omega.{arith}
-use Rattle.releasing.specs.Queues.{QueuesIs}
 use Rattle.releasing.proofs.Queuing.{queues-none, queues-more, queues-at}
 use Rattle.releasing.proofs.queueing.queue_things.Goals as goal
 

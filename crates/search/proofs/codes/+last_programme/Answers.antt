@@ -1,8 +1,7 @@
 -- `last_programme` (src/codes.rt) keeps its contract.
 use native.Mathlib.Omega.{arith}
-use Prim.Native.Nat.{ℕ, ◌-◌, ◌/◌, ◌<◌}
+use Prim.Native.Nat.{◌-◌, ◌/◌}
 use Rattle.search.proofs.Digits.{last-le, last_none, last-here, last_more}
-use Prim.Native.Nat.{ℕ, ◌<◌}
 use Rattle.search.proofs.codes.+last_programme.Goals as goal
 
 pub returns-then-len-eq0 : goal.returns-then-len-eq0

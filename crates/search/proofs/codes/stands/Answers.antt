@@ -1,8 +1,6 @@
 -- `stands` (src/codes.rt) keeps its contract.
 use native.Mathlib.Omega.{arith}
-use mathlib.Core.Path.{◌≡◌, refl, sym, ◌∙◌}
-use Rattle.least.specs.Written.{among}
-use Rattle.search.specs.Codes.{tasks_of}
+use mathlib.Core.Path.{refl, sym, ◌∙◌}
 use Rattle.search.proofs.Digits.{among-here, among-less, among_none}
 use Rattle.search.proofs.codes.stands.Goals as goal
 

@@ -1,9 +1,7 @@
 -- `stands` (src/codes.rt) keeps its contract: its loops.
-use native.Mathlib.Omega.{arith}
-use mathlib.Core.Path.{◌≡◌, refl, sym, ◌∙◌}
+use mathlib.Core.Path.{◌≡◌}
 use Rattle.least.specs.Written.{among}
 use Rattle.search.specs.Codes.{tasks_of}
-use Rattle.search.proofs.Digits.{among-here, among-less, among_none}
 use Rattle.search.proofs.codes.stands.Given as goal
 
 abbrev pub invariant-loop-i : goal.invariant-loop-i

@@ -2,7 +2,6 @@
 use mathlib.Core.Path.{refl}
 use native.Mathlib.Omega.{arith}
 use lib.ListN.{length-take}
-use mathlib.Core.Path.{refl}
 use Rattle.search.proofs.Judges.{good-done, refused-done}
 use Rattle.search.proofs.judging.judge.Goals as goal
 

@@ -1,15 +1,10 @@
 -- The functions branch, joining, opening, walk (src/walk.rt), which call each other, keep their contracts: fewer tasks are left at each call of `walk`.
-use lib.ListN.{length}
-use mathlib.Core.Path.{◌≡◌, refl}
-use Rattle.search.proofs.Folds.{ready_on, leaf-coded}
-use Prim.Native.Nat.{ℕ, ◌+◌, ◌-◌, ◌*◌, ◌<◌, ◌≤◌}
-use native.Mathlib.Omega.{arith}
-use borrow.Author.Tests.{not-true, not-false}
 use mathlib.Core.Path.{refl}
-use Rattle.search.proofs.Folds.{leaf-done, Turned, none-turned, more-turned, all-turned, used-done, free-done, opening-skip, opening-done, joining-none, joining-skip, joining-done, late-done}
-use Prim.Native.Nat.{ℕ, ◌<◌}
+use Rattle.search.proofs.Folds.{ready_on, leaf-coded}
+use Prim.Native.Nat.{◌-◌}
+use native.Mathlib.Omega.{arith}
+use Rattle.search.proofs.Folds.{leaf-done, none-turned, more-turned, all-turned, used-done, free-done, opening-skip, opening-done, joining-none, joining-skip, joining-done, late-done}
 use Rattle.search.proofs.walk.+branch_joining_opening_walk.Goals as goal
-
 
 pub branch-returns-then-stands : goal.branch-returns-then-stands
 branch-returns-then-stands t c = used-done _ _ _ _ _ _ c.requires.1 c.requires.4 c.stands.ensures c.if-stands.true
@@ -18,16 +13,16 @@ pub branch-opening-k-requires : goal.branch-opening-k-requires
 branch-opening-k-requires t c = (omega (arith, c.decreases), c.requires)
 
 pub branch-joining-requires : goal.branch-joining-requires
-branch-joining-requires t c = 
+branch-joining-requires t c =
     let R = c.requires.0 in (
-    omega (arith, c.decreases),
-    (
-    record { seen = R.seen; small = R.small; area = omega (arith, R.area); first = omega (arith, R.first); second = omega (arith, R.second) },
-    c.requires.1,
-    c.requires.2,
-    c.requires.3,
-    c.opening-k.ensures.right,
-    ),
+      omega (arith, c.decreases),
+      (
+        record { seen = R.seen; small = R.small; area = omega (arith, R.area); first = omega (arith, R.first); second = omega (arith, R.second) },
+        c.requires.1,
+        c.requires.2,
+        c.requires.3,
+        c.opening-k.ensures.right,
+      ),
     )
 
 pub branch-returns : goal.branch-returns
@@ -37,7 +32,7 @@ pub joining-returns-then-b-eq0 : goal.joining-returns-then-b-eq0
 joining-returns-then-b-eq0 t c = joining-none _ _ _ _ _ _ c.requires.1 c.requires.4 (omega (arith, c.if-b-eq0.true))
 
 pub joining-joined-a-requires : goal.joining-joined-a-requires
-joining-joined-a-requires t c = 
+joining-joined-a-requires t c =
     let p = c.requires in
     (p.0.seen, p.0.small, p.1, omega (arith, p.2, p.0.small.tasks), p.3, omega (arith, c.if-b-eq0.false))
 
@@ -48,20 +43,20 @@ pub joining-returns-then-not-may_join : goal.joining-returns-then-not-may_join
 joining-returns-then-not-may_join t c = joining-skip _ _ _ _ _ _ c.requires.1 c.requires.4 c.may_join.ensures (c.if-not-may_join.true)
 
 pub joining-returns-then-is_late : goal.joining-returns-then-is_late
-joining-returns-then-is_late t c = 
+joining-returns-then-is_late t c =
     let p = c.requires in
     let j = c.joined-a.ensures in
     joining-done _ _ _ _ _ _ p.1 _ _ (omega (arith, p.3, p.0.small.tasks)) c.may_join.ensures (c.if-not-may_join.false) j
     (late-done _ _ _ _ _ p.4 j.begins (omega (arith, j.more)) c.is_late.ensures c.if-is_late.true)
 
 pub joining-walk-requires : goal.joining-walk-requires
-joining-walk-requires t c = 
+joining-walk-requires t c =
     let p = c.requires in
     let j = c.joined-a.ensures in
     (omega (arith, c.decreases), (p.0, j.begins, omega (arith, j.more, p.2), p.4))
 
 pub joining-returns : goal.joining-returns
-joining-returns t c = 
+joining-returns t c =
     let p = c.requires in
     joining-done _ _ _ _ _ _ p.1 _ _ (omega (arith, p.3, p.0.small.tasks)) c.may_join.ensures (c.if-not-may_join.false) c.joined-a.ensures c.walk.ensures
 
@@ -75,25 +70,25 @@ pub opening-returns-then-not-may_open : goal.opening-returns-then-not-may_open
 opening-returns-then-not-may_open t c = opening-skip _ _ _ _ _ _ c.requires.1 c.requires.4 c.may_open.ensures (c.if-not-may_open.true)
 
 pub opening-returns-then-is_late : goal.opening-returns-then-is_late
-opening-returns-then-is_late t c = 
+opening-returns-then-is_late t c =
     let p = c.requires in
     let j = c.opened-a.ensures in
     opening-done _ _ _ _ _ _ p.1 _ _ (omega (arith, p.3, p.0.small.tasks)) c.may_open.ensures (c.if-not-may_open.false) j
     (late-done _ _ _ _ _ p.4 j.begins (omega (arith, j.more)) c.is_late.ensures c.if-is_late.true)
 
 pub opening-walk-requires : goal.opening-walk-requires
-opening-walk-requires t c = 
+opening-walk-requires t c =
     let p = c.requires in
     let j = c.opened-a.ensures in
     (omega (arith, c.decreases), (p.0, j.begins, omega (arith, j.more, p.2), p.4))
 
 pub opening-returns : goal.opening-returns
-opening-returns t c = 
+opening-returns t c =
     let p = c.requires in
     opening-done _ _ _ _ _ _ p.1 _ _ (omega (arith, p.3, p.0.small.tasks)) c.may_open.ensures (c.if-not-may_open.false) c.opened-a.ensures c.walk.ensures
 
 pub walk-consider-requires : goal.walk-consider-requires
-walk-consider-requires t c = 
+walk-consider-requires t c =
     let p = c.requires in
     let z = leaf-coded p.1 (omega (arith, c.if-left-eq0.true)) p.2 in
     record { seen = (p.0.seen, p.0.small, p.0.area, p.0.first, p.0.second); coded = (z.0, z.1, p.3) }
@@ -108,11 +103,11 @@ pub walk-overflow_sub-left : goal.walk-overflow_sub-left
 walk-overflow_sub-left t c = omega (arith, c.if-left-eq0.false)
 
 pub walk-branch-k-requires : goal.walk-branch-k-requires
-walk-branch-k-requires t c = 
+walk-branch-k-requires t c =
     let p = c.requires in
     let i = c.loop-t.invariant in (
-    omega (arith, c.decreases, c.if-left-eq0.false),
-    (ready_on p.0 i.2 i.3 i.4, p.1, omega (arith, p.2, c.if-left-eq0.false), omega (arith, c.loop-t-test.true), i.1.right),
+      omega (arith, c.decreases, c.if-left-eq0.false),
+      (ready_on p.0 i.2 i.3 i.4, p.1, omega (arith, p.2, c.if-left-eq0.false), omega (arith, c.loop-t-test.true), i.1.right),
     )
 
 pub walk-overflow_add-t : goal.walk-overflow_add-t
@@ -122,13 +117,13 @@ pub walk-loop-t-smaller : goal.walk-loop-t-smaller
 walk-loop-t-smaller t c = omega (arith, c.loop-t-test.true)
 
 pub walk-loop-t-preserved : goal.walk-loop-t-preserved
-walk-loop-t-preserved t c = 
+walk-loop-t-preserved t c =
     let i = c.loop-t.invariant in (
-    omega (arith, c.loop-t-test.true),
-    more-turned _ _ c.args.b _ _ _ _ _ i.1 c.branch-k.ensures,
-    omega (arith, i.2),
-    omega (arith, i.3),
-    omega (arith, i.4),
+      omega (arith, c.loop-t-test.true),
+      more-turned _ _ c.args.b _ _ _ _ _ i.1 c.branch-k.ensures,
+      omega (arith, i.2),
+      omega (arith, i.3),
+      omega (arith, i.4),
     )
 
 pub walk-shape_of-w : goal.walk-shape_of-w

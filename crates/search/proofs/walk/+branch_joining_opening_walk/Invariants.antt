@@ -1,13 +1,8 @@
 -- The functions branch, joining, opening, walk (src/walk.rt), which call each other, keep their contracts: fewer tasks are left at each call of `walk`.
 use lib.ListN.{length}
-use mathlib.Core.Path.{◌≡◌, refl}
-use Rattle.search.proofs.Folds.{ready_on, leaf-coded}
-use Prim.Native.Nat.{ℕ, ◌+◌, ◌-◌, ◌*◌, ◌<◌, ◌≤◌}
-use native.Mathlib.Omega.{arith}
-use borrow.Author.Tests.{not-true, not-false}
-use mathlib.Core.Path.{refl}
-use Rattle.search.proofs.Folds.{leaf-done, Turned, none-turned, more-turned, all-turned, used-done, free-done, opening-skip, opening-done, joining-none, joining-skip, joining-done, late-done}
-use Prim.Native.Nat.{ℕ, ◌<◌}
+use mathlib.Core.Path.{◌≡◌}
+use Prim.Native.Nat.{◌+◌, ◌-◌, ◌*◌, ◌≤◌}
+use Rattle.search.proofs.Folds.{Turned}
 use Rattle.search.proofs.walk.+branch_joining_opening_walk.Given as goal
 
 abbrev pub decreases-branch : goal.decreases-branch

@@ -2,7 +2,7 @@
 use native.Mathlib.Omega.{arith}
 use Prim.Native.Nat.{◌-◌}
 use mathlib.Core.Path.{sym, ◌∙◌}
-use Rattle.search.proofs.Steps.{none-first-of, none_more, Feeds, feeds-one, feeds-none}
+use Rattle.search.proofs.Steps.{none-first-of, none_more, feeds-one, feeds-none}
 use Rattle.search.proofs.walking.feeds.Goals as goal
 
 pub loop-l-init : goal.loop-l-init

@@ -1,8 +1,6 @@
 -- `feeds` (src/walking.rt) keeps its contract: its loops.
-use native.Mathlib.Omega.{arith}
 use Prim.Native.Nat.{◌-◌}
-use mathlib.Core.Path.{sym, ◌∙◌}
-use Rattle.search.proofs.Steps.{none-first-of, none_more, Feeds, feeds-one, feeds-none}
+use Rattle.search.proofs.Steps.{Feeds}
 use Rattle.search.proofs.walking.feeds.Given as goal
 
 abbrev pub invariant-loop-l : goal.invariant-loop-l

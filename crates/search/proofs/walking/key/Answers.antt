@@ -1,7 +1,7 @@
 -- `key` (src/walking.rt) keeps its contract.
 use native.Mathlib.Omega.{arith}
 use Prim.Native.Nat.{◌-◌}
-use Rattle.search.proofs.Steps.{none-first-of, none_more, Leads, not-to, key-receive, key-run}
+use Rattle.search.proofs.Steps.{none-first-of, none_more, not-to, key-receive, key-run}
 use Rattle.search.proofs.walking.key.Goals as goal
 
 pub loop-l-init : goal.loop-l-init

@@ -1,7 +1,6 @@
 -- `key` (src/walking.rt) keeps its contract: its loops.
-use native.Mathlib.Omega.{arith}
 use Prim.Native.Nat.{◌-◌}
-use Rattle.search.proofs.Steps.{none-first-of, none_more, Leads, not-to, key-receive, key-run}
+use Rattle.search.proofs.Steps.{Leads}
 use Rattle.search.proofs.walking.key.Given as goal
 
 abbrev pub invariant-loop-l : goal.invariant-loop-l

@@ -1,8 +1,8 @@
 -- `copy_front` (src/whole.rt) keeps its contract.
 use native.Mathlib.Omega.{arith}
-use Prim.Native.Nat.{◌-◌, ◌≤◌}
+use Prim.Native.Nat.{◌-◌}
 use mathlib.Core.Path.{◌≡◌, refl, ap, ◌∙◌}
-use lib.ListN.{length, take, length-set}
+use lib.ListN.{take, length-set}
 use Rattle.numbers.specs.Number.{stored}
 use Rattle.search.proofs.Ends.{copied_none, copied_more}
 use Rattle.search.proofs.whole.copy_front.Goals as goal

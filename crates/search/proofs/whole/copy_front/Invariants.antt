@@ -1,10 +1,8 @@
 -- `copy_front` (src/whole.rt) keeps its contract: its loops.
-use native.Mathlib.Omega.{arith}
 use Prim.Native.Nat.{◌-◌, ◌≤◌}
-use mathlib.Core.Path.{◌≡◌, refl, ap, ◌∙◌}
-use lib.ListN.{length, take, length-set}
+use mathlib.Core.Path.{◌≡◌}
+use lib.ListN.{length, take}
 use Rattle.numbers.specs.Number.{stored}
-use Rattle.search.proofs.Ends.{copied_none, copied_more}
 use Rattle.search.proofs.whole.copy_front.Given as goal
 
 abbrev pub invariant-loop-i : goal.invariant-loop-i

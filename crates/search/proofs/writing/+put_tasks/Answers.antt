@@ -1,9 +1,7 @@
 -- `put_tasks` (src/writing.rt) keeps its contract.
-use Prim.Native.Nat.{ℕ, ◌<◌}
 use mathlib.Core.Path.{◌∙◌}
 use native.Mathlib.Omega.{arith}
 use Rattle.search.proofs.Fronts.{tasks-none, tasks-more}
-use Prim.Native.Nat.{ℕ, ◌<◌}
 use Rattle.search.proofs.writing.+put_tasks.Goals as goal
 
 pub returns-then-j-eq0 : goal.returns-then-j-eq0

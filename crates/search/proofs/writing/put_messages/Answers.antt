@@ -1,7 +1,7 @@
 -- `put_messages` (src/writing.rt) keeps its contract.
 use native.Mathlib.Omega.{arith}
-use Prim.Native.Nat.{◌-◌, ◌≤◌}
-use Rattle.search.proofs.Fronts.{Passed, passed_none, passed-more, passed-all}
+use Prim.Native.Nat.{◌-◌}
+use Rattle.search.proofs.Fronts.{passed_none, passed-more, passed-all}
 use Rattle.search.proofs.writing.put_messages.Goals as goal
 
 pub loop-l-init : goal.loop-l-init

@@ -1,7 +1,6 @@
 -- `put_messages` (src/writing.rt) keeps its contract: its loops.
-use native.Mathlib.Omega.{arith}
 use Prim.Native.Nat.{◌-◌, ◌≤◌}
-use Rattle.search.proofs.Fronts.{Passed, passed_none, passed-more, passed-all}
+use Rattle.search.proofs.Fronts.{Passed}
 use Rattle.search.proofs.writing.put_messages.Given as goal
 
 abbrev pub invariant-loop-l : goal.invariant-loop-l

@@ -21,5 +21,5 @@ returns-then-is_cube c = cube-added c.add_unpacking-at.ensures.0 _ (cube-comes _
 
 pub returns : goal.returns
 returns c =
-        let s = c.add_unpacking-at.ensures in
+    let s = c.add_unpacking-at.ensures in
     (s.0, record { no_unpacking = s.1; no_cube = cube-none s.0 (sym c.is_cube.ensures ∙ c.if-is_cube.false) })

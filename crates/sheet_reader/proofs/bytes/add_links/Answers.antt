@@ -1,11 +1,8 @@
 -- `add_links` (src/bytes.rt) keeps its contract.
-use Prim.Native.Nat.{◌+◌, ◌-◌, ◌*◌}
+use Prim.Native.Nat.{◌-◌}
 use Rattle.sheet_reader.proofs.Scans.{link-added, link-comes, link-few, links_end, walk-room, walk-single}
-use Rattle.sheet_reader.specs.Scanning.{Linking}
-use Rattle.sheet.specs.Format.{link, read_form}
-use Rattle.sheet.specs.Sizes.{link_size}
-use lib.ListN.{length}
-use mathlib.Core.Path.{◌≡◌, ◌∙◌, sym}
+use Rattle.sheet.specs.Format.{link}
+use mathlib.Core.Path.{◌∙◌, sym}
 use native.Mathlib.Omega.{arith}
 use Rattle.sheet_reader.proofs.bytes.add_links.Goals as goal
 
@@ -34,11 +31,10 @@ pub loop-w-smaller : goal.loop-w-smaller
 loop-w-smaller c = omega (arith, walk-room c.loop-w.invariant.0.walking link (link-comes _ (sym c.is_link.ensures ∙ c.loop-w-test.true)))
 
 pub loop-w-preserved : goal.loop-w-preserved
-loop-w-preserved c =
-    (
-    link-added c.loop-w.invariant.0 _ (link-comes _ (sym c.is_link.ensures ∙ c.loop-w-test.true)) (λ i. omega (arith, c.type_inv.bytes i)) c.add_link.ensures,
-    omega arith,
-    )
+loop-w-preserved c = (
+  link-added c.loop-w.invariant.0 _ (link-comes _ (sym c.is_link.ensures ∙ c.loop-w-test.true)) (λ i. omega (arith, c.type_inv.bytes i)) c.add_link.ensures,
+  omega arith,
+)
 
 pub shape_of-w : goal.shape_of-w
 shape_of-w c = c.loop-w.invariant.0.walking.scanning.long

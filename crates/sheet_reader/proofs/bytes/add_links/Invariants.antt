@@ -1,12 +1,10 @@
 -- `add_links` (src/bytes.rt) keeps its contract: its loops.
 use Prim.Native.Nat.{◌+◌, ◌-◌, ◌*◌}
-use Rattle.sheet_reader.proofs.Scans.{link-added, link-comes, link-few, links_end, walk-room, walk-single}
 use Rattle.sheet_reader.specs.Scanning.{Linking}
-use Rattle.sheet.specs.Format.{link, read_form}
+use Rattle.sheet.specs.Format.{read_form}
 use Rattle.sheet.specs.Sizes.{link_size}
 use lib.ListN.{length}
-use mathlib.Core.Path.{◌≡◌, ◌∙◌, sym}
-use native.Mathlib.Omega.{arith}
+use mathlib.Core.Path.{◌≡◌}
 use Rattle.sheet_reader.proofs.bytes.add_links.Given as goal
 
 abbrev pub invariant-loop-w : goal.invariant-loop-w

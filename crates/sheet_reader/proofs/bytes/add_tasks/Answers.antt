@@ -1,11 +1,8 @@
 -- `add_tasks` (src/bytes.rt) keeps its contract.
-use Prim.Native.Nat.{◌+◌, ◌-◌, ◌*◌}
+use Prim.Native.Nat.{◌-◌}
 use Rattle.sheet_reader.proofs.Scans.{task-added, task-comes, task-few, tasks-end, walk-room}
-use Rattle.sheet_reader.specs.Scanning.{BoardRead, Walking}
-use Rattle.sheet.specs.Format.{task, read_form}
-use Rattle.sheet.specs.Sizes.{task_size}
-use lib.ListN.{length}
-use mathlib.Core.Path.{◌≡◌, ◌∙◌, sym}
+use Rattle.sheet.specs.Format.{task}
+use mathlib.Core.Path.{◌∙◌, sym}
 use native.Mathlib.Omega.{arith}
 use Rattle.sheet_reader.proofs.bytes.add_tasks.Goals as goal
 
@@ -19,7 +16,7 @@ is_task-requires c =
 
 pub add_task-requires : goal.add_task-requires
 add_task-requires c =
-        let s = c.loop-w.invariant.0 in
+    let s = c.loop-w.invariant.0 in
     let j = task-comes _ (sym c.is_task.ensures ∙ c.loop-w-test.true) in
     (walk-room s task j, s.scanning.loaded.long, task-few s.scanning j)
 
@@ -34,7 +31,7 @@ loop-w-smaller c = omega (arith, walk-room c.loop-w.invariant.0 task (task-comes
 
 pub loop-w-preserved : goal.loop-w-preserved
 loop-w-preserved c =
-        let t = task-added c.loop-w.invariant.0 _ (task-comes _ (sym c.is_task.ensures ∙ c.loop-w-test.true)) (λ i. omega (arith, c.type_inv.bytes i)) c.add_task.ensures in
+    let t = task-added c.loop-w.invariant.0 _ (task-comes _ (sym c.is_task.ensures ∙ c.loop-w-test.true)) (λ i. omega (arith, c.type_inv.bytes i)) c.add_task.ensures in
     (t.0, t.1, omega arith)
 
 pub shape_of-w : goal.shape_of-w

@@ -1,12 +1,10 @@
 -- `add_tasks` (src/bytes.rt) keeps its contract: its loops.
 use Prim.Native.Nat.{◌+◌, ◌-◌, ◌*◌}
-use Rattle.sheet_reader.proofs.Scans.{task-added, task-comes, task-few, tasks-end, walk-room}
 use Rattle.sheet_reader.specs.Scanning.{BoardRead, Walking}
-use Rattle.sheet.specs.Format.{task, read_form}
+use Rattle.sheet.specs.Format.{read_form}
 use Rattle.sheet.specs.Sizes.{task_size}
 use lib.ListN.{length}
-use mathlib.Core.Path.{◌≡◌, ◌∙◌, sym}
-use native.Mathlib.Omega.{arith}
+use mathlib.Core.Path.{◌≡◌}
 use Rattle.sheet_reader.proofs.bytes.add_tasks.Given as goal
 
 abbrev pub invariant-loop-w : goal.invariant-loop-w

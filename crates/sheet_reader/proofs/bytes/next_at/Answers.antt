@@ -32,5 +32,5 @@ returns-then-c-eq77 c = sym (judge-known (begun (sheet_in c.args.w.now)) c.args.
 
 pub returns : goal.returns
 returns c =
-            let e = c.get8-c.ensures.0 in
+    let e = c.get8-c.ensures.0 in
     sym (judge-strange (begun (sheet_in c.args.w.now)) c.args.bytes.now c.args.at c.if-bytes-at.false (λ q. c.if-c-eq77.false (e ∙ q)) (λ q. c.if-c-eq85.false (e ∙ q)) (λ q. c.if-c-eq72.false (e ∙ q)) (λ q. c.if-c-eq84.false (e ∙ q)) (λ q. c.if-c-eq69.false (e ∙ q)) (λ q. c.if-c-eq81.false (e ∙ q)))

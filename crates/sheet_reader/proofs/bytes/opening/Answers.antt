@@ -30,25 +30,25 @@ returns-then-c-eq72 c = sym (judge-known fresh c.args.bytes.now 0 0x48 (omega (a
 
 pub returns-then-c-ne77 : goal.returns-then-c-ne77
 returns-then-c-ne77 c =
-        let e = c.get8-c.ensures.0 in
+    let e = c.get8-c.ensures.0 in
     sym (judge-strange fresh c.args.bytes.now 0 (omega (arith, c.if-bytes-eq0.false)) (λ q. c.if-c-ne77.true (e ∙ q)) (λ q. c.if-c-eq85.false (e ∙ q)) (λ q. c.if-c-eq72.false (e ∙ q)) (λ q. c.if-c-eq84.false (e ∙ q)) (λ q. c.if-c-eq69.false (e ∙ q)) (λ q. c.if-c-eq81.false (e ∙ q)))
 
 pub returns-then-bytes-lt-BOARD_SIZE : goal.returns-then-bytes-lt-BOARD_SIZE
 returns-then-bytes-lt-BOARD_SIZE c =
-        let b = c.args.bytes.now in
+    let b = c.args.bytes.now in
     let cut : length b - 1 < 5 = omega (arith, c.if-bytes-lt-BOARD_SIZE.true) in
     sym (judge-known fresh b 0 0x4D (omega (arith, c.if-bytes-eq0.false)) (sym c.get8-c.ensures.0 ∙ c.if-c-ne77.false) ∙ simp (fault-opening, lt-ltb _ _ cut))
 
 pub returns-then-processors-lt1 : goal.returns-then-processors-lt1
 returns-then-processors-lt1 c =
-        let b = c.args.bytes.now in
+    let b = c.args.bytes.now in
     let whole : 5 ≤ length b - 1 = omega (arith, c.if-bytes-lt-BOARD_SIZE.false) in
     let low : get_or b 1 0 < 1 = omega (arith, c.get8-processors.ensures.0, c.if-processors-lt1.true) in
     sym (judge-known fresh b 0 0x4D (omega (arith, c.if-bytes-eq0.false)) (sym c.get8-c.ensures.0 ∙ c.if-c-ne77.false) ∙ simp (fault-opening, le-ltb _ _ whole, lt-leb _ _ low))
 
 pub returns-then-processors-gt16 : goal.returns-then-processors-gt16
 returns-then-processors-gt16 c =
-        let b = c.args.bytes.now in
+    let b = c.args.bytes.now in
     let whole : 5 ≤ length b - 1 = omega (arith, c.if-bytes-lt-BOARD_SIZE.false) in
     let low : 1 ≤ get_or b 1 0 = omega (arith, c.get8-processors.ensures.0, c.if-processors-lt1.false) in
     let high : 16 < get_or b 1 0 = omega (arith, c.get8-processors.ensures.0, c.if-processors-gt16.true) in
@@ -56,7 +56,7 @@ returns-then-processors-gt16 c =
 
 pub returns : goal.returns
 returns c =
-        let b = c.args.bytes.now in
+    let b = c.args.bytes.now in
     let whole : 5 ≤ length b - 1 = omega (arith, c.if-bytes-lt-BOARD_SIZE.false) in
     let low : 1 ≤ get_or b 1 0 = omega (arith, c.get8-processors.ensures.0, c.if-processors-lt1.false) in
     let high : get_or b 1 0 ≤ 16 = omega (arith, c.get8-processors.ensures.0, c.if-processors-gt16.false) in

@@ -18,7 +18,7 @@ get32-requires c =
 
 pub put_board-requires : goal.put_board-requires
 put_board-requires c =
-        let r = open-room c.args.bytes.now (open-go c.args.bytes.now _ c.opening-fault.ensures c.if-fault-ne0.false) in
+    let r = open-room c.args.bytes.now (open-go c.args.bytes.now _ c.opening-fault.ensures c.if-fault-ne0.false) in
     (c.requires, omega (arith, r.1, c.get8.ensures.0))
 
 pub walk-requires : goal.walk-requires

@@ -3,7 +3,6 @@ use Rattle.commands.specs.Commands.{verdict}
 use Rattle.sheet.proofs.Judging.{unpack-again, unpack-clear, unpack-cut, unpack-turn, unpack-zero}
 use Rattle.sheet.specs.Format.{sheet_format, unpack}
 use Rattle.sheet.specs.Tables.{sheet_in}
-use borrow.Author.Tests.{not-true, not-false}
 use mathlib.Core.Path.{◌∙◌, ap, sym}
 use Rattle.sheet_reader.proofs.bytes.unpacking_at.Goals as goal
 

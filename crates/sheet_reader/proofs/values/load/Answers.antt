@@ -27,7 +27,7 @@ shape_of-w c = c.load_tasks.ensures.long ∙ c.load_board.ensures.long
 
 pub returns : goal.returns
 returns c =
-            let a = c.args in
+    let a = c.args in
     let f = c.load_board.ensures in
     let read = board-read a.processors a.limit a.unpacking (cube_of a.cube) a.tasks.now a.links.now a.w.now _ c.if-processors-lt1.false c.if-processors-gt16.false (omega (arith, c.ranges.limit)) (omega (arith, c.ranges.unpacking)) f in
     read_through (read_as (read ∙ ap (read_on _ (task_value_bytes a.tasks.now a.links.now)) (sym c.front.ensures.0)) c.load_tasks.ensures) f.long

@@ -1,5 +1,5 @@
 -- `load_links` (src/values.rt) keeps its contract.
-use Prim.Native.Nat.{◌*◌, ◌+◌, ◌-◌, ◌/◌, ◌≤◌, ℕ}
+use Prim.Native.Nat.{◌*◌, ◌+◌, ◌-◌, ◌/◌, ℕ}
 use Rattle.folds.proofs.Lists.{rest}
 use Rattle.sheet_reader.proofs.Given.{link_fits, link_tail, links-closed, links-start, refuse-link, scan-at, take_link}
 use Rattle.commands.proofs.Numbered.{numbered-none, numbered-some}
@@ -9,7 +9,7 @@ use Rattle.sheet.specs.Writing.{link_bytes, link_value, link_value_bytes}
 use Rattle.sheet.specs.Sizes.{link_size}
 use lib.ListN.{length}
 use mathlib.Core.List.{List, ◌++◌}
-use mathlib.Core.Path.{◌≡◌, refl, subst, sym}
+use mathlib.Core.Path.{refl, subst, sym}
 use native.Mathlib.Omega.{arith}
 use Rattle.sheet_reader.proofs.values.load_links.Goals as goal
 
@@ -32,7 +32,7 @@ overflow_mul-result c = let s = c.loop-j.invariant.3 in omega (arith, s.links, s
 
 pub overflow_add-result : goal.overflow_add-result
 overflow_add-result c =
-        let s = c.loop-j.invariant.3 in
+    let s = c.loop-j.invariant.3 in
     omega (arith, c.requires.tasks_value.2, s.tasks, s.loaded.tasks, s.links, s.loaded.links)
 
 pub shape_of-w-then-fault-ne0 : goal.shape_of-w-then-fault-ne0
@@ -40,7 +40,7 @@ shape_of-w-then-fault-ne0 c = c.loop-j.invariant.3.long
 
 pub returns-then-fault-ne0 : goal.returns-then-fault-ne0
 returns-then-fault-ne0 c =
-        let v = c.args.links.now in
+    let v = c.args.links.now in
     refuse-link (link_value v) (length v / 4) (link_tail v) c.loop-j.invariant.3 c.loop-j-test.true _ (numbered-some _ _ c.link_fault-fault.ensures c.if-fault-ne0.true)
 
 pub add_link-requires : goal.add_link-requires
@@ -51,7 +51,7 @@ add_link-requires c =
 
 pub loop-j-preserved : goal.loop-j-preserved
 loop-j-preserved c =
-            let v = c.args.links.now in
+    let v = c.args.links.now in
     let w₀ = c.args.w.now in
     let e = c.args.start in
     let n = c.args.tasks in
@@ -68,7 +68,7 @@ loop-j-preserved c =
 
 pub closing-requires : goal.closing-requires
 closing-requires c =
-        let s = c.loop-j.invariant.3 in
+    let s = c.loop-j.invariant.3 in
     (omega (arith, c.requires.tasks_value.2, s.tasks, s.loaded.tasks), omega (arith, s.links, s.loaded.links, c.loop-j-test.false))
 
 pub shape_of-w : goal.shape_of-w

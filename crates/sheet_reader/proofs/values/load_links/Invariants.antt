@@ -1,16 +1,14 @@
 -- `load_links` (src/values.rt) keeps its contract: its loops.
-use Prim.Native.Nat.{◌*◌, ◌+◌, ◌-◌, ◌/◌, ◌≤◌, ℕ}
+use Prim.Native.Nat.{◌*◌, ◌+◌, ◌-◌, ◌/◌, ◌≤◌}
 use Rattle.folds.proofs.Lists.{rest}
-use Rattle.sheet_reader.proofs.Given.{link_fits, link_tail, links-closed, links-start, refuse-link, scan-at, take_link}
-use Rattle.commands.proofs.Numbered.{numbered-none, numbered-some}
+use Rattle.sheet_reader.proofs.Given.{link_tail}
 use Rattle.sheet_reader.specs.Scanning.{Scanning, read_on}
 use Rattle.sheet.specs.Tables.{Filling}
 use Rattle.sheet.specs.Writing.{link_bytes, link_value, link_value_bytes}
 use Rattle.sheet.specs.Sizes.{link_size}
 use lib.ListN.{length}
-use mathlib.Core.List.{List, ◌++◌}
-use mathlib.Core.Path.{◌≡◌, refl, subst, sym}
-use native.Mathlib.Omega.{arith}
+use mathlib.Core.List.{◌++◌}
+use mathlib.Core.Path.{◌≡◌}
 use Rattle.sheet_reader.proofs.values.load_links.Given as goal
 
 abbrev pub invariant-loop-j : goal.invariant-loop-j

@@ -1,5 +1,5 @@
 -- `load_tasks` (src/values.rt) keeps its contract.
-use Prim.Native.Nat.{◌*◌, ◌+◌, ◌-◌, ◌/◌, ◌≤◌, ℕ}
+use Prim.Native.Nat.{◌*◌, ◌+◌, ◌-◌, ◌/◌, ℕ}
 use Rattle.folds.proofs.Lists.{rest}
 use Rattle.sheet_reader.proofs.Given.{read_as, refuse-task, scan-at, take-task, task-fits, task_tail, tasks-cut, tasks-done, tasks-start}
 use Rattle.commands.proofs.Numbered.{numbered-none, numbered-some}
@@ -21,7 +21,7 @@ overflow_mul-result c = let s = c.loop-i.invariant.2 in omega (arith, s.tasks, s
 
 pub overflow_add-result : goal.overflow_add-result
 overflow_add-result c =
-        let s = c.loop-i.invariant.2 in
+    let s = c.loop-i.invariant.2 in
     omega (arith, c.requires.task_count_at_value.2, s.tasks, s.loaded.tasks)
 
 pub shape_of-w-then-fault-ne0 : goal.shape_of-w-then-fault-ne0
@@ -29,14 +29,14 @@ shape_of-w-then-fault-ne0 c = c.loop-i.invariant.2.long
 
 pub returns-then-fault-ne0 : goal.returns-then-fault-ne0
 returns-then-fault-ne0 c =
-        let a = c.args in
+    let a = c.args in
     let v = a.tasks.now in
     refuse-task (task_value v) (length v / 2) (task_tail v a.links.now) c.loop-i.invariant.2 c.loop-i-test.true (omega (arith, c.shared_slice_known-1.given (2 * c.loop-i.i))) _
     (numbered-some _ _ c.task_fault-fault.ensures c.if-fault-ne0.true)
 
 pub put_task-requires : goal.put_task-requires
 put_task-requires c =
-        let a = c.args in
+    let a = c.args in
     let v = a.tasks.now in (
       c.loop-i.invariant.2.loaded.long,
       task-fits (task_value v) (length v / 2) (task_tail v a.links.now) c.loop-i.invariant.2 c.loop-i-test.true (omega (arith, c.shared_slice_known-1.given (2 * c.loop-i.i)))
@@ -45,7 +45,7 @@ put_task-requires c =
 
 pub loop-i-preserved : goal.loop-i-preserved
 loop-i-preserved c =
-        let a = c.args in
+    let a = c.args in
     let v = a.tasks.now in
     let u = a.links.now in
     let w₀ = a.w.now in
@@ -66,7 +66,7 @@ overflow_mul-result-then-tasks-ne0 c = let s = c.loop-i.invariant.2 in omega (ar
 
 pub overflow_add-result-then-tasks-ne0 : goal.overflow_add-result-then-tasks-ne0
 overflow_add-result-then-tasks-ne0 c =
-        let s = c.loop-i.invariant.2 in
+    let s = c.loop-i.invariant.2 in
     omega (arith, c.requires.task_count_at_value.2, s.tasks, s.loaded.tasks, c.loop-i-test.false)
 
 pub shape_of-w-then-tasks-ne0 : goal.shape_of-w-then-tasks-ne0
@@ -74,7 +74,7 @@ shape_of-w-then-tasks-ne0 c = c.loop-i.invariant.2.long
 
 pub returns-then-tasks-ne0 : goal.returns-then-tasks-ne0
 returns-then-tasks-ne0 c =
-        let a = c.args in
+    let a = c.args in
     let v = a.tasks.now in
     let here : c.loop-i.i ≡ length v / 2 = omega (arith, c.loop-i-test.false) in
     tasks-cut v a.links.now (scan-at (a.start + task_size * (length v / 2)) c.loop-i.invariant.2 (omega arith)) here c.if-tasks-ne0.true
@@ -87,7 +87,7 @@ overflow_mul-n c = let s = c.loop-i.invariant.2 in omega (arith, s.tasks, s.load
 
 pub overflow_add-start : goal.overflow_add-start
 overflow_add-start c =
-        let s = c.loop-i.invariant.2 in
+    let s = c.loop-i.invariant.2 in
     omega (arith, c.requires.task_count_at_value.2, s.tasks, s.loaded.tasks, c.loop-i-test.false)
 
 pub load_links-requires : goal.load_links-requires
@@ -101,7 +101,7 @@ shape_of-w c = c.load_links.ensures.long ∙ c.blank.ensures.long ∙ c.loop-i.i
 
 pub returns : goal.returns
 returns c =
-        let a = c.args in
+    let a = c.args in
     let v = a.tasks.now in
     let here : c.loop-i.i ≡ length v / 2 = omega (arith, c.loop-i-test.false) in
     let r = scan-blank c.loop-i.invariant.2 (length v / 2) here c.blank.ensures in

@@ -1,16 +1,13 @@
 -- `load_tasks` (src/values.rt) keeps its contract: its loops.
-use Prim.Native.Nat.{◌*◌, ◌+◌, ◌-◌, ◌/◌, ◌≤◌, ℕ}
+use Prim.Native.Nat.{◌*◌, ◌+◌, ◌-◌, ◌/◌, ◌≤◌}
 use Rattle.folds.proofs.Lists.{rest}
-use Rattle.sheet_reader.proofs.Given.{read_as, refuse-task, scan-at, take-task, task-fits, task_tail, tasks-cut, tasks-done, tasks-start}
-use Rattle.commands.proofs.Numbered.{numbered-none, numbered-some}
-use Rattle.sheet_reader.proofs.Scans.{read_through, scan-blank}
+use Rattle.sheet_reader.proofs.Given.{task_tail}
 use Rattle.sheet_reader.specs.Scanning.{Scanning, read_on}
 use Rattle.sheet.specs.Writing.{task_bytes, task_value, task_value_bytes}
 use Rattle.sheet.specs.Sizes.{task_size}
 use lib.ListN.{length}
-use mathlib.Core.List.{List, ◌++◌}
-use mathlib.Core.Path.{◌∙◌, ◌≡◌, refl, subst, sym}
-use native.Mathlib.Omega.{arith}
+use mathlib.Core.List.{◌++◌}
+use mathlib.Core.Path.{◌≡◌}
 use Rattle.sheet_reader.proofs.values.load_tasks.Given as goal
 
 abbrev pub invariant-loop-i : goal.invariant-loop-i

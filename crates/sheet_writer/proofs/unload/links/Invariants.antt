@@ -2,15 +2,10 @@
 use Prim.Native.Nat.{◌-◌, ◌≤◌}
 use Rattle.folds.specs.Folds.{listed}
 use Rattle.numbers.specs.Number.{stored}
-use Rattle.sheet.proofs.Rows.{all-links}
-use Rattle.sheet_writer.proofs.Stores.{link_values-next, link_values-none}
-use Rattle.sheet.specs.Sheet.{Link}
 use Rattle.sheet.specs.Tables.{link_in}
 use Rattle.sheet.specs.Writing.{link_values}
 use lib.ListN.{length}
-use mathlib.Core.List.{List}
-use mathlib.Core.Path.{◌∙◌, ◌≡◌, ap, refl}
-use native.Mathlib.Omega.{arith}
+use mathlib.Core.Path.{◌≡◌}
 use Rattle.sheet_writer.proofs.unload.links.Given as goal
 
 abbrev pub invariant-loop-l : goal.invariant-loop-l

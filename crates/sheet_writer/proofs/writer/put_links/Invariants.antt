@@ -1,13 +1,11 @@
 -- `put_links` (src/writer.rt) keeps its contract: its loops.
-use Rattle.sheet_writer.proofs.Stores.{links-next, links-none}
 use Rattle.sheet.specs.Writing.{link_value}
 use Rattle.sheet.specs.Writing.{link_bytes}
 use Rattle.folds.specs.Folds.{listed}
 use Rattle.numbers.specs.Number.{stored}
 use lib.ListN.{length}
-use mathlib.Core.Path.{◌≡◌, refl, ap, ◌∙◌}
-use Prim.Native.Nat.{ℕ, ◌-◌, ◌/◌, ◌≤◌}
-use native.Mathlib.Omega.{arith}
+use mathlib.Core.Path.{◌≡◌}
+use Prim.Native.Nat.{◌-◌, ◌/◌, ◌≤◌}
 use Rattle.sheet_writer.proofs.writer.put_links.Given as goal
 
 abbrev pub invariant-loop-j : goal.invariant-loop-j

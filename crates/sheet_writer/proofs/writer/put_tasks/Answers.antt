@@ -6,7 +6,7 @@ use Rattle.folds.specs.Folds.{listed}
 use Rattle.numbers.specs.Number.{stored}
 use lib.ListN.{length}
 use mathlib.Core.Path.{◌≡◌, refl, ap, ◌∙◌}
-use Prim.Native.Nat.{ℕ, ◌-◌, ◌/◌, ◌≤◌}
+use Prim.Native.Nat.{ℕ, ◌-◌, ◌/◌}
 use native.Mathlib.Omega.{arith}
 use Rattle.sheet_writer.proofs.writer.put_tasks.Goals as goal
 

@@ -1,9 +1,9 @@
 -- `left` (src/asks.rt) keeps its contract.
-use Prim.Native.Nat.{◌-◌, ◌*◌, ◌≤◌}
-use mathlib.Core.Path.{◌≡◌, refl}
+use Prim.Native.Nat.{◌-◌}
+use mathlib.Core.Path.{refl}
 use native.Mathlib.Omega.{arith}
 use Rattle.folds.specs.Folds.{sum}
-use Rattle.stepping_machine.proofs.Told.{left_in, left-more, left-all}
+use Rattle.stepping_machine.proofs.Told.{left-more, left-all}
 use Rattle.stepping_machine.proofs.asks.left.Goals as goal
 
 pub loop-k-init : goal.loop-k-init

@@ -1,9 +1,8 @@
 -- `left` (src/asks.rt) keeps its contract: its loops.
 use Prim.Native.Nat.{◌-◌, ◌*◌, ◌≤◌}
-use mathlib.Core.Path.{◌≡◌, refl}
-use native.Mathlib.Omega.{arith}
+use mathlib.Core.Path.{◌≡◌}
 use Rattle.folds.specs.Folds.{sum}
-use Rattle.stepping_machine.proofs.Told.{left_in, left-more, left-all}
+use Rattle.stepping_machine.proofs.Told.{left_in}
 use Rattle.stepping_machine.proofs.asks.left.Given as goal
 
 abbrev pub invariant-loop-k : goal.invariant-loop-k

@@ -1,6 +1,6 @@
 -- `load_all` (src/load.rt) keeps its contract.
-use Rattle.stepping_machine.proofs.Opening.{Going, going-ends, going_more, going-over, going-decodable, going-starts}
-use Prim.Native.Nat.{◌-◌, ◌≤◌}
+use Rattle.stepping_machine.proofs.Opening.{going-ends, going_more, going-over, going-decodable, going-starts}
+use Prim.Native.Nat.{◌-◌}
 use mathlib.Core.Path.{◌∙◌}
 use native.Mathlib.Omega.{arith}
 use Rattle.stepping_machine.proofs.load.load_all.Goals as goal

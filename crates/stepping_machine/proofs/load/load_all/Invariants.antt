@@ -1,8 +1,6 @@
 -- `load_all` (src/load.rt) keeps its contract: its loops.
-use Rattle.stepping_machine.proofs.Opening.{Going, going-ends, going_more, going-over, going-decodable, going-starts}
+use Rattle.stepping_machine.proofs.Opening.{Going}
 use Prim.Native.Nat.{◌-◌, ◌≤◌}
-use mathlib.Core.Path.{◌∙◌}
-use native.Mathlib.Omega.{arith}
 use Rattle.stepping_machine.proofs.load.load_all.Given as goal
 
 abbrev pub invariant-loop-k : goal.invariant-loop-k

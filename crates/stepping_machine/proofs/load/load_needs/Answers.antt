@@ -1,6 +1,5 @@
 -- `load_needs` (src/load.rt) keeps its contract.
-use Rattle.stepping_machine.specs.Loads.{NeedsIs}
-use Prim.Native.Nat.{◌-◌, ◌≤◌}
+use Prim.Native.Nat.{◌-◌}
 use mathlib.Core.Path.{◌≡◌}
 use native.Mathlib.Omega.{arith}
 use Rattle.stepping_machine.proofs.Opening.{needs-more, needs-none}

@@ -1,10 +1,6 @@
 -- `load_needs` (src/load.rt) keeps its contract: its loops.
 use Rattle.stepping_machine.specs.Loads.{NeedsIs}
 use Prim.Native.Nat.{◌-◌, ◌≤◌}
-use mathlib.Core.Path.{◌≡◌}
-use native.Mathlib.Omega.{arith}
-use Rattle.stepping_machine.proofs.Opening.{needs-more, needs-none}
-use Rattle.stepping_machine.proofs.Loading.{number-there}
 use Rattle.stepping_machine.proofs.load.load_needs.Given as goal
 
 abbrev pub invariant-loop-t : goal.invariant-loop-t

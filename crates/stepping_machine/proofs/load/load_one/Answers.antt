@@ -1,5 +1,4 @@
 -- `load_one` (src/load.rt) keeps its contract.
-use mathlib.Core.Path.{◌∙◌}
 use native.Mathlib.Omega.{arith}
 use Rattle.stepping_machine.proofs.Opening.{one-loaded, decodable-at}
 use Rattle.stepping_machine.proofs.load.load_one.Goals as goal
@@ -21,5 +20,5 @@ overflow_add-result c = omega (arith, c.load_programme-x.ensures.far, c.word-e.e
 pub returns : goal.returns
 returns c =
     let last = c.word-e.ensures in
-        one-loaded _ _ c.args.w.now _ _ _ _ c.args.k _ _ _ _ _ c.requires.1 c.requires.2 c.requires.3 c.word-o.ensures.0 last.0 last.1
+    one-loaded _ _ c.args.w.now _ _ _ _ c.args.k _ _ _ _ _ c.requires.1 c.requires.2 c.requires.3 c.word-o.ensures.0 last.0 last.1
     c.load_programme-x.ensures c.ways.ensures c.open_programme.ensures

@@ -1,5 +1,5 @@
 -- `load_programme` (src/load.rt) keeps its contract. `d` is behind the command that was decoded.
-use Rattle.stepping_machine.proofs.Loading.{Loading, loading-ends, loading-more, loading-starts}
+use Rattle.stepping_machine.proofs.Loading.{loading-ends, loading-more, loading-starts}
 use Prim.Native.Nat.{◌-◌}
 use mathlib.Core.Path.{◌∙◌}
 use native.Mathlib.Omega.{arith}
@@ -14,7 +14,7 @@ decode-x-requires c = (c.loop-from.invariant.decodable, c.loop-from-test.true)
 pub overflow_add-store : goal.overflow_add-store
 overflow_add-store c =
     let g = c.loop-from.invariant in
-        omega (arith, g.small, g.slow, g.near, c.decode-x.ensures.small, c.loop-from-test.true, c.requires.1, c.requires.2)
+    omega (arith, g.small, g.slow, g.near, c.decode-x.ensures.small, c.loop-from-test.true, c.requires.1, c.requires.2)
 
 pub overflow_add-from : goal.overflow_add-from
 overflow_add-from c = omega (arith, c.decode-x.ensures.few, c.loop-from-test.true, c.requires.1)

@@ -1,8 +1,6 @@
 -- `load_programme` (src/load.rt) keeps its contract: its loops. `d` is behind the command that was decoded.
-use Rattle.stepping_machine.proofs.Loading.{Loading, loading-ends, loading-more, loading-starts}
+use Rattle.stepping_machine.proofs.Loading.{Loading}
 use Prim.Native.Nat.{◌-◌}
-use mathlib.Core.Path.{◌∙◌}
-use native.Mathlib.Omega.{arith}
 use Rattle.stepping_machine.proofs.load.load_programme.Given as goal
 
 abbrev pub invariant-loop-from : goal.invariant-loop-from

@@ -1,6 +1,5 @@
 -- `rest` (src/load.rt) keeps its contract.
-use Rattle.stepping_machine.specs.Loads.{RestIs}
-use Prim.Native.Nat.{◌-◌, ◌≤◌}
+use Prim.Native.Nat.{◌-◌}
 use mathlib.Core.Path.{◌≡◌}
 use native.Mathlib.Omega.{arith}
 use Rattle.stepping_machine.proofs.Opening.{rest_more, rest-starts}

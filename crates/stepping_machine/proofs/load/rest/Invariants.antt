@@ -1,9 +1,6 @@
 -- `rest` (src/load.rt) keeps its contract: its loops.
 use Rattle.stepping_machine.specs.Loads.{RestIs}
 use Prim.Native.Nat.{◌-◌, ◌≤◌}
-use mathlib.Core.Path.{◌≡◌}
-use native.Mathlib.Omega.{arith}
-use Rattle.stepping_machine.proofs.Opening.{rest_more, rest-starts}
 use Rattle.stepping_machine.proofs.load.rest.Given as goal
 
 abbrev pub invariant-loop-k : goal.invariant-loop-k

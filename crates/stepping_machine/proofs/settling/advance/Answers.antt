@@ -1,7 +1,6 @@
 -- `advance` (src/settling.rt) keeps its contract.
-use Rattle.stepping_machine.specs.Layout as lay
-use Rattle.stepping_machine.proofs.Going.{Advancing, advance-full, advance-more, advance-starts, advance-stops}
-use Prim.Native.Nat.{◌-◌, ◌≤◌}
+use Rattle.stepping_machine.proofs.Going.{advance-full, advance-more, advance-starts, advance-stops}
+use Prim.Native.Nat.{◌-◌}
 use mathlib.Core.Path.{◌∙◌}
 use native.Mathlib.Omega.{arith}
 use Rattle.stepping_machine.proofs.settling.advance.Goals as goal

@@ -1,9 +1,7 @@
 -- `advance` (src/settling.rt) keeps its contract: its loops.
 use Rattle.stepping_machine.specs.Layout as lay
-use Rattle.stepping_machine.proofs.Going.{Advancing, advance-full, advance-more, advance-starts, advance-stops}
+use Rattle.stepping_machine.proofs.Going.{Advancing}
 use Prim.Native.Nat.{◌-◌, ◌≤◌}
-use mathlib.Core.Path.{◌∙◌}
-use native.Mathlib.Omega.{arith}
 use Rattle.stepping_machine.proofs.settling.advance.Given as goal
 
 abbrev pub invariant-loop-n : goal.invariant-loop-n

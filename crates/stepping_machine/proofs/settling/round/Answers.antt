@@ -1,8 +1,7 @@
 -- `round` (src/settling.rt) keeps its contract.
 use Rattle.stepping_machine.proofs.Going.{round-ends, round-more, round-starts}
 use native.Mathlib.Omega.{arith}
-use Rattle.stepping_machine.proofs.Going.{Rounding}
-use Prim.Native.Nat.{◌-◌, ◌≤◌}
+use Prim.Native.Nat.{◌-◌}
 use Rattle.stepping_machine.proofs.settling.round.Goals as goal
 
 pub loop-k-init : goal.loop-k-init

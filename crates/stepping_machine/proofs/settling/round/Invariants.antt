@@ -1,6 +1,4 @@
 -- `round` (src/settling.rt) keeps its contract: its loops.
-use Rattle.stepping_machine.proofs.Going.{round-ends, round-more, round-starts}
-use native.Mathlib.Omega.{arith}
 use Rattle.stepping_machine.proofs.Going.{Rounding}
 use Prim.Native.Nat.{◌-◌, ◌≤◌}
 use Rattle.stepping_machine.proofs.settling.round.Given as goal

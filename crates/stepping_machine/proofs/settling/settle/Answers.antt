@@ -1,6 +1,5 @@
 -- `settle` (src/settling.rt) keeps its contract.
-use Rattle.stepping_machine.specs.Layout as lay
-use Rattle.stepping_machine.proofs.Going.{Rounds, settle-ends, settle-more, settle-starts, settle-stops}
+use Rattle.stepping_machine.proofs.Going.{settle-ends, settle-more, settle-starts, settle-stops}
 use mathlib.Core.Path.{refl, ◌∙◌}
 use native.Mathlib.Omega.{arith}
 use Rattle.stepping_machine.proofs.settling.settle.Goals as goal

@@ -1,8 +1,6 @@
 -- `settle` (src/settling.rt) keeps its contract: its loops.
 use Rattle.stepping_machine.specs.Layout as lay
-use Rattle.stepping_machine.proofs.Going.{Rounds, settle-ends, settle-more, settle-starts, settle-stops}
-use mathlib.Core.Path.{refl, ◌∙◌}
-use native.Mathlib.Omega.{arith}
+use Rattle.stepping_machine.proofs.Going.{Rounds}
 use Rattle.stepping_machine.proofs.settling.settle.Given as goal
 
 abbrev pub invariant-loop-rounds : goal.invariant-loop-rounds

@@ -1,6 +1,5 @@
 -- `copy` (src/start.rt) keeps its contract.
-use Rattle.stepping_machine.specs.Starts.{CopyIs}
-use Prim.Native.Nat.{◌-◌, ◌≤◌}
+use Prim.Native.Nat.{◌-◌}
 use mathlib.Core.Path.{◌≡◌, refl}
 use native.Mathlib.Omega.{arith}
 use Rattle.stepping_machine.proofs.Starting.{copy_more, copy-starts}

@@ -1,9 +1,6 @@
 -- `copy` (src/start.rt) keeps its contract: its loops.
 use Rattle.stepping_machine.specs.Starts.{CopyIs}
 use Prim.Native.Nat.{◌-◌, ◌≤◌}
-use mathlib.Core.Path.{◌≡◌, refl}
-use native.Mathlib.Omega.{arith}
-use Rattle.stepping_machine.proofs.Starting.{copy_more, copy-starts}
 use Rattle.stepping_machine.proofs.start.copy.Given as goal
 
 abbrev pub invariant-loop-i : goal.invariant-loop-i

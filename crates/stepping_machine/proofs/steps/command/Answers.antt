@@ -1,6 +1,5 @@
 -- `command` (src/steps.rt) keeps its contract. `x` is behind the word that was read.
 use native.Mathlib.Omega.{arith}
-use mathlib.Core.Path.{◌∙◌}
 use Rattle.stepping_machine.specs.Words.{gave_words}
 use Rattle.stepping_machine.proofs.Chosen.{gave, got, ran, sent, stopped}
 use Rattle.stepping_machine.proofs.steps.command.Goals as goal

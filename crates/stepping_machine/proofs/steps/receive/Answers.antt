@@ -10,8 +10,7 @@ returns-then-stamp-eq0 c = (rw (eq-eqb (get_or c.args.w.now c.args.i 0) 0 (sym c
 
 pub returns : goal.returns
 unfolding got_words
-returns c =
-    (
-      rw (ne_eqb (get_or c.args.w.now c.args.i 0) 0 (λ q. c.if-stamp-eq0.false (c.word-stamp.ensures.0 ∙ q))),
-      simp (c.go_on.ensures, c.word-stamp.ensures.0, c.word-unpacking.ensures.0),
-    )
+returns c = (
+  rw (ne_eqb (get_or c.args.w.now c.args.i 0) 0 (λ q. c.if-stamp-eq0.false (c.word-stamp.ensures.0 ∙ q))),
+  simp (c.go_on.ensures, c.word-stamp.ensures.0, c.word-unpacking.ensures.0),
+)

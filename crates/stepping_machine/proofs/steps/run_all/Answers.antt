@@ -1,9 +1,7 @@
 -- `run_all` (src/steps.rt) keeps its contract.
-use Prim.Native.Nat.{◌-◌, ◌≤◌}
+use Prim.Native.Nat.{◌-◌}
 use native.Mathlib.Omega.{arith}
-use lib.ListN.{length, take}
 use Rattle.folds.proofs.Tests.{bit_le}
-use Rattle.machine.specs.Kept.{RunIs}
 use Rattle.stepping_machine.specs.Represents.{Represents}
 use Rattle.machine.proofs.Kept.{run-all, run_more, run_none}
 use Rattle.stepping_machine.proofs.steps.run_all.Goals as goal

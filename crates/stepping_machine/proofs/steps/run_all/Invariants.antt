@@ -1,11 +1,8 @@
 -- `run_all` (src/steps.rt) keeps its contract: its loops.
 use Prim.Native.Nat.{◌-◌, ◌≤◌}
-use native.Mathlib.Omega.{arith}
 use lib.ListN.{length, take}
-use Rattle.folds.proofs.Tests.{bit_le}
 use Rattle.machine.specs.Kept.{RunIs}
 use Rattle.stepping_machine.specs.Represents.{Represents}
-use Rattle.machine.proofs.Kept.{run-all, run_more, run_none}
 use Rattle.stepping_machine.proofs.steps.run_all.Given as goal
 
 abbrev pub invariant-loop-i : goal.invariant-loop-i

@@ -1,5 +1,5 @@
 -- `note_homes` (src/ways.rt) keeps its contract.
-use Prim.Native.Nat.{◌-◌, ◌≤◌}
+use Prim.Native.Nat.{◌-◌}
 use mathlib.Core.Path.{subst}
 use native.Mathlib.Omega.{arith}
 use Rattle.stepping_machine.specs.Loads.{NotedIs}

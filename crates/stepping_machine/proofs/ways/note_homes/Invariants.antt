@@ -1,9 +1,6 @@
 -- `note_homes` (src/ways.rt) keeps its contract: its loops.
 use Prim.Native.Nat.{◌-◌, ◌≤◌}
-use mathlib.Core.Path.{subst}
-use native.Mathlib.Omega.{arith}
 use Rattle.stepping_machine.specs.Loads.{NotedIs}
-use Rattle.stepping_machine.proofs.Raising.{noted-starts, noted_more}
 use Rattle.stepping_machine.proofs.ways.note_homes.Given as goal
 
 abbrev pub invariant-loop-t : goal.invariant-loop-t

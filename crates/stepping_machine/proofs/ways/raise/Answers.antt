@@ -1,7 +1,6 @@
 -- `raise` (src/ways.rt) keeps its contract.
-use Prim.Native.Nat.{◌-◌, ◌≤◌, max}
+use Prim.Native.Nat.{◌-◌}
 use native.Mathlib.Omega.{arith}
-use Rattle.stepping_machine.specs.Loads.{RaiseIs}
 use Rattle.stepping_machine.proofs.Raising.{raise-starts, raise-more, raise-ends}
 use Rattle.stepping_machine.proofs.ways.raise.Goals as goal
 

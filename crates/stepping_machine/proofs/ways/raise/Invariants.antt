@@ -1,8 +1,6 @@
 -- `raise` (src/ways.rt) keeps its contract: its loops.
 use Prim.Native.Nat.{◌-◌, ◌≤◌, max}
-use native.Mathlib.Omega.{arith}
 use Rattle.stepping_machine.specs.Loads.{RaiseIs}
-use Rattle.stepping_machine.proofs.Raising.{raise-starts, raise-more, raise-ends}
 use Rattle.stepping_machine.proofs.ways.raise.Given as goal
 
 abbrev pub invariant-loop-i : goal.invariant-loop-i

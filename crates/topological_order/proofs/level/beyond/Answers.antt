@@ -1,9 +1,8 @@
 -- `beyond` (src/level.rt) keeps its contract.
-use Prim.Native.Nat.{◌-◌, ◌<◌, ◌≤◌}
+use Prim.Native.Nat.{◌-◌, ◌<◌}
 use mathlib.Core.Path.{◌≡◌, sym}
 use native.Mathlib.Omega.{arith}
-use Rattle.folds.specs.Folds.{greatest}
-use Rattle.sheet.specs.Sheet.{link_count, source_of}
+use Rattle.sheet.specs.Sheet.{link_count}
 use Rattle.sheet.specs.Tables.{sheet_in}
 use Rattle.graph.specs.Graph.{level_by}
 use Rattle.adjacency.proofs.Walks.{own_first, own-next, greatest-first, greatest-next}

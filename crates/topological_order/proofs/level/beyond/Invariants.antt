@@ -1,15 +1,11 @@
 -- `beyond` (src/level.rt) keeps its contract: its loops.
 use Prim.Native.Nat.{◌-◌, ◌<◌, ◌≤◌}
-use mathlib.Core.Path.{◌≡◌, sym}
-use native.Mathlib.Omega.{arith}
+use mathlib.Core.Path.{◌≡◌}
 use Rattle.folds.specs.Folds.{greatest}
 use Rattle.sheet.specs.Sheet.{link_count, source_of}
 use Rattle.sheet.specs.Tables.{sheet_in}
 use Rattle.graph.specs.Graph.{level_by}
-use Rattle.adjacency.proofs.Walks.{own_first, own-next, greatest-first, greatest-next}
 use Rattle.topological_order.specs.Peeling.{level_in}
-use Rattle.topological_order.proofs.Lights.{level-other}
-use Rattle.topological_order.proofs.Levels.{beyond-own}
 use Rattle.topological_order.proofs.level.beyond.Given as goal
 
 abbrev pub invariant-loop-l : goal.invariant-loop-l

@@ -2,10 +2,6 @@
 use Rattle.topological_order.specs.Words.{Outside}
 use Rattle.topological_order.specs.Peeling.{Counted}
 use Prim.Native.Nat.{◌-◌, ◌≤◌}
-use native.Mathlib.Omega.{arith}
-use Rattle.topological_order.proofs.Frames.{outside-none}
-use Rattle.topological_order.proofs.Starts.{blank-outside, blank-more, blank_none, counted-at}
-use mathlib.Core.Path.{refl}
 use Rattle.sheet.specs.Tables.{sheet_in}
 use Rattle.topological_order.proofs.peel.blank.Given as goal
 

@@ -1,13 +1,9 @@
 -- `count` (src/peel.rt) keeps its contract.
-use Rattle.topological_order.specs.Words.{Outside}
-use Rattle.topological_order.specs.Peeling.{Counted}
-use Prim.Native.Nat.{◌-◌, ◌≤◌}
+use Prim.Native.Nat.{◌-◌}
 use native.Mathlib.Omega.{arith}
 use Rattle.topological_order.proofs.Frames.{outside-none, loaded-declared}
 use Rattle.topological_order.proofs.Starts.{count-asks, count-turns, counted-at, filled_none}
 use mathlib.Core.Path.{refl}
-use Rattle.sheet.specs.Tables.{sheet_in}
-use Rattle.sheet.specs.Sheet.{task_count}
 use Rattle.topological_order.proofs.peel.count.Goals as goal
 
 pub loop-l-init : goal.loop-l-init

@@ -2,10 +2,6 @@
 use Rattle.topological_order.specs.Words.{Outside}
 use Rattle.topological_order.specs.Peeling.{Counted}
 use Prim.Native.Nat.{◌-◌, ◌≤◌}
-use native.Mathlib.Omega.{arith}
-use Rattle.topological_order.proofs.Frames.{outside-none, loaded-declared}
-use Rattle.topological_order.proofs.Starts.{count-asks, count-turns, counted-at, filled_none}
-use mathlib.Core.Path.{refl}
 use Rattle.sheet.specs.Tables.{sheet_in}
 use Rattle.sheet.specs.Sheet.{task_count}
 use Rattle.topological_order.proofs.peel.count.Given as goal

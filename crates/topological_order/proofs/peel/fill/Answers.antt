@@ -1,11 +1,8 @@
 -- `fill` (src/peel.rt) keeps its contract.
-use Rattle.topological_order.specs.Words.{Outside}
-use Rattle.topological_order.specs.Peeling.{Filled}
-use Prim.Native.Nat.{◌-◌, ◌≤◌}
+use Prim.Native.Nat.{◌-◌}
 use native.Mathlib.Omega.{arith}
 use Rattle.topological_order.proofs.Frames.{outside-none}
 use Rattle.topological_order.proofs.Starts.{fill-asks, fill-turns, filled-done}
-use Rattle.sheet.specs.Tables.{sheet_in}
 use Rattle.topological_order.proofs.peel.fill.Goals as goal
 
 pub loop-t-init : goal.loop-t-init

@@ -2,9 +2,6 @@
 use Rattle.topological_order.specs.Words.{Outside}
 use Rattle.topological_order.specs.Peeling.{Filled}
 use Prim.Native.Nat.{◌-◌, ◌≤◌}
-use native.Mathlib.Omega.{arith}
-use Rattle.topological_order.proofs.Frames.{outside-none}
-use Rattle.topological_order.proofs.Starts.{fill-asks, fill-turns, filled-done}
 use Rattle.sheet.specs.Tables.{sheet_in}
 use Rattle.topological_order.proofs.peel.fill.Given as goal
 

@@ -1,9 +1,7 @@
 -- `take_all` (src/peel.rt) keeps its contract.
 use Prim.Native.Nat.{◌-◌}
 use native.Mathlib.Omega.{arith}
-use Rattle.sheet.specs.Tables.{sheet_in}
-use Rattle.sheet.specs.Sheet.{task_count}
-use Rattle.topological_order.proofs.Turns.{TakenTo, peeled-few, take-asks, take_ends, take-starts, take-turns}
+use Rattle.topological_order.proofs.Turns.{peeled-few, take-asks, take_ends, take-starts, take-turns}
 use Rattle.topological_order.proofs.peel.take_all.Goals as goal
 
 pub loop-i-init : goal.loop-i-init

@@ -1,9 +1,8 @@
 -- `take_all` (src/peel.rt) keeps its contract: its loops.
 use Prim.Native.Nat.{◌-◌}
-use native.Mathlib.Omega.{arith}
 use Rattle.sheet.specs.Tables.{sheet_in}
 use Rattle.sheet.specs.Sheet.{task_count}
-use Rattle.topological_order.proofs.Turns.{TakenTo, peeled-few, take-asks, take_ends, take-starts, take-turns}
+use Rattle.topological_order.proofs.Turns.{TakenTo}
 use Rattle.topological_order.proofs.peel.take_all.Given as goal
 
 abbrev pub invariant-loop-i : goal.invariant-loop-i

@@ -1,8 +1,6 @@
 -- `walk` (src/peel.rt) keeps its contract: its loops.
-use Rattle.topological_order.proofs.Turns.{WalkTo, next-asks, walk-asks, walk_ends, walk-less, walk-starts, walk-turns}
+use Rattle.topological_order.proofs.Turns.{WalkTo}
 use Prim.Native.Nat.{◌-◌}
-use native.Mathlib.Omega.{arith}
-use Rattle.topological_order.proofs.Frames.{outside_trans, grown-outside}
 use Rattle.topological_order.proofs.peel.walk.Given as goal
 
 abbrev pub invariant-loop-l : goal.invariant-loop-l
