@@ -53,13 +53,10 @@ fn unchain(w: &mut [u32], e: End)
     requires { Loaded w.old }
     ensures { Rechained e w.old w.new × ChainedFrom e (sheet_in w.old) (link_count (sheet_in w.old)) w.new }
 {
-    let n = tables::tasks(w);
     let m = tables::links(w);
-    let mut t: usize = 0;
-    while t < n {
+    for t in 0..tables::tasks(w) {
         let x = workspace::word(w, HEADS + t);
-        w[HEADS + t] = workspace::narrow(with_half(e, x, m));
-        t += 1;
+        w[HEADS + t] = with_half(e, x, m) as u32;
     }
 }
 
@@ -73,8 +70,8 @@ fn chain_one(w: &mut [u32], e: End, l: usize)
     let t = end_of(w, e, l);
     let x = workspace::word(w, HEADS + t);
     let y = workspace::word(w, NEXTS + l);
-    w[NEXTS + l] = workspace::narrow(with_half(e, y, half(e, x)));
-    w[HEADS + t] = workspace::narrow(with_half(e, x, l));
+    w[NEXTS + l] = with_half(e, y, half(e, x)) as u32;
+    w[HEADS + t] = with_half(e, x, l) as u32;
 }
 
 // All links go into the chains, the last first.
@@ -83,9 +80,7 @@ fn chain_all(w: &mut [u32], e: End)
     requires chained_from { ChainedFrom e (sheet_in w.old) (link_count (sheet_in w.old)) w.old }
     ensures { Rechained e w.old w.new × Chained e (sheet_in w.old) w.new }
 {
-    let mut l = tables::links(w);
-    while 0 < l {
-        l -= 1;
+    for l in (0..tables::links(w)).rev() {
         chain_one(w, e, l);
     }
 }

@@ -1,5 +1,5 @@
 -- 21 to 26, 31 to 33 and 37 strung together.
-use Prim.Native.Nat.{ℕ, ◌+◌, ◌*◌, ◌≤◌, ◌<◌}
+use Prim.Native.Nat.{ℕ, ◌+◌, ◌≤◌, ◌<◌}
 use mathlib.Core.Path.{◌≡◌, refl, sym, ap, ◌∙◌, subst}
 use mathlib.Core.Option.{Option, none, some}
 use mathlib.Core.List.{List}
@@ -13,10 +13,12 @@ use Rattle.bundle.specs.Bundle.{run, Bundle, programme_count}
 use Rattle.bundle.specs.Format.{read_bundle}
 use Rattle.bundle.specs.Counts.{Sized}
 use Rattle.bundle.specs.Lies.{Laid}
-use Rattle.bundle_reader.specs.Answers.{reading_of}
+use Rattle.bundle_reader.specs.Answers.{outline, outline_of, reading_of}
 use Rattle.bundle_reader.specs.ReadIs.{ReadIs}
-use Rattle.bundle_reader.specs.declared.bytes.Reading.{Reading}
-use Rattle.bundle_reader.specs.declared.bytes.Reading.TheVariants.{Read, Refused as Unread}
+use Rattle.bundle_reader.specs.declared.bytes.Outline.{Outline}
+use Rattle.refusals.specs.Refusals.{refusal, refusal_of}
+use Rattle.refusals.specs.declared.Refusal.{Refusal}
+use Rattle.refusals.proofs.Results.{refused-by}
 use Rattle.bundle.proofs.Rounds.{read-formed}
 use Rattle.bundle.proofs.Faults.{sheet_by, sized-by}
 use Rattle.admission.specs.Messages.{home, at26, at_message, at28, Published}
@@ -24,16 +26,12 @@ use Rattle.admission.specs.Releases.{at37}
 use Rattle.admission.specs.Notes.{slots_at, slot_of, home_in, slots_end, Apart, NotesIs}
 use Rattle.admission.specs.Lasts.{WrongIs}
 use Rattle.workspace.specs.Found.{found_of}
-use Rattle.admission.specs.Rules.{Given, OnceIs, fault_of, MessageIs}
-use Rattle.admission.specs.Fields.{Known, Bounded}
+use Rattle.admission.specs.Rules.{Given, OnceIs, MessageIs}
+use Rattle.admission.specs.Fields.{Known}
 use Rattle.admission.specs.declared.view.View.{View}
 use Rattle.admission.specs.Admitted.{freed, messaged, published, admitted, published_bytes, admitted_bytes, judged_of, Told, FreedIs, MessagesIs, RulesIs, JudgeIs}
-use Rattle.workspace.specs.declared.total.Found.{Found}
-use Rattle.workspace.specs.declared.total.Found.TheVariants.{At, Nothing}
-use Rattle.admission.specs.declared.rules.Fault.{Fault}
-use Rattle.admission.specs.declared.rules.Fault.TheVariants as fault
-use Rattle.admission.specs.declared.Judged.{Judged}
-use Rattle.admission.specs.declared.Judged.TheVariants.{Fit, Refused}
+use Rattle.workspace.specs.Found.{Found}
+use Rattle.std.specs.Prelude.{⊤, Some, None, Result, Ok, Err}
 use Rattle.admission.proofs.Messages.{run-once}
 use Rattle.admission.proofs.Places.{placed-programme, placed-home}
 use Rattle.admission.proofs.Ruled.{placed}
@@ -42,23 +40,26 @@ use Rattle.admission.proofs.Few.{commands-whole, short-of-read}
 use Rattle.admission.proofs.Plain.{all-met}
 
 -- a bundle that was read has no more programmes than the sheet has processors
-pub read-few : {b : List ℕ} {p t l : ℕ} {v last : List ℕ} {r : Reading} → ReadIs b p t l v last r → (m c claim : ℕ) → r ≡ Read m c claim → m ≤ p
-unfolding reading_of programme_count
-read-few {b} {p} {t} {l} h m c claim e = by (read_bundle (sheet_by p t l) b) refl (sym e ∙ h.answer (sheet_by p t l) (sized-by p t l))
+pub read-few : {b : List ℕ} {p t l : ℕ} {v last : List ℕ} {r : Result Outline Refusal} → ReadIs b p t l v last r → (o : Outline) → r ≡ Ok o → o.programmes ≤ p
+unfolding outline_of programme_count
+read-few {b} {p} {t} {l} h o e = by (read_bundle (sheet_by p t l) b) refl (sym e ∙ h.answer (sheet_by p t l) (sized-by p t l))
   where
-    by : (o : Answer Bundle) → read_bundle (sheet_by p t l) b ≡ o → Read m c claim ≡ reading_of o → m ≤ p
-    by (value x) q f = let g : m ≡ length x.programmes = cc in omega (arith, (read-formed (sheet_by p t l) b x q).few, (sized-by p t l).processors)
-    by (refused n at) q f = let z : ◌≡◌ {A = ℕ} 0 1 = cc in absurd (omega arith)
+    by : (a : Answer Bundle) → read_bundle (sheet_by p t l) b ≡ a → Ok o ≡ reading_of a → o.programmes ≤ p
+    by (value x) q f =
+        let g : o ≡ outline_of x = cc in
+        omega (arith, ap (λ (y : Outline). y.programmes) g, (read-formed (sheet_by p t l) b x q).few, (sized-by p t l).processors)
+    by (refused n at) q f = absurd cc
 
-module _ (sheet bundle w : List ℕ) (v : View) (m c claim : ℕ) where
-  fit_is : (s : Sheet) (b : Bundle) → Told s b sheet bundle w v m c claim → Fit m c claim ≡ judged_of (value b)
+module _ (sheet bundle w : List ℕ) (v : View) (u : Outline) where
+  fit_is : (s : Sheet) (b : Bundle) → Told s b sheet bundle w v u.programmes u.commands u.claim → Ok u ≡ judged_of (value b)
+  unfolding outline_of
   fit_is s b t = sym (three t.programmes t.commands t.claimed)
     where
-      three : {x y z : ℕ} → x ≡ m → y ≡ c → z ≡ claim → Fit x y z ≡ Fit m c claim
-      three p q r = cc
+      three : {x y z : ℕ} → x ≡ u.programmes → y ≡ u.commands → z ≡ u.claim → ◌≡◌ {A = Result Outline Refusal} (Ok (outline x y z)) (Ok u)
+      three {x} {y} {z} p q r = ap (λ (i : ℕ). Ok (outline i y z)) p ∙ ap (λ (i : ℕ). Ok (outline u.programmes i z)) q ∙ ap (λ (i : ℕ). Ok (outline u.programmes u.commands i)) r
 
   -- 37
-  pub freed-none : (met : ℕ) → met ≡ c → FreedIs sheet bundle w w v m c claim (Fit m c claim) met
+  pub freed-none : (met : ℕ) → met ≡ u.commands → FreedIs sheet bundle w w v u.programmes u.commands u.claim (Ok u) met
   unfolding freed
   freed-none met e =
       record {
@@ -69,10 +70,10 @@ module _ (sheet bundle w : List ℕ) (v : View) (m c claim : ℕ) where
       }
 
   module _ (met : ℕ) (last : List ℕ) (f : Found) (h : WrongIs sheet bundle w last v f) where
-    release-is : (s : Sheet) (b : Bundle) → Told s b sheet bundle w v m c claim → Given s b sheet w v → at26 s b ≡ none → at_message s b ≡ none → found_of f ≡ at37 s b
+    release-is : (s : Sheet) (b : Bundle) → Told s b sheet bundle w v u.programmes u.commands u.claim → Given s b sheet w v → at26 s b ≡ none → at_message s b ≡ none → found_of f ≡ at37 s b
     release-is s b t g once messages = h.is_37 s b g t.few t.bytes t.read once messages
 
-    pub freed-wrong : (at : ℕ) → f ≡ At at → FreedIs sheet bundle w last v m c claim (Refused 37 at) met
+    pub freed-wrong : (at : ℕ) → f ≡ Some at → FreedIs sheet bundle w last v u.programmes u.commands u.claim (Err (refusal 37 at)) met
     unfolding freed
     freed-wrong at e =
         record {
@@ -80,7 +81,7 @@ module _ (sheet bundle w : List ℕ) (v : View) (m c claim : ℕ) where
           is = λ s b t g q once messages. ap (λ (o : Option ℕ). judged_of (unless 37 o (value b))) (ap found_of (sym e) ∙ release-is s b t g once messages);
         }
 
-    pub freed-right : f ≡ Nothing → FreedIs sheet bundle w last v m c claim (Fit m c claim) met
+    pub freed-right : f ≡ None → FreedIs sheet bundle w last v u.programmes u.commands u.claim (Ok u) met
     unfolding freed
     freed-right e =
         record {
@@ -91,29 +92,29 @@ module _ (sheet bundle w : List ℕ) (v : View) (m c claim : ℕ) where
         }
 
   -- 31 to 33
-  module _ (met : ℕ) (f : Fault) (h : MessageIs sheet w v f) where
-    pub message-wrong : (n l : ℕ) → f ≡ fault.At n l → MessagesIs sheet bundle w w v m c claim (Refused n l) met
+  module _ (met : ℕ) (f : Result ⊤ Refusal) (h : MessageIs sheet w v f) where
+    pub message-wrong : (x : Refusal) → f ≡ Err x → MessagesIs sheet bundle w w v u.programmes u.commands u.claim (Err x) met
     unfolding messaged
-    message-wrong n l e =
+    message-wrong x e =
         record {
           kept = record { long = refl; low = λ i l. refl };
-          is = λ s b t g q o. ap (λ (x : Option (ℕ × ℕ)). judged_of (unless_at x (freed s b))) (ap fault_of (sym e) ∙ h.is_lowest s b g o);
+          is = λ s b t g q o. ap (λ (x : Option (ℕ × ℕ)). judged_of (unless_at x (freed s b))) (ap refusal_of (sym e) ∙ h.is_lowest s b g o);
         }
 
-    pub message-right : (last : List ℕ) (r : Judged) → f ≡ fault.Nothing → FreedIs sheet bundle w last v m c claim r met → MessagesIs sheet bundle w last v m c claim r met
+    pub message-right : (last : List ℕ) (r : Result Outline Refusal) → f ≡ Ok tt → FreedIs sheet bundle w last v u.programmes u.commands u.claim r met → MessagesIs sheet bundle w last v u.programmes u.commands u.claim r met
     unfolding messaged
     message-right last r e x =
         record {
           kept = x.kept;
           is =
               λ s b t g q o.
-              let n : none ≡ at_message s b = ap fault_of (sym e) ∙ h.is_lowest s b g o in
+              let n : none ≡ at_message s b = ap refusal_of (sym e) ∙ h.is_lowest s b g o in
               x.is s b t g q o (sym n) ∙ ap (λ (y : Option (ℕ × ℕ)). judged_of (unless_at y (freed s b))) n;
         }
 
   -- 26
-  module _ (u : List ℕ) (met : ℕ) (a : NotesIs bundle w u v.tasks v.links met) (f : Found) (h : OnceIs u v.tasks f) where
-    given : (s : Sheet) (b : Bundle) → Told s b sheet bundle w v m c claim → Given s b sheet u v
+  module _ (mid : List ℕ) (met : ℕ) (a : NotesIs bundle w mid v.tasks v.links met) (f : Found) (h : OnceIs mid v.tasks f) where
+    given : (s : Sheet) (b : Bundle) → Told s b sheet bundle w v u.programmes u.commands u.claim → Given s b sheet mid v
     given s b t =
         let k = t.known in
         record {
@@ -122,7 +123,7 @@ module _ (sheet bundle w : List ℕ) (v : View) (m c claim : ℕ) where
           notes = a.notes s b k.tasks k.links k.ranged.few_tasks k.ranged.few_links t.few t.long t.bytes t.read;
         }
 
-    told : (s : Sheet) (b : Bundle) → Told s b sheet bundle w v m c claim → Told s b sheet bundle u v m c claim
+    told : (s : Sheet) (b : Bundle) → Told s b sheet bundle w v u.programmes u.commands u.claim → Told s b sheet bundle mid v u.programmes u.commands u.claim
     unfolding programme_count
     told s b t =
         record {
@@ -137,21 +138,21 @@ module _ (sheet bundle w : List ℕ) (v : View) (m c claim : ℕ) where
           long = omega (arith, t.long, a.kept.long);
         }
 
-    once_is : (s : Sheet) (b : Bundle) → Told s b sheet bundle w v m c claim → found_of f ≡ at26 s b
+    once_is : (s : Sheet) (b : Bundle) → Told s b sheet bundle w v u.programmes u.commands u.claim → found_of f ≡ at26 s b
     once_is s b t = let g = given s b t in h.is_26 s b g.count t.known.tasks g.notes
 
     -- by their notes, which stay, where each task runs
-    homes_by : (last : List ℕ) → Apart u last → (s : Sheet) (b : Bundle) → Told s b sheet bundle w v m c claim → at26 s b ≡ none → (t : ℕ) → t < task_count s → home_in last t ≡ home b (run t)
+    homes_by : (last : List ℕ) → Apart mid last → (s : Sheet) (b : Bundle) → Told s b sheet bundle w v u.programmes u.commands u.claim → at26 s b ≡ none → (t : ℕ) → t < task_count s → home_in last t ≡ home b (run t)
     homes_by last y s b x once t l =
         let g = given s b x in
-        let p = placed s b u g.count g.notes (run t) l (run-once s b once t l) in
+        let p = placed s b mid g.count g.notes (run t) l (run-once s b once t l) in
         omega (arith, y.low (slots_at + slot_of (run t)) (omega (arith, g.known.ranged.few_tasks)), placed-programme p.2, placed-home p.2)
 
-    pub rule-once : (t : ℕ) → f ≡ At t → RulesIs sheet bundle w u v m c claim (Refused 26 t)
+    pub rule-once : (t : ℕ) → f ≡ Some t → RulesIs sheet bundle w mid v u.programmes u.commands u.claim (Err (refusal 26 t))
     unfolding published
-    rule-once t e = record { kept = a.kept; is = λ s b x. ap (λ (o : Option ℕ). judged_of (unless 26 o (messaged s b))) (ap found_of (sym e) ∙ once_is s b x); homes = homes_by u (record { long = refl; low = λ i l. refl }) }
+    rule-once t e = record { kept = a.kept; is = λ s b x. ap (λ (o : Option ℕ). judged_of (unless 26 o (messaged s b))) (ap found_of (sym e) ∙ once_is s b x); homes = homes_by mid (record { long = refl; low = λ i l. refl }) }
 
-    pub rule-rest : (last : List ℕ) (r : Judged) → f ≡ Nothing → MessagesIs sheet bundle u last v m c claim r met → RulesIs sheet bundle w last v m c claim r
+    pub rule-rest : (last : List ℕ) (r : Result Outline Refusal) → f ≡ None → MessagesIs sheet bundle mid last v u.programmes u.commands u.claim r met → RulesIs sheet bundle w last v u.programmes u.commands u.claim r
     unfolding published given
     rule-rest last r e q =
         record {
@@ -215,38 +216,24 @@ stored-then s bundle b e =
 sized : {s : Sheet} {sheet : List ℕ} {v : View} → Known s sheet v → Sized s v.processors v.tasks v.links
 sized k = record { processors = k.processors; tasks = k.tasks; links = k.links }
 
-module _ (sheet bundle w u : List ℕ) (v : View) (long : slots_end ≤ length w) (narrow : Bounded v) (f : Reading) (h : ReadIs bundle v.processors v.tasks v.links w u f) where
-  pub judge-refused : (r at : ℕ) → f ≡ Unread r at → JudgeIs sheet bundle w u v (Refused r at)
-  unfolding published_bytes reading_of
-  judge-refused r at e =
+module _ (sheet bundle w u : List ℕ) (v : View) (long : slots_end ≤ length w) (f : Result Outline Refusal) (h : ReadIs bundle v.processors v.tasks v.links w u f) where
+  pub judge-refused : (r : Refusal) → f ≡ Err r → JudgeIs sheet bundle w u v (Err r)
+  unfolding published_bytes
+  judge-refused r e =
       record {
         long = h.long;
-        is = λ s k. by s (read_bundle s bundle) (sym e ∙ h.answer s (sized k));
-        laid = λ s k b q. none_passes s b (read_bundle s bundle) (sym e ∙ h.answer s (sized k)) q;
-        homes = λ s k b q. none_passes s b (read_bundle s bundle) (sym e ∙ h.answer s (sized k)) q;
+        is = λ s k. sym (ap (λ (a : Answer Bundle). judged_of (and_then a (published s))) (unread s k));
+        laid = λ s k b q. not-value (sym (ap (λ (a : Answer Bundle). and_then a (published s)) (unread s k)) ∙ q);
+        homes = λ s k b q. not-value (sym (ap (λ (a : Answer Bundle). and_then a (published s)) (unread s k)) ∙ q);
       }
     where
-      by : (s : Sheet) (o : Answer Bundle) → Unread r at ≡ reading_of o → Refused r at ≡ judged_of (and_then o (published s))
-      by s (value x) q = let z : ◌≡◌ {A = ℕ} 0 1 = cc in absurd (omega arith)
-      by s (refused i j) q = two (taken-0 q) (taken-1 q)
-        where
-          taken-0 : Unread r at ≡ Unread i j → r ≡ i
-          taken-0 q = cc
+      unread : (s : Sheet) → Known s sheet v → read_bundle s bundle ≡ refused r.number r.place
+      unread s k = refused-by outline_of (read_bundle s bundle) r (sym e ∙ h.answer s (sized k))
 
-          taken-1 : Unread r at ≡ Unread i j → at ≡ j
-          taken-1 q = cc
-
-          two : r ≡ i → at ≡ j → Refused r at ≡ Refused i j
-          two a b = cc
-
-      none_passes : {X : Type 0} (s : Sheet) (b : Bundle) (o : Answer Bundle) → Unread r at ≡ reading_of o → and_then o (published s) ≡ value b → X
-      none_passes s b (value x) q z = let y : ◌≡◌ {A = ℕ} 0 1 = cc in absurd (omega arith)
-      none_passes s b (refused i j) q z = not-value z
-
-  pub judge-rules : (last : List ℕ) (m c claim number : ℕ) (r : Judged) → Bytes bundle → f ≡ Read m c claim → number ≡ claim → RulesIs sheet bundle u last v m c number r
+  pub judge-rules : (last : List ℕ) (out : Outline) (r : Result Outline Refusal) → Bytes bundle → f ≡ Ok out → RulesIs sheet bundle u last v out.programmes out.commands out.claim r
       → JudgeIs sheet bundle w last v r
-  unfolding published_bytes reading_of programme_count
-  judge-rules last m c claim number r bytes e d q =
+  unfolding published_bytes outline_of programme_count
+  judge-rules last out r bytes e q =
       record {
         long = q.kept.long ∙ h.long;
         is = λ s k. by s k (read_bundle s bundle) refl (sym e ∙ h.answer s (sized k));
@@ -254,27 +241,27 @@ module _ (sheet bundle w u : List ℕ) (v : View) (long : slots_end ≤ length w
         homes = λ s k b z. home_at s k b (read_bundle s bundle) refl (sym e ∙ h.answer s (sized k)) z;
       }
     where
-      told : (s : Sheet) → Known s sheet v → (x : Bundle) → read_bundle s bundle ≡ value x → Read m c claim ≡ reading_of (value x)
-          → Told s x sheet bundle u v m c number
+      told : (s : Sheet) → Known s sheet v → (x : Bundle) → read_bundle s bundle ≡ value x → Ok out ≡ reading_of (value x)
+          → Told s x sheet bundle u v out.programmes out.commands out.claim
       told s k x o z =
-          let g : programme_count x ≡ m = cc in
+          let g : out ≡ outline_of x = cc in
           record {
             known = k;
-            programmes = g;
-            few = omega (arith, read-few h m c claim e, narrow.few_processors);
-            commands = cc;
-            claimed = cc;
+            programmes = sym (ap (λ (y : Outline). y.programmes) g);
+            few = omega (arith, ap (λ (y : Outline). y.programmes) g, read-few h out e, v.few_processors);
+            commands = sym (ap (λ (y : Outline). y.commands) g);
+            claimed = sym (ap (λ (y : Outline). y.claim) g);
             bytes = bytes;
             read = o;
             laid = λ small. rw (k.tasks, k.links) (h.laid s (sized k) small x o);
             long = omega (arith, h.long);
           }
 
-      by : (s : Sheet) → Known s sheet v → (o : Answer Bundle) → read_bundle s bundle ≡ o → Read m c claim ≡ reading_of o → r ≡ judged_of (and_then o (published s))
+      by : (s : Sheet) → Known s sheet v → (o : Answer Bundle) → read_bundle s bundle ≡ o → Ok out ≡ reading_of o → r ≡ judged_of (and_then o (published s))
       by s k (value x) o z = q.is s x (told s k x o z)
-      by s k (refused i j) o z = let y : ◌≡◌ {A = ℕ} 0 1 = cc in absurd (omega arith)
+      by s k (refused i j) o z = absurd cc
 
-      laid-at : (s : Sheet) → Known s sheet v → (b : Bundle) (o : Answer Bundle) → read_bundle s bundle ≡ o → Read m c claim ≡ reading_of o → and_then o (published s) ≡ value b
+      laid-at : (s : Sheet) → Known s sheet v → (b : Bundle) (o : Answer Bundle) → read_bundle s bundle ≡ o → Ok out ≡ reading_of o → and_then o (published s) ≡ value b
           → Laid (task_count s) (link_count s) bundle last b.programmes
       laid-at s k b (value x) o z v =
           let a = is-published s x b v in
@@ -286,7 +273,7 @@ module _ (sheet bundle w u : List ℕ) (v : View) (long : slots_end ≤ length w
           kept-laid x few y = laid_by (λ i j. q.kept.low i (omega (arith, few))) y
       laid-at s k b (refused i j) o z v = not-value v
 
-      home_at : (s : Sheet) → Known s sheet v → (b : Bundle) (o : Answer Bundle) → read_bundle s bundle ≡ o → Read m c claim ≡ reading_of o → and_then o (published s) ≡ value b
+      home_at : (s : Sheet) → Known s sheet v → (b : Bundle) (o : Answer Bundle) → read_bundle s bundle ≡ o → Ok out ≡ reading_of o → and_then o (published s) ≡ value b
           → (t : ℕ) → t < task_count s → home_in last t ≡ home b (run t)
       home_at s k b (value x) o z v t l =
           let a = is-published s x b v in

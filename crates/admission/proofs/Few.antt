@@ -9,7 +9,7 @@ use lib.Seq.{take_all}
 use Rattle.folds.specs.Folds.{sum}
 use Rattle.folds.specs.Answers.{value}
 use Rattle.folds.proofs.Laws.{sum-front, sum-cong, sum-add, sum-le, sum_mono, sum-swap, term-le-sum}
-use Rattle.numbers.specs.Number.{Bytes, number_at}
+use Rattle.numbers.specs.Number.{Bytes}
 use Rattle.sheet.specs.Sheet.{Sheet, task_count, link_count}
 use Rattle.bundle.specs.Bundle.{Bundle, Command, run, send, receive, release, discard, programme_count, programme_of}
 use Rattle.bundle.specs.Format.{read_bundle}

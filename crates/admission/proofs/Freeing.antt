@@ -1,25 +1,25 @@
 -- The pass that tries a bundle's releases: what the words say of each thing, one command more, and its end.
-use Prim.Native.Nat.{ℕ, zero, suc, ◌+◌, ◌*◌, ◌-◌, ◌/◌, ◌%◌, ◌≤◌, ◌<◌, max}
+use Prim.Native.Nat.{ℕ, suc, ◌+◌, ◌*◌, ◌-◌, ◌/◌, ◌%◌, ◌≤◌, ◌<◌}
 use mathlib.Core.Path.{◌≡◌, refl, sym, ap, ap₂, ◌∙◌, subst}
 use mathlib.Core.Bool.{Bool, true, false, false≢true}
-use mathlib.Core.Option.{Option, none, some, some-injective}
-use mathlib.Core.Logic.{◌≢◌, ◌⊎◌, inl, inr, ⊎_elim}
-use mathlib.Core.List.{List, [], ◌∷◌, ◌++◌}
+use mathlib.Core.Option.{Option, none, some}
+use mathlib.Core.Logic.{◌⊎◌, inl, inr, ⊎_elim}
+use mathlib.Core.List.{List, [], ◌∷◌}
 use native.Mathlib.Omega.{arith}
 use native.Mathlib.Numerals.{add-one}
 use native.Mathlib.Decide.{dec_lt, ℕ_discrete}
-use borrow.Author.Tests.{eqb-true, eq-eqb, ne_eqb, lt-ltb, le-ltb, not-false}
+use borrow.Author.Tests.{eqb-true, eq-eqb, ne_eqb}
 use lib.ListN.{length, get_or, set, take, drop, get_elem?, length-set, drop_of_length-le}
 use lib.Seq.{drop-cons, get_or-set_same, get_or-set_other}
 use lib.Dec.{eqb, ltb}
 use Rattle.folds.specs.Folds.{pick, both, or_else}
-use Rattle.folds.proofs.Tests.{both-parts, both_true, both_false, not_some}
+use Rattle.folds.proofs.Tests.{both-parts, both_true, both_false}
 use Rattle.folds.proofs.Laws.{term-le-sum}
 use Rattle.folds.specs.Answers.{value}
 use Rattle.numbers.specs.Number.{Bytes, number_at}
 use Rattle.workspace.specs.Found.{found_of}
-use Rattle.workspace.specs.declared.total.Found.{Found}
-use Rattle.workspace.specs.declared.total.Found.TheVariants.{At, Nothing}
+use Rattle.workspace.specs.Found.{Found}
+use Rattle.std.specs.Prelude.{Some, None}
 use Rattle.sheet.specs.Sheet.{Sheet, task_count, link_count}
 use Rattle.bundle.specs.Bundle.{Command, run, send, receive, release, discard, Bundle, programme_count, programme_of}
 use Rattle.bundle.specs.Sizes.{short_size, claim_size}
@@ -33,7 +33,7 @@ use Rattle.admission.specs.Counting.{weigh, whole_of, whole, is}
 use Rattle.admission.specs.Releases.{is_release, gets, uses, held, right, wrong, wrong_from, wrong_in, at37}
 use Rattle.admission.specs.Messages.{at26, at_message}
 use Rattle.admission.specs.Notes.{slots_at, releases_at, discards_at, slots_end, Notable, slot_of, sofar, rank, ahead, Apart}
-use Rattle.admission.specs.Lasts.{note_of, last_of, message_of, Lasts, LastsIs, free_at, WrongIs}
+use Rattle.admission.specs.Lasts.{Lasts, LastsIs, free_at, WrongIs}
 use Rattle.admission.specs.Rules.{Given}
 use Rattle.admission.specs.declared.view.View.{View}
 use Rattle.admission.proofs.Weights.{programme-or, command-below, weigh-split, weigh-take, is-refl}
@@ -44,7 +44,7 @@ use Rattle.admission.proofs.Few.{each_at}
 use Rattle.admission.proofs.Walking.{drop_at, take_at, each-elem}
 use Rattle.admission.proofs.Rows.{rows}
 use Rattle.admission.proofs.Ranks.{is-or, sofar-more, sofar-next, sofar-none, sofar-less, rank-small, rank-more, rank-idle, rank-next, rank-none}
-use Rattle.admission.proofs.Places.{placed-programme, whole-stands}
+use Rattle.admission.proofs.Places.{placed-programme}
 use Rattle.admission.proofs.Passes.{Pass, Here, pass-first, pass_on, pass-open, pass-here, pass-ends}
 use Rattle.admission.proofs.Noted.{stands-slot, stands-known, stands-release}
 use Rattle.admission.proofs.Keeping.{lasts-self, given-apart}
@@ -349,7 +349,7 @@ module _ {bundle v w : List ℕ} {at k r : ℕ} (end : ℕ) (far : end ≡ lengt
         tested s b fw lw k y.place c (get_or w (slots_at + slot_of c) 0) (stands-known s bundle at c y.stands, f) y.here (y.kept.words c (stands-known s bundle at c y.stands, f))
         ∙ ap (λ (i : ℕ). ahead (get_or w i 0) (4096 * suc k + rank b k y.place)) slot ∙ ap₂ ahead (sym word-is) h-is
 
-    pub freeing-wrong : ahead word here ≡ false → Tried bundle v w (At at)
+    pub freeing-wrong : ahead word here ≡ false → Tried bundle v w (Some at)
     unfolding wrong
     freeing-wrong late =
         record {
@@ -422,7 +422,7 @@ module _ {bundle v w : List ℕ} {at k r : ℕ} (end : ℕ) (far : end ≡ lengt
                 (λ n. omega (arith, e, is-refl y.command, ap (λ (z : Command). is z y.command) (free-same s fw d y.command fd frees (omega (arith, slot)))))))
                 (freed-other s b fw lw k y.place d y.command _ e y.here (y.kept.words d fd))
 
-  pub freeing-ends : end ≤ at → Tried bundle v w Nothing
+  pub freeing-ends : end ≤ at → Tried bundle v w None
   unfolding wrong_in programme_count
   freeing-ends m =
       record {

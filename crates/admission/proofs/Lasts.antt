@@ -1,35 +1,35 @@
 -- The last command of a programme that gets or uses a thing, by the notes: a release is right exactly behind it.
 use Prim.Native.Nat.{ℕ, zero, suc, ◌+◌, ◌*◌, ◌/◌, ◌≤◌, ◌<◌, max}
 use mathlib.Core.Path.{◌≡◌, refl, sym, ap, ◌∙◌, subst}
-use mathlib.Core.Bool.{Bool, true, false, true≢false, false≢true}
+use mathlib.Core.Bool.{Bool, true, false, true≢false}
 use mathlib.Core.Option.{none, some, some-injective}
 use mathlib.Core.Logic.{◌≢◌, ◌⊎◌, inl, inr, ⊎_elim}
 use mathlib.Core.List.{List, [], ◌∷◌}
 use native.Mathlib.Omega.{arith}
 use native.Mathlib.Decide.{dec_lt, ℕ_discrete}
 use borrow.Author.Tests.{eqb-true, eq-eqb, ne_eqb, ltb-true, lt-ltb, le-ltb}
-use lib.ListN.{get_or, take, drop, get_elem?}
+use lib.ListN.{take, drop, get_elem?}
 use lib.Dec.{eqb, ltb}
 use Rattle.folds.specs.Folds.{pick, bit, both, any, greatest}
 use Rattle.folds.proofs.Tests.{both-parts, parts-both, both_false, not_some}
 use Rattle.folds.proofs.Laws.{any_found, any_some, term-le-greatest, greatest-some}
 use Rattle.sheet.specs.Sheet.{Sheet, task_count, link_count, source_of, target_of}
-use Rattle.bundle.specs.Bundle.{Command, run, send, receive, release, discard, Bundle, programme_count, programme_of}
+use Rattle.bundle.specs.Bundle.{Command, run, send, receive, release, discard, Bundle, programme_of}
 use Rattle.bundle.specs.Fits.{Known}
 use Rattle.admission.specs.Counting.{weigh, whole, is}
 use Rattle.admission.specs.Releases.{is_release, gets, joins, uses}
 use Rattle.admission.specs.Messages.{home, before, inside, at26, at_message}
-use Rattle.admission.specs.Unsplit.{inside_ok, across_ok, link_ok}
-use Rattle.admission.specs.Notes.{slots_at, Notable, slot_of, rank, ahead}
+use Rattle.admission.specs.Unsplit.{inside_ok, across_ok}
+use Rattle.admission.specs.Notes.{Notable, rank, ahead}
 use Rattle.admission.specs.Lasts.{note_of, together, use_of, message_of, used_by, last_of}
 use Rattle.admission.specs.Rules.{Given}
 use Rattle.admission.specs.declared.view.View.{View}
-use Rattle.admission.proofs.Weights.{weigh-split, weigh-drop, weigh-take, is-refl, standing}
+use Rattle.admission.proofs.Weights.{weigh-split, weigh-take, is-refl, standing}
 use Rattle.admission.proofs.Before.{before-takes}
-use Rattle.admission.proofs.Rights.{is_one, plain-release, weigh-behind, weighs, stands-behind}
+use Rattle.admission.proofs.Rights.{weigh-behind, weighs, stands-behind}
 use Rattle.admission.proofs.Splits.{link-right}
 use Rattle.admission.proofs.Messages.{run-once}
-use Rattle.admission.proofs.Ranks.{weigh-rises, rank-order, rank-small}
+use Rattle.admission.proofs.Ranks.{weigh-rises, rank-order}
 use Rattle.admission.proofs.Places.{Placed, placed-home, placed-programme, whole-stands, only, elsewhere, before-first, before-second}
 use Rattle.admission.proofs.Ruled.{placed, inside-by}
 

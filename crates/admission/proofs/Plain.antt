@@ -1,13 +1,12 @@
 -- A bundle whose commands were all met as runs, sends and receives has no release, and so no wrong one.
-use Prim.Native.Nat.{ℕ, ◌+◌, ◌-◌, ◌≤◌, ◌<◌}
+use Prim.Native.Nat.{ℕ, ◌+◌, ◌-◌, ◌≤◌}
 use mathlib.Core.Path.{◌≡◌, refl, sym, ap, ◌∙◌}
 use mathlib.Core.Bool.{Bool, true, false}
-use mathlib.Core.Option.{none, some}
+use mathlib.Core.Option.{none}
 use mathlib.Core.Logic.{◌≢◌, ⊎_elim}
 use mathlib.Core.List.{List, [], ◌∷◌}
 use native.Mathlib.Omega.{arith}
 use native.Mathlib.Decide.{dec_lt}
-use lib.ListN.{get_elem?}
 use lib.Dec.{ltb}
 use Rattle.folds.specs.Folds.{bit, sum}
 use Rattle.folds.proofs.Tests.{bit_le}
@@ -15,7 +14,7 @@ use Rattle.folds.proofs.Laws.{sum-add, sum-cong, sum_mono, sum-only, sum-swap, s
 use Rattle.sheet.specs.Sheet.{Sheet}
 use Rattle.bundle.specs.Bundle.{Command, Bundle, programme_count, programme_of}
 use Rattle.admission.specs.Counting.{weigh, whole_of, whole, each, same, is}
-use Rattle.admission.specs.Releases.{is_release, frees, right, at37}
+use Rattle.admission.specs.Releases.{is_release, frees, at37}
 use Rattle.admission.specs.Notes.{notable, slot_of, command_of, sofar, met, rank}
 use Rattle.admission.proofs.Weights.{command-below, weigh-drop, weigh-split}
 use Rattle.admission.proofs.Rights.{plain-release, right-all}

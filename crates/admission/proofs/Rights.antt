@@ -1,25 +1,25 @@
 -- What 37 says where it does not apply: every release is right, so a run's inputs are still held, and no more is given back than was taken.
-use Prim.Native.Nat.{ℕ, zero, suc, ◌+◌, ◌-◌, ◌*◌, ◌≤◌, ◌<◌}
+use Prim.Native.Nat.{ℕ, zero, suc, ◌+◌, ◌*◌, ◌≤◌, ◌<◌}
 use native.Mathlib.Omega.{arith}
 use native.Mathlib.Decide.{dec_lt}
 use native.Mathlib.Nat.{mul-add, mul-zero, mul-one, mul-le-mul_left}
 use mathlib.Core.Bool.{Bool, true, false, not, false≢true}
 use mathlib.Core.Option.{Option, none, some}
 use mathlib.Core.Path.{◌≡◌, refl, sym, ap, ap₂, ◌∙◌, subst}
-use mathlib.Core.Logic.{◌≢◌, ◌⊎◌, inl, inr, ⊎_elim}
+use mathlib.Core.Logic.{◌≢◌}
 use mathlib.Core.List.{List, [], ◌∷◌, ◌++◌, append_assoc, append-nil}
-use lib.ListN.{length, take, drop, get_or, get_elem?, get_or-eq_default}
+use lib.ListN.{take, drop, get_or, get_elem?, get_or-eq_default}
 use lib.Dec.{eqb, ltb}
-use borrow.Author.Tests.{eqb-true, eq-eqb, ne_eqb, ltb-true, lt-ltb, not-false}
-use Rattle.folds.specs.Folds.{pick, bit, both, any, or_else, sum}
-use Rattle.folds.proofs.Tests.{both-parts, parts-both, not_some, equal-or}
-use Rattle.folds.proofs.Laws.{any_found, sum-only, sum_zeros, sum-cong, sum-add, sum_mono}
-use Rattle.sheet.specs.Sheet.{Sheet, Task, Link, no_task, no_link, task_count, link_count, store_of, bytes_of, source_of, target_of}
-use Rattle.bundle.specs.Bundle.{Command, run, send, receive, release, discard, Bundle, programme_count, programme_of}
+use borrow.Author.Tests.{eqb-true, eq-eqb, ne_eqb, ltb-true, not-false}
+use Rattle.folds.specs.Folds.{pick, bit, both, or_else, sum}
+use Rattle.folds.proofs.Tests.{both-parts, not_some}
+use Rattle.folds.proofs.Laws.{sum-only, sum_zeros, sum-cong, sum-add, sum_mono}
+use Rattle.sheet.specs.Sheet.{Sheet, Task, Link, no_task, no_link, task_count, link_count, store_of, bytes_of}
+use Rattle.bundle.specs.Bundle.{Command, run, send, receive, release, discard, Bundle, programme_of}
 use Rattle.bundle.specs.Sizes.{short_size}
 use Rattle.bundle.specs.Lies.{size_of}
 use Rattle.admission.specs.Counting.{weigh, kind, operand, same, is, need, gives, stored_by, in_use}
-use Rattle.admission.specs.Releases.{is_release, gets, joins, uses, held, right, wrong, wrong_from, wrong_in, at37}
+use Rattle.admission.specs.Releases.{is_release, gets, uses, held, right, wrong, wrong_from, wrong_in, at37}
 use Rattle.admission.proofs.Weights.{weigh-split, weigh-drop, weigh-take, weigh-take-none, is-refl}
 
 -- commands that are the same

@@ -1,17 +1,17 @@
 -- 26 and 31 to 33 by the notes of a whole bundle.
-use Prim.Native.Nat.{ℕ, ◌+◌, ◌*◌, ◌/◌, ◌<◌, ◌≤◌}
+use Prim.Native.Nat.{ℕ, ◌+◌, ◌/◌, ◌<◌, ◌≤◌}
 use mathlib.Core.Path.{◌≡◌, refl, sym, ap, ap₂, ◌∙◌, subst}
 use mathlib.Core.Bool.{Bool, true, false, not}
-use mathlib.Core.Option.{Option, none, some}
+use mathlib.Core.Option.{none}
 use mathlib.Core.Logic.{⊎_elim}
-use mathlib.Core.List.{List, [], ◌∷◌}
+use mathlib.Core.List.{List}
 use native.Mathlib.Omega.{arith}
 use native.Mathlib.Numerals.{add-one}
 use native.Mathlib.Decide.{dec_lt}
 use borrow.Author.Tests.{eqb-true, eq-eqb, ne_eqb, lt-ltb, le-ltb, lt-leb, le-leb}
 use lib.ListN.{get_or}
 use lib.Dec.{eqb, ltb, leb}
-use Rattle.folds.specs.Folds.{pick, both, first_of}
+use Rattle.folds.specs.Folds.{both}
 use Rattle.folds.proofs.Tests.{below_suc}
 use Rattle.folds.proofs.Laws.{none_first, first_found, none-with, with-found}
 use Rattle.sheet.specs.Sheet.{Sheet, task_count, link_count, source_of, target_of}
@@ -21,9 +21,13 @@ use Rattle.admission.specs.Messages.{not_once, home, before, inside, send_fault,
 use Rattle.admission.specs.Notes.{slots_at, Notable, slot_of, sofar, Noted, never, again, once, Notes, ahead, send_by, receive_by, order_by, fault_by}
 use Rattle.admission.specs.Fields.{source_at, target_at}
 use Rattle.admission.specs.declared.view.View.{View}
-use Rattle.admission.specs.Rules.{Given, OnceIs, numbered, LinkIs, MessageIs}
-use Rattle.workspace.specs.declared.total.Found.TheVariants.{At, Nothing}
-use Rattle.admission.specs.declared.rules.Fault.TheVariants as fault
+use Rattle.admission.specs.Rules.{Given, OnceIs, LinkIs, MessageIs}
+use Rattle.std.specs.Prelude.{Some, None}
+use Rattle.refusals.specs.Refusals.{fault_of}
+use Rattle.refusals.specs.Refusals.{placed as at_place}
+use Rattle.refusals.specs.declared.Refusal.{Refusal}
+use Rattle.refusals.proofs.Results.{fault-by, found-by}
+use Rattle.std.specs.Prelude.{⊤, Result, Ok, Err}
 use Rattle.admission.proofs.Messages.{run-once}
 use Rattle.admission.proofs.Ranks.{sofar-whole}
 use Rattle.admission.proofs.Places.{Placed, placed-home, same-programme, before-first, before-second}
@@ -88,7 +92,7 @@ once_more {w} {t} g e =
       ones = λ j l. ⊎_elim (λ (k : j < t). g.ones j k) (λ (q : j ≡ t). subst (λ (i : ℕ). 2 ≤ get_or w (slots_at + i) 0) (sym q) e) (below_suc (rw add-one at l));
     }
 
-pub once-found : (w : List ℕ) (t n : ℕ) → Onces w t → t < n → get_or w (slots_at + t) 0 < 2 → OnceIs w n (At t)
+pub once-found : (w : List ℕ) (t n : ℕ) → Onces w t → t < n → get_or w (slots_at + t) 0 < 2 → OnceIs w n (Some t)
 unfolding at26
 once-found w t n g l e =
     record {
@@ -100,7 +104,7 @@ once-found w t n g l e =
           (once-test s b w count h t (omega arith) ∙ ap not (le-ltb 1 (get_or w (slots_at + t) 0) (omega arith))) (omega arith));
     }
 
-pub once-none : (w : List ℕ) (t n : ℕ) → Onces w t → n ≤ t → OnceIs w n Nothing
+pub once-none : (w : List ℕ) (t n : ℕ) → Onces w t → n ≤ t → OnceIs w n None
 unfolding at26
 once-none w t n g l =
     record {
@@ -189,8 +193,8 @@ byte-there b i j x e f = e ∙ ap (λ (k : ℕ). get_or b k 0) f
 
 -- by the numbers that the code reads
 pub link-by :
-    (sheet w : List ℕ) (v : View) (l source target a t sent got r : ℕ) → source ≡ get_or sheet (source_at v.middle l) 0 → target ≡ get_or sheet (target_at v.middle l) 0
-    → a ≡ get_or w (slots_at + source) 0 → t ≡ get_or w (slots_at + target) 0 → sent ≡ get_or w (slots_at + (256 + l)) 0 → got ≡ get_or w (slots_at + (1280 + l)) 0 → numbered r ≡ fault_by a t sent got
+    (sheet w : List ℕ) (v : View) (l source target a t sent got : ℕ) (r : Result ⊤ ℕ) → source ≡ get_or sheet (source_at v.middle l) 0 → target ≡ get_or sheet (target_at v.middle l) 0
+    → a ≡ get_or w (slots_at + source) 0 → t ≡ get_or w (slots_at + target) 0 → sent ≡ get_or w (slots_at + (256 + l)) 0 → got ≡ get_or w (slots_at + (1280 + l)) 0 → fault_of r ≡ fault_by a t sent got
     → LinkIs sheet w v l r
 link-by sheet w v l source target a t sent got r es et ea eb ec ed e =
     record {
@@ -204,32 +208,34 @@ link-by sheet w v l source target a t sent got r es et ea eb ec ed e =
 
 -- the pass over the links: those below l have no fault
 pub record Clear (sheet w : List ℕ) (v : View) (l : ℕ) : Type 0 where
-  pub clear : (i : ℕ) → i < l → LinkIs sheet w v i 0
+  pub clear : (i : ℕ) → i < l → LinkIs sheet w v i (Ok tt)
 
 pub clear-start : (sheet w : List ℕ) (v : View) → Clear sheet w v 0
 clear-start sheet w v = record { clear = λ i l. absurd (omega arith) }
 
-pub clear-more : {sheet w : List ℕ} {v : View} {l : ℕ} (r : ℕ) → Clear sheet w v l → r ≡ 0 → LinkIs sheet w v l r → Clear sheet w v (l + 1)
+pub clear-more : {sheet w : List ℕ} {v : View} {l : ℕ} (r : Result ⊤ ℕ) → Clear sheet w v l → Ok tt ≡ at_place l r → LinkIs sheet w v l r → Clear sheet w v (l + 1)
 clear-more {sheet} {w} {v} {l} r g e h =
     record {
       clear =
           λ i m.
-          ⊎_elim (λ (k : i < l). g.clear i k) (λ (q : i ≡ l). subst (λ (x : ℕ). LinkIs sheet w v x 0) (sym q) (subst (LinkIs sheet w v l) e h)) (below_suc (rw add-one at m));
+          ⊎_elim (λ (k : i < l). g.clear i k) (λ (q : i ≡ l). subst (λ (x : ℕ). LinkIs sheet w v x (Ok tt)) (sym q) (subst (LinkIs sheet w v l) (found-by l r tt e) h)) (below_suc (rw add-one at m));
     }
 
-pub clear-found : (sheet w : List ℕ) (v : View) (l r : ℕ) → Clear sheet w v l → l < v.links → (r ≡ 0 → ⊥) → LinkIs sheet w v l r → MessageIs sheet w v (fault.At r l)
+pub clear-found : (sheet w : List ℕ) (v : View) (l : ℕ) (r : Result ⊤ ℕ) (x : Refusal) → Clear sheet w v l → l < v.links → Err x ≡ at_place l r → LinkIs sheet w v l r → MessageIs sheet w v (Err x)
 unfolding at_message
-clear-found sheet w v l r g k e h =
-    record {
+clear-found sheet w v l r x g k e h =
+    let f = fault-by l r x e in
+    subst (λ (y : Refusal). MessageIs sheet w v (Err y)) (sym f.is)
+    (record {
       is_lowest =
           λ s b i o.
           let d = i.known.links in
           sym
-          (with-found (link_count s) (message_fault s b) l r (λ j q. sym ((g.clear j q).is_fault s b (omega arith) i o))
-          (sym (h.is_fault s b (omega arith) i o) ∙ rw (ne_eqb r 0 e)) (omega arith));
-    }
+          (with-found (link_count s) (message_fault s b) l f.number (λ j q. sym ((g.clear j q).is_fault s b (omega arith) i o))
+          (sym (h.is_fault s b (omega arith) i o) ∙ ap fault_of f.found) (omega arith));
+    })
 
-pub clear_none : (sheet w : List ℕ) (v : View) (l : ℕ) → Clear sheet w v l → v.links ≤ l → MessageIs sheet w v fault.Nothing
+pub clear_none : (sheet w : List ℕ) (v : View) (l : ℕ) → Clear sheet w v l → v.links ≤ l → MessageIs sheet w v (Ok tt)
 unfolding at_message
 clear_none sheet w v l g k =
     record {

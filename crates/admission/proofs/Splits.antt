@@ -1,15 +1,15 @@
 -- 31, 32 and 33 are given exactly where 27 of document 01 was.
 use Prim.Native.Nat.{ℕ, zero, suc, ◌+◌, ◌≤◌, ◌<◌}
-use mathlib.Core.Path.{◌≡◌, refl, sym, ap, ap₂, ◌∙◌}
+use mathlib.Core.Path.{◌≡◌, refl, sym, ap, ◌∙◌}
 use mathlib.Core.Bool.{Bool, true, false, not, true≢false}
 use mathlib.Core.Option.{Option, none, some}
 use mathlib.Core.List.{[], ◌∷◌}
 use native.Mathlib.Omega.{arith}
 use borrow.Author.Tests.{eqb-true, ne_eqb, not-false}
 use lib.Dec.{eqb}
-use Rattle.folds.specs.Folds.{pick, both, first, first_with, first_of, then, is_some}
+use Rattle.folds.specs.Folds.{pick, both, first_of, then, is_some}
 use Rattle.folds.proofs.Tests.{both-parts}
-use Rattle.folds.proofs.Laws.{first-none, with_none, none-with, with-some, with-place}
+use Rattle.folds.proofs.Laws.{with_none, none-with, with-some, with-place}
 use Rattle.folds.proofs.Firsts.{first_of-between}
 use Rattle.sheet.specs.Sheet.{Sheet, link_count, source_of, target_of}
 use Rattle.bundle.specs.Bundle.{run, send, receive, Bundle, programme_of}

@@ -3,14 +3,13 @@ use Prim.Native.Nat.{ℕ, zero, suc, ◌+◌, ◌-◌, ◌≤◌, ◌<◌}
 use native.Mathlib.Omega.{arith}
 use native.Mathlib.Decide.{dec_lt}
 use mathlib.Core.Option.{Option, none, some}
-use mathlib.Core.Path.{◌≡◌, refl, sym, ap, ◌∙◌}
+use mathlib.Core.Path.{◌≡◌, refl, ap, ◌∙◌}
 use mathlib.Core.List.{List, []}
 use lib.ListN.{length, take, get_elem?}
-use Rattle.folds.proofs.Tests.{not_some}
 use Rattle.folds.proofs.Laws.{term-le-greatest, greatest-le}
 use Rattle.sheet.specs.Sheet.{Sheet}
 use Rattle.bundle.specs.Bundle.{Command}
-use Rattle.admission.specs.Counting.{weigh, need, gives, stored, stored_by, in_use, highest}
+use Rattle.admission.specs.Counting.{weigh, need, stored, stored_by, in_use, highest}
 use Rattle.admission.proofs.Weights.{weigh-split, weigh-take, weigh-take-none}
 use Rattle.admission.proofs.Walking.{command-past}
 

@@ -1,7 +1,12 @@
 -- 26, 31 to 33, 37 and 28 together: what a bundle must pass for the machine to start on it; and what the code promises that reads a bundle and tries all but 28.
+use Rattle.std.specs.Prelude.{Result}
+use Rattle.bundle_reader.specs.Answers.{outline_of}
+use Rattle.bundle_reader.specs.declared.bytes.Outline.{Outline}
+use Rattle.refusals.specs.Refusals.{result_of}
+use Rattle.refusals.specs.declared.Refusal.{Refusal}
 use Rattle.std.specs.Prelude.{ℕ, ◌≤◌, ◌<◌, ◌≡◌, List, length}
 use Rattle.std.proofs.Math.Option.{none}
-use Rattle.folds.specs.Answers.{Answer, value, refused, unless, unless_at, and_then}
+use Rattle.folds.specs.Answers.{Answer, value, unless, unless_at, and_then}
 use Rattle.numbers.specs.Number.{Bytes}
 use Rattle.sheet.specs.Sheet.{Sheet, task_count, link_count}
 use Rattle.bundle.specs.Bundle.{run, Bundle, programme_count}
@@ -14,8 +19,6 @@ use Rattle.admission.specs.Fields.{Known}
 use Rattle.admission.specs.Notes.{home_in, slots_end, Kept, Apart}
 use Rattle.admission.specs.Rules.{Given}
 use Rattle.admission.specs.declared.view.View.{View}
-use Rattle.admission.specs.declared.Judged.{Judged}
-use Rattle.admission.specs.declared.Judged.TheVariants.{Fit, Refused}
 
 unfoldable pub freed : Sheet → Bundle → Answer Bundle
 freed s b = unless 37 (at37 s b) (value b)
@@ -39,9 +42,8 @@ unfoldable pub admitted_bytes : Sheet → List ℕ → Answer Bundle
 admitted_bytes s bundle = and_then (read_bundle s bundle) (admitted s)
 
 -- the code's answer: how many programmes, how many commands in them and the claim, or the refusal
-abbrev pub judged_of : Answer Bundle → Judged
-judged_of (value b) = Fit (programme_count b) (command_count b) b.claim
-judged_of (refused n at) = Refused n at
+abbrev pub judged_of : Answer Bundle → Result Outline Refusal
+judged_of a = result_of outline_of a
 
 -- a bundle of m programmes with c commands, read from these bytes, its programmes' offsets in the words w
 pub record Told (s : Sheet) (b : Bundle) (sheet bundle w : List ℕ) (v : View) (m c claim : ℕ) : Type 0 where
@@ -55,7 +57,7 @@ pub record Told (s : Sheet) (b : Bundle) (sheet bundle w : List ℕ) (v : View) 
   pub laid : length bundle < 4294967296 → Laid (task_count s) (link_count s) bundle w b.programmes
   pub long : slots_end ≤ length w
 
-module _ (sheet bundle w last : List ℕ) (v : View) (m c claim : ℕ) (r : Judged) where
+module _ (sheet bundle w last : List ℕ) (v : View) (m c claim : ℕ) (r : Result Outline Refusal) where
   -- `met` runs, sends and receives were met
   pub record FreedIs (met : ℕ) : Type 0 where
     pub kept : Apart w last
@@ -71,7 +73,7 @@ module _ (sheet bundle w last : List ℕ) (v : View) (m c claim : ℕ) (r : Judg
     pub homes : (s : Sheet) (b : Bundle) → Told s b sheet bundle w v m c claim → at26 s b ≡ none → (t : ℕ) → t < task_count s → home_in last t ≡ home b (run t)
 
 -- bytes of any kind: 21 to 26, 31 to 33 and 37; of a bundle that passes them, where the programmes lie, and which of them runs each task
-pub record JudgeIs (sheet bundle w last : List ℕ) (v : View) (r : Judged) : Type 0 where
+pub record JudgeIs (sheet bundle w last : List ℕ) (v : View) (r : Result Outline Refusal) : Type 0 where
   pub long : length last ≡ length w
   pub is : (s : Sheet) → Known s sheet v → r ≡ judged_of (published_bytes s bundle)
   pub laid : (s : Sheet) → Known s sheet v → (b : Bundle) → published_bytes s bundle ≡ value b → Laid (task_count s) (link_count s) bundle last b.programmes

@@ -36,15 +36,6 @@ pub record Fields (s : Sheet) (sheet : List ℕ) (front middle : ℕ) : Type 0 w
   pub cost : (l : ℕ) → l < link_count s → number_at 2 sheet (cost_at middle l) ≡ cost_of s l
   pub bytes : (l : ℕ) → l < link_count s → number_at 2 sheet (bytes_at middle l) ≡ bytes_of s l
 
--- the numbers of a view are in their ranges
-pub record Bounded (v : View) : Type 0 where
-  pub few_processors : v.processors ≤ 16
-  pub few_tasks : v.tasks ≤ 256
-  pub few_links : v.links ≤ 1024
-  pub unpacks : v.unpacking < 65536
-  pub near : v.front ≤ 65536
-  pub behind : v.middle ≡ v.front + task_size * v.tasks
-
 -- the sheet s, seen by v, in these bytes
 pub record Known (s : Sheet) (sheet : List ℕ) (v : View) : Type 0 where
   pub fields : Fields s sheet v.front v.middle
@@ -60,4 +51,3 @@ pub record Known (s : Sheet) (sheet : List ℕ) (v : View) : Type 0 where
 pub record Seen (sheet : List ℕ) (v : View) : Type 0 where
   pub board : Sheet
   pub known : Known board sheet v
-  pub bounded : Bounded v

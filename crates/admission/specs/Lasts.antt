@@ -1,19 +1,19 @@
 -- What is kept for releases: of each result, and of each message that is received, the note of the last command of its programme that gets or uses it; 0 where it is not
 -- held, or no more. A release is right behind that command, and wrong before it.
-use Rattle.std.specs.Prelude.{ℕ, ◌+◌, ◌*◌, ◌/◌, ◌%◌, ◌≤◌, ◌<◌, max, ◌≡◌, Bool, List, length, get_or, set, eqb}
+use Rattle.std.specs.Prelude.{ℕ, ◌+◌, ◌/◌, ◌≤◌, ◌<◌, max, ◌≡◌, Bool, List, get_or, set, eqb}
 use Rattle.std.proofs.Math.Option.{none}
 use Rattle.folds.specs.Folds.{pick, greatest}
 use Rattle.folds.specs.Answers.{value}
 use Rattle.numbers.specs.Number.{Bytes, number_at}
 use Rattle.workspace.specs.Found.{found_of}
-use Rattle.workspace.specs.declared.total.Found.{Found}
+use Rattle.workspace.specs.Found.{Found}
 use Rattle.sheet.specs.Sheet.{Sheet, task_count, link_count, source_of, target_of}
 use Rattle.bundle.specs.Bundle.{Command, run, send, Bundle, programme_count}
 use Rattle.bundle.specs.Format.{read_bundle}
 use Rattle.admission.specs.Releases.{at37}
 use Rattle.admission.specs.Messages.{at26, at_message}
 use Rattle.admission.specs.Fields.{Known}
-use Rattle.admission.specs.Notes.{slots_at, releases_at, discards_at, slots_end, slot_of, Apart}
+use Rattle.admission.specs.Notes.{slots_at, releases_at, discards_at, slot_of, Apart}
 use Rattle.admission.specs.Rules.{Given}
 use Rattle.admission.specs.declared.view.View.{View}
 

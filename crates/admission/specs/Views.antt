@@ -3,11 +3,10 @@ use Rattle.std.specs.Prelude.{ℕ, ◌≡◌, List}
 use Rattle.sheet.specs.Sheet.{task_count, link_count}
 use Rattle.sheet.specs.Sizes.{front_of, middle_of}
 use Rattle.sheet.specs.Tables.{sheet_in, Loaded}
-use Rattle.admission.specs.Fields.{Fields, Bounded}
+use Rattle.admission.specs.Fields.{Fields}
 use Rattle.admission.specs.declared.view.View.{View}
 
 pub record ViewIs (w : List ℕ) (v : View) : Type 0 where
-  pub bounded : Bounded v
   pub processors : v.processors ≡ (sheet_in w).processors
   pub limit : v.limit ≡ (sheet_in w).limit
   pub unpacking : v.unpacking ≡ (sheet_in w).unpacking

@@ -1,37 +1,36 @@
 // 21 to 26, 31 to 33 and 37: reads any bytes as a bundle and tries its tasks, messages and releases, for a sheet that is given by its view and its bytes.
 ghost use Rattle.std.specs.Prelude.{◌≤◌, length};
-ghost use Rattle.admission.specs.Fields.{Bounded};
 ghost use Rattle.admission.specs.Notes.{slots_end};
 ghost use Rattle.admission.specs.Admitted.{FreedIs, MessagesIs, RulesIs, JudgeIs};
 
-use crate::Judged;
 use crate::notes::note_all;
 use crate::releases::wrong_release;
-use crate::rules::{Fault, not_once, wrong_message};
+use crate::rules::{not_once, wrong_message};
 use crate::view::View;
-use bundle_reader::bytes::Reading;
-use workspace::total::Found;
+use bundle_reader::bytes::Outline;
+use refusals::Refusal;
 
-// 37, or a bundle of m programmes, c commands and this claim. Where all commands were met as runs, sends and receives there is no release.
+// 37, or a bundle of this outline. Where all commands were met as runs, sends and receives there is no release.
 fn freed(
     sheet: &[u8],
     bundle: &[u8],
     w: &mut [u32],
     v: View,
-    m: usize,
-    c: usize,
-    claim: usize,
+    outline: Outline,
     met: usize,
-) -> Judged
-    requires { Bounded v × (slots_end ≤ length w.old) }
-    ensures { FreedIs sheet.now bundle.now w.old w.new v m c claim result met }
+) -> Result<Outline, Refusal>
+    requires { slots_end ≤ length w.old }
+    ensures { FreedIs sheet.now bundle.now w.old w.new v outline.programmes outline.commands outline.claim result met }
 {
-    if met == c {
-        return Judged::Fit(m, c, claim);
+    if met == outline.commands {
+        return Ok(outline);
     }
     match wrong_release(sheet, bundle, w, v) {
-        Found::At(at) => Judged::Refused(37, at),
-        Found::Nothing => Judged::Fit(m, c, claim),
+        Some(at) => Err(Refusal {
+            number: 37,
+            place: at,
+        }),
+        None => Ok(outline),
     }
 }
 
@@ -41,18 +40,14 @@ fn messages(
     bundle: &[u8],
     w: &mut [u32],
     v: View,
-    m: usize,
-    c: usize,
-    claim: usize,
+    outline: Outline,
     met: usize,
-) -> Judged
-    requires { Bounded v × (slots_end ≤ length w.old) }
-    ensures { MessagesIs sheet.now bundle.now w.old w.new v m c claim result met }
+) -> Result<Outline, Refusal>
+    requires { slots_end ≤ length w.old }
+    ensures { MessagesIs sheet.now bundle.now w.old w.new v outline.programmes outline.commands outline.claim result met }
 {
-    match wrong_message(sheet, w, v) {
-        Fault::At(n, l) => Judged::Refused(n, l),
-        Fault::Nothing => freed(sheet, bundle, w, v, m, c, claim, met),
-    }
+    wrong_message(sheet, w, v)?;
+    freed(sheet, bundle, w, v, outline, met)
 }
 
 // 26, then the rest.
@@ -61,27 +56,26 @@ fn rules(
     bundle: &[u8],
     w: &mut [u32],
     v: View,
-    m: usize,
-    c: usize,
-    claim: usize,
-) -> Judged
-    requires { Bounded v × (slots_end ≤ length w.old) }
-    ensures { RulesIs sheet.now bundle.now w.old w.new v m c claim result }
+    outline: Outline,
+) -> Result<Outline, Refusal>
+    requires { slots_end ≤ length w.old }
+    ensures { RulesIs sheet.now bundle.now w.old w.new v outline.programmes outline.commands outline.claim result }
 {
     let met = note_all(bundle, w, v.tasks, v.links);
     match not_once(w, v.tasks) {
-        Found::At(t) => Judged::Refused(26, t),
-        Found::Nothing => messages(sheet, bundle, w, v, m, c, claim, met),
+        Some(t) => Err(Refusal {
+            number: 26,
+            place: t,
+        }),
+        None => messages(sheet, bundle, w, v, outline, met),
     }
 }
 
 // 21 to 26, 31 to 33 and 37 of a bundle. The offsets of the programmes are left in the words.
-pub fn judge(sheet: &[u8], bundle: &[u8], w: &mut [u32], v: View) -> Judged
-    requires { Bounded v × (slots_end ≤ length w.old) }
+pub fn judge(sheet: &[u8], bundle: &[u8], w: &mut [u32], v: View) -> Result<Outline, Refusal>
+    requires { slots_end ≤ length w.old }
     ensures { JudgeIs sheet.now bundle.now w.old w.new v result }
 {
-    match bundle_reader::bytes::read(bundle, v.processors, v.tasks, v.links, w) {
-        Reading::Refused(r, at) => Judged::Refused(r, at),
-        Reading::Read(m, c, claim) => { rules(sheet, bundle, w, v, m, c, workspace::wide(claim)) }
-    }
+    let outline = bundle_reader::bytes::read(bundle, v.processors, v.tasks, v.links, w)?;
+    rules(sheet, bundle, w, v, outline)
 }

@@ -6,10 +6,3 @@ pub mod rules; // rules.rt: 26 and 31 to 33 by the notes
 pub mod releases; // releases.rt: 37 by the notes
 pub mod judge; // judge.rt: 21 to 26, 31 to 33 and 37 of any bytes
 pub mod view; // view.rt: where a sheet's numbers lie in its bytes
-
-// A bundle of so many programmes and commands, with its claim, that passes; or a refusal's number and place.
-#[derive(Clone, Copy)]
-pub enum Judged {
-    Fit(usize, usize, usize),
-    Refused(u8, usize),
-}

@@ -22,8 +22,8 @@ fn message(bundle: &[u8], at: usize) -> usize
     requires { at + 3 ≤ length bundle.now }
     ensures { (result ≡ message_at bundle.now at) × (result < 66816) }
 {
-    let c = numbers::get8(bundle, at);
-    let l = numbers::get16(bundle, at + 1) as usize;
+    let c = usize::from(bundle[at]);
+    let l = usize::from(numbers::get16(bundle, at + 1));
     256 + 1024 * ((c + 172) / 256) + l
 }
 
@@ -34,10 +34,11 @@ fn note(w: &mut [u32], x: usize, k: usize, r: usize) -> usize
 {
     if workspace::total::word(w, NOTES + x) == 0 {
         workspace::total::put(w, NOTES + x, 4096 * (k % 16 + 1) + r);
-        return r + 1;
+        r + 1
+    } else {
+        workspace::total::put(w, NOTES + x, 1);
+        r
     }
-    workspace::total::put(w, NOTES + x, 1);
-    r
 }
 
 // No command is noted of n tasks and l links. The other slots stay: no command of a bundle that was read has one.
@@ -56,27 +57,23 @@ pub fn note_all(bundle: &[u8], w: &mut [u32], n: usize, l: usize) -> usize
     ensures { NotesIs bundle.now w.old w.new n l result }
 {
     blank(w, n, l);
-    let end = numbers::minus(bundle.len(), CLAIM_SIZE);
+    let end = bundle.len().saturating_sub(CLAIM_SIZE);
     let mut at: usize = SHORT_SIZE;
     let mut k: usize = 0;
     let mut r: usize = 0;
     while at < end {
-        let c = numbers::get8(bundle, at);
+        let c = bundle[at];
         if c == 0x50 {
             k += 1;
             at += SHORT_SIZE;
+        } else if c == 0x52 {
+            r = note(w, usize::from(bundle[at + 1]), k, r);
+            at += SHORT_SIZE;
+        } else if c < 0x50 {
+            at += size_of(u16::from(c));
         } else {
-            if c == 0x52 {
-                r = note(w, numbers::get8(bundle, at + 1), k, r);
-                at += SHORT_SIZE;
-            } else {
-                if c < 0x50 {
-                    at += size_of(c as u16);
-                } else {
-                    r = note(w, message(bundle, at), k, r);
-                    at += LONG_SIZE;
-                }
-            }
+            r = note(w, message(bundle, at), k, r);
+            at += LONG_SIZE;
         }
     }
     r
@@ -87,5 +84,5 @@ pub fn home(w: &[u32], t: usize) -> usize
     requires { (t < 256) × (slots_end ≤ length w.now) }
     ensures { (result ≡ home_in w.now t) × (result < 1048576) }
 {
-    numbers::minus(workspace::word(w, NOTES + t) / 4096, 1)
+    (workspace::word(w, NOTES + t) / 4096).saturating_sub(1)
 }

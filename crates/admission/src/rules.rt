@@ -1,44 +1,32 @@
 // 26 and 31 to 33, by the notes of a bundle's commands.
 ghost use Rattle.std.specs.Prelude.{◌≡◌, [], ◌∷◌, ◌≤◌, ◌<◌, length};
 ghost use Rattle.folds.specs.Folds.{first_of};
-ghost use Rattle.admission.specs.Fields.{Bounded};
 ghost use Rattle.admission.specs.Notes.{slots_end, ahead, send_by, receive_by, order_by, fault_by};
-ghost use Rattle.admission.specs.Rules.{OnceIs, numbered, LinkIs, MessageIs};
+ghost use Rattle.admission.specs.Rules.{OnceIs, LinkIs, MessageIs};
+ghost use Rattle.refusals.specs.Refusals.{fault_of};
 
 use crate::notes::NOTES;
 use crate::view::View;
-use workspace::total::Found;
-
-// The number of a link's fault and the link, or none.
-#[derive(Clone, Copy)]
-pub enum Fault {
-    At(u8, usize),
-    Nothing,
-}
+use refusals::Refusal;
 
 // 26: the lowest of n tasks that does not run just once.
-pub fn not_once(w: &[u32], n: usize) -> Found
+pub fn not_once(w: &[u32], n: usize) -> Option<usize>
     requires { n < 65536 }
     ensures { OnceIs w.now n result }
 {
-    let mut t = 0;
-    while t < n {
+    for t in 0..n {
         if workspace::total::word(w, NOTES + t) < 2 {
-            return Found::At(t);
+            return Some(t);
         }
-        t += 1;
     }
-    Found::Nothing
+    None
 }
 
 // By their notes, the command of x stands before that of y, in one programme.
 pub fn precedes(x: usize, y: usize) -> bool
     ensures { result ≡ ahead x y }
 {
-    if x / 4096 != y / 4096 {
-        return false;
-    }
-    x < y
+    x / 4096 == y / 4096 && x < y
 }
 
 // 31, by the notes of the source's run and of the send: a link inside one programme has none; any other has one, behind its source.
@@ -46,12 +34,10 @@ fn send_fault(inside: bool, source: usize, sent: usize) -> bool
     ensures { result ≡ send_by inside source sent }
 {
     if inside {
-        return sent != 0;
+        sent != 0
+    } else {
+        sent < 2 || !precedes(source, sent)
     }
-    if sent < 2 {
-        return true;
-    }
-    !precedes(source, sent)
 }
 
 // 32, by the notes of the receive and of the target's run: a link inside one programme has none; any other has one, before its target.
@@ -59,43 +45,37 @@ fn receive_fault(inside: bool, got: usize, target: usize) -> bool
     ensures { result ≡ receive_by inside got target }
 {
     if inside {
-        return got != 0;
+        got != 0
+    } else {
+        got < 2 || !precedes(got, target)
     }
-    if got < 2 {
-        return true;
-    }
-    !precedes(got, target)
 }
 
 // 33: inside one programme the source runs behind the target.
 fn order_fault(inside: bool, source: usize, target: usize) -> bool
     ensures { result ≡ order_by inside source target }
 {
-    if inside {
-        return target <= source;
-    }
-    false
+    inside && target <= source
 }
 
-// The number of the first of three faults, or 0: the send, then the receive, then the order.
-fn first_fault(send: bool, receive: bool, order: bool) -> u8
-    ensures { numbered result ≡ first_of ((send, 31) ∷ (receive, 32) ∷ (order, 33) ∷ []) }
+// The number of the first of three faults, if there is one: of the send, then of the receive, then of the order.
+fn first_fault(send: bool, receive: bool, order: bool) -> Result<(), u8>
+    ensures { fault_of result ≡ first_of ((send, 31) ∷ (receive, 32) ∷ (order, 33) ∷ []) }
 {
     if send {
-        return 31;
+        Err(31)
+    } else if receive {
+        Err(32)
+    } else if order {
+        Err(33)
+    } else {
+        Ok(())
     }
-    if receive {
-        return 32;
-    }
-    if order {
-        return 33;
-    }
-    0
 }
 
-// The number of a link's fault by its notes, or 0.
-fn fault_by(source: usize, target: usize, sent: usize, got: usize) -> u8
-    ensures { numbered result ≡ fault_by source target sent got }
+// The number of a link's fault by its notes, if it has one.
+fn fault_by(source: usize, target: usize, sent: usize, got: usize) -> Result<(), u8>
+    ensures { fault_of result ≡ fault_by source target sent got }
 {
     let inside = source / 4096 == target / 4096;
     let send = send_fault(inside, source, sent);
@@ -104,9 +84,9 @@ fn fault_by(source: usize, target: usize, sent: usize, got: usize) -> u8
     first_fault(send, receive, order)
 }
 
-// What is wrong with the messages of link l: 31, 32, 33, or 0.
-fn link_fault(sheet: &[u8], w: &[u32], v: View, l: usize) -> u8
-    requires { Bounded v × (l < 1024) × (slots_end ≤ length w.now) }
+// What is wrong with the messages of link l: 31, 32, 33, or nothing.
+fn link_fault(sheet: &[u8], w: &[u32], v: View, l: usize) -> Result<(), u8>
+    requires { (l < 1024) × (slots_end ≤ length w.now) }
     ensures { LinkIs sheet.now w.now v l result }
 {
     let source = workspace::total::byte(sheet, v.source_at(l));
@@ -118,18 +98,13 @@ fn link_fault(sheet: &[u8], w: &[u32], v: View, l: usize) -> u8
     fault_by(a, t, sent, got)
 }
 
-// 31 to 33: the lowest link in fault, and the number of its fault.
-pub fn wrong_message(sheet: &[u8], w: &[u32], v: View) -> Fault
-    requires { Bounded v × (slots_end ≤ length w.now) }
+// 31 to 33: refused at the lowest link in fault, with the number of its fault.
+pub fn wrong_message(sheet: &[u8], w: &[u32], v: View) -> Result<(), Refusal>
+    requires { slots_end ≤ length w.now }
     ensures { MessageIs sheet.now w.now v result }
 {
-    let mut l = 0;
-    while l < v.links {
-        let n = link_fault(sheet, w, v, l);
-        if n != 0 {
-            return Fault::At(n, l);
-        }
-        l += 1;
+    for l in 0..v.links {
+        refusals::at(link_fault(sheet, w, v, l), l)?;
     }
-    Fault::Nothing
+    Ok(())
 }

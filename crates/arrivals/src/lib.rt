@@ -67,7 +67,7 @@ fn reached(reach: Reach, k: usize, y: usize) -> Reach
     let most = reach.most;
     Reach {
         at: chosen(most < y, k, reach.at),
-        most: numbers::later(most, y),
+        most: most.max(y),
     }
 }
 
@@ -87,11 +87,11 @@ fn write_link(
 {
     let at = reach.at;
     let most = reach.most;
-    kept[SEEN + v] = workspace::narrow(seen);
-    kept[ARRIVALS + v] = workspace::narrow(most);
-    kept[SENDERS + v] = workspace::narrow(at);
-    kept[WAITING + k] = workspace::narrow(pending);
-    kept[PACKED + (4 * v + k / 4)] = workspace::narrow(number);
+    kept[SEEN + v] = seen as u32;
+    kept[ARRIVALS + v] = most as u32;
+    kept[SENDERS + v] = at as u32;
+    kept[WAITING + k] = pending as u32;
+    kept[PACKED + (4 * v + k / 4)] = number as u32;
 }
 
 // 1 in the byte of processor k, in a word of four counts.
@@ -116,7 +116,7 @@ pub fn count_link(w: &[u32], kept: &mut [u32], t: usize, k: usize, f: usize, l: 
     let at = workspace::word(kept, SENDERS + v);
     let pending = workspace::word(kept, WAITING + k);
     let number = workspace::word(kept, PACKED + (4 * v + k / 4));
-    let reach = reached(Reach { at: at, most: most }, k, f + c);
+    let reach = reached(Reach { at, most }, k, f + c);
     write_link(kept, v, k, seen + 1, reach, pending + 1, number + one_of(k));
 }
 
@@ -133,8 +133,8 @@ pub fn settle(w: &[u32], kept: &mut [u32], t: usize, k: usize, a: usize, f: usiz
     let v = workspace::word(kept, TURN_BYTES + k);
     let u = x + y + z;
     let r = u - v;
-    kept[ENDS + k] = workspace::narrow(f);
-    kept[STORES + k] = workspace::narrow(r);
+    kept[ENDS + k] = f as u32;
+    kept[STORES + k] = r as u32;
     kept[OPEN + k] = 1;
 }
 
@@ -144,12 +144,8 @@ pub fn release(kept: &mut [u32])
     requires enough { Enough kept.old }
     ensures { Released 16 kept.old kept.new }
 {
-    let mut j: usize = 0;
-    while j < 16 {
-        let x = workspace::word(kept, WAITING + j);
-        let y = workspace::word(kept, TURN_LINKS + j);
-        kept[WAITING + j] = workspace::narrow(x - y);
-        j += 1;
+    for j in 0..16 {
+        kept[WAITING + j] -= kept[TURN_LINKS + j];
     }
 }
 
@@ -161,24 +157,14 @@ fn survey_link(w: &[u32], kept: &mut [u32], t: usize, l: usize)
     ensures { Only turn_bytes_from packed_from kept.old kept.new × SurveyedTo (sheet_in w.now) (schedule_in w.now) t (l + 1) kept.new }
 {
     let k = schedule::place(w, tables::source(w, l));
-    let b = tables::size(w, l);
-    let x = workspace::word(kept, TURN_BYTES + k);
-    let y = workspace::word(kept, TURN_LINKS + k);
-    kept[TURN_BYTES + k] = workspace::narrow(x + b);
-    kept[TURN_LINKS + k] = workspace::narrow(y + 1);
+    kept[TURN_BYTES + k] += tables::size(w, l) as u32;
+    kept[TURN_LINKS + k] += 1;
 }
 
 // The start of a task on each of the sixteen processors.
 #[derive(Clone, Copy)]
 pub struct Starts {
     pub at: [u32; 16],
-}
-
-// The later of two times; without a branch.
-fn later(a: u32, b: u32) -> u32
-    ensures { result ≡ max a b }
-{
-    if a < b { b } else { a }
 }
 
 // How long a message from source is under way to k: it takes no time on the same processor.
@@ -193,7 +179,7 @@ fn start_past(x: u32, k: usize, source: usize, finish: u32, time: u32) -> u32
     requires { (finish ≤ latest_finish) × (time ≤ 65535) }
     ensures { result ≡ start_past source finish time k x }
 {
-    later(x, finish + way(source, k, time))
+    x.max(finish + way(source, k, time))
 }
 
 // The starts on all processors, past one link more: the loop is a few vector instructions.
@@ -202,10 +188,8 @@ fn starts_past(starts: Starts, source: usize, finish: u32, time: u32) -> Starts
     ensures { Steps (start_past source finish time) starts result }
 {
     let mut r = starts;
-    let mut k: usize = 0;
-    while k < 16 {
+    for k in 0..16 {
         r.at[k] = start_past(r.at[k], k, source, finish, time);
-        k += 1;
     }
     r
 }
@@ -215,7 +199,7 @@ fn start_unpacked(x: u32, k: usize, source: usize, reach: u32, unpacking: u32) -
     requires { (x ≤ latest_start) × (reach ≤ latest_start) × (unpacking ≤ 65535) }
     ensures { result ≡ start_unpacked source reach unpacking k x }
 {
-    let y = later(x, reach) + unpacking;
+    let y = x.max(reach) + unpacking;
     if source == k { x } else { y }
 }
 
@@ -225,10 +209,8 @@ fn starts_unpacked(starts: Starts, source: usize, reach: u32, unpacking: u32) ->
     ensures { Steps (start_unpacked source reach unpacking) starts result }
 {
     let mut r = starts;
-    let mut k: usize = 0;
-    while k < 16 {
+    for k in 0..16 {
         r.at[k] = start_unpacked(r.at[k], k, source, reach, unpacking);
-        k += 1;
     }
     r
 }
@@ -244,12 +226,9 @@ fn hops_from(source: usize) -> Row
     ensures { Away source result }
 {
     let from = source as u8;
-    let at = [0u8; 16];
-    let mut r = Row { at: at };
-    let mut k: usize = 0;
-    while k < 16 {
+    let mut r = Row { at: [0; 16] };
+    for k in 0..16 {
         r.at[k] = hops::hops(from, k as u8) as u8;
-        k += 1;
     }
     r
 }
@@ -274,11 +253,9 @@ fn starts_hopped(
     ensures { Steps (start_hopped row source finish cost unpacking) starts result }
 {
     let mut r = starts;
-    let mut k: usize = 0;
-    while k < 16 {
+    for k in 0..16 {
         let time = times(cost, row.at[k]);
         r.at[k] = start_unpacked(r.at[k], k, source, finish + time, unpacking);
-        k += 1;
     }
     r
 }
@@ -291,16 +268,15 @@ fn starts_with(w: &[u32], starts: Starts, cube: bool, unpacking: u32, l: usize) 
 {
     let u = tables::source(w, l);
     let k = schedule::place(w, u);
-    let f = workspace::narrow(schedule::finish(w, u));
+    let f = schedule::finish(w, u) as u32;
     let cost = tables::cost(w, l);
     if cube {
-        return starts_hopped(starts, hops_from(k), k, f, cost as u16, unpacking);
+        starts_hopped(starts, hops_from(k), k, f, cost as u16, unpacking)
+    } else if unpacking == 0 {
+        starts_past(starts, k, f, cost as u32)
+    } else {
+        starts_unpacked(starts, k, f + cost as u32, unpacking)
     }
-    let time = workspace::narrow(cost);
-    if unpacking == 0 {
-        return starts_past(starts, k, f, time);
-    }
-    starts_unpacked(starts, k, f + time, unpacking)
 }
 
 // Where nothing has to be waited for: the processors' ends.
@@ -308,14 +284,9 @@ fn begun(kept: &[u32]) -> Starts
     requires { kept_length ≤ length kept.now }
     ensures { Lanes (λ k. get_or kept.now (ends_from + k) 0) result }
 {
-    let at = [0u32; 16];
-    let mut r = Starts { at: at };
-    let mut k: usize = 0;
-    while k < 16 {
-        r.at[k] = kept[ENDS + k];
-        k += 1;
-    }
-    r
+    let mut at = [0u32; 16];
+    at.copy_from_slice(&kept[ENDS..ENDS + 16]);
+    Starts { at }
 }
 
 // All links into t are surveyed, and give its starts. The walk ends by their number, which is known before the links are.
@@ -329,15 +300,13 @@ fn survey_links(w: &[u32], kept: &mut [u32], t: usize) -> Starts
 {
     let n = workspace::word(kept, t);
     let cube = tables::cube(w);
-    let unpacking = workspace::narrow(tables::unpacking(w));
+    let unpacking = tables::unpacking(w) as u32;
     let mut starts = begun(kept);
     let mut l = adjacency::first(w, End::Target, t);
-    let mut i: usize = 0;
-    while i < n {
+    for _i in 0..n {
         starts = starts_with(w, starts, cube, unpacking, l);
         survey_link(w, kept, t, l);
         l = adjacency::next(w, End::Target, l);
-        i += 1;
     }
     starts
 }
@@ -358,7 +327,7 @@ fn hop_time(cost: usize, at: usize, k: usize) -> usize
     requires { (cost < 65536) × (at < 16) × (k < 16) }
     ensures { (result ≡ cost * hops at k) × (result ≤ 524280) }
 {
-    cost * workspace::wide(hops::hops(at as u8, k as u8))
+    cost * hops::hops(at as u8, k as u8) as usize
 }
 
 // How long the message of link l is under way to k from where its source stands, if it is placed.
@@ -367,12 +336,11 @@ fn time_to(w: &[u32], cube: bool, l: usize, at: usize, k: usize) -> usize
     ensures { ((at < 16 → result ≡ link_time (sheet_in w.now) l at k)) × (result ≤ 524280) }
 {
     let cost = tables::cost(w, l);
-    if cube {
-        if at < 16 {
-            return hop_time(cost, at, k);
-        }
+    if cube && at < 16 {
+        hop_time(cost, at, k)
+    } else {
+        cost
     }
-    cost
 }
 
 // What t, to which link l leads, waits for on k: nothing while the link's source is not placed.
@@ -396,14 +364,12 @@ pub fn starts_before(w: &[u32], kept: &[u32], t: usize, k: usize, limit: usize) 
     let cube = tables::cube(w);
     let mut start = workspace::word(kept, ENDS + k);
     let mut l = adjacency::first(w, End::Target, t);
-    let mut i: usize = 0;
-    while i < n {
+    for _i in 0..n {
         if limit <= start {
             return false;
         }
-        start = numbers::later(start, start_by(w, cube, k, l));
+        start = start.max(start_by(w, cube, k, l));
         l = adjacency::next(w, End::Target, l);
-        i += 1;
     }
     start < limit
 }
@@ -416,8 +382,8 @@ fn unpacked_with(w: &[u32], x: usize, unpacking: usize, l: usize) -> usize
 {
     let u = tables::source(w, l);
     let reach = schedule::finish(w, u) + tables::cost(w, l);
-    let y = numbers::later(x, reach) + unpacking;
-    chosen(schedule::place(w, u) < 16, y, x)
+    let received = x.max(reach) + unpacking;
+    chosen(schedule::place(w, u) < 16, received, x)
 }
 
 // When t has unpacked all its messages on a fresh processor.
@@ -444,11 +410,8 @@ fn gather_one(w: &[u32], kept: &mut [u32], l: usize)
     ensures { Only 0 seen_from kept.old kept.new × GatheredTo (sheet_in w.now) (l + 1) kept.new }
 {
     let t = tables::target(w, l);
-    let b = tables::size(w, l);
-    let x = workspace::word(kept, t);
-    let y = workspace::word(kept, BYTES + t);
-    kept[t] = workspace::narrow(x + 1);
-    kept[BYTES + t] = workspace::narrow(y + b);
+    kept[t] += 1;
+    kept[BYTES + t] += tables::size(w, l) as u32;
 }
 
 // All links are gathered.
@@ -458,9 +421,7 @@ pub fn gather(w: &[u32], kept: &mut [u32])
     ensures { Only 0 seen_from kept.old kept.new × GatheredTo (sheet_in w.now) (link_count (sheet_in w.now)) kept.new }
 {
     let m = tables::links(w);
-    let mut l: usize = 0;
-    while l < m {
+    for l in 0..m {
         gather_one(w, kept, l);
-        l += 1;
     }
 }

@@ -16,8 +16,8 @@ use Rattle.checker.specs.Checker.{checked, check}
 use Rattle.better.specs.Orders.{Rank, by_rank}
 use Rattle.better.specs.Ranks.{runners, rank_by, rank_of}
 use Rattle.better.specs.Choices.{Side, firstLent, secondLent, of_side, ahead, chosen_by, choice, better, better_answer, Handed}
-use Rattle.better.specs.declared.order.Order.{Order}
-use Rattle.better.specs.declared.order.Order.TheVariants.{Less, Equal, Greater}
+use Rattle.std.specs.declared.cmp.Ordering.{Ordering as Order}
+use Rattle.std.specs.declared.cmp.Ordering.TheVariants.{Less, Equal, Greater}
 use Rattle.better.proofs.Chains as orders
 use Rattle.zeldrupa.proofs.Gives.{enough}
 use Rattle.assurance.specs.Choosing.{Accepted, Refused, Before, Choice, Choosing}

@@ -9,7 +9,7 @@ use Rattle.sheet.specs.Sheet.{Sheet}
 use Rattle.graph.specs.Graph.{read_sheet}
 use Rattle.better.specs.Orders.{Rank, by_rank}
 use Rattle.better.specs.Ranks.{rank_of}
-use Rattle.better.specs.declared.order.Order.TheVariants.{Less}
+use Rattle.std.specs.declared.cmp.Ordering.TheVariants.{Less}
 use Rattle.zeldrupa.specs.Promises.{GivesCheck, GivesBetter}
 
 -- a call of zeldrupa_check accepted the bundle for the sheet; or, with an area that was long enough, refused it

@@ -10,32 +10,32 @@ use borrow.Author.Tests.{lt-ltb, ltb-true, ltb-false}
 use Rattle.folds.specs.Folds.{pick}
 use Rattle.better.specs.Orders.{by_number, then_by, by_bytes, Rank, by_rank}
 use Rattle.better.specs.Choices.{of_side, ahead, chosen_by, chosen}
-use Rattle.better.specs.declared.order.Order.{Order}
-use Rattle.better.specs.declared.order.Order.TheVariants.{Less, Equal, Greater}
+use Rattle.std.specs.declared.cmp.Ordering.{Ordering}
+use Rattle.std.specs.declared.cmp.Ordering.TheVariants.{Less, Equal, Greater}
 
 -- seen from the other side
-abbrev pub turned : Order → Order
+abbrev pub turned : Ordering → Ordering
 turned Less = Greater
 turned Equal = Equal
 turned Greater = Less
 
 -- f orders the things of A: both sides see the same, less than less is less, and what is equal is alike to every third
-pub record Ordered (A : Type 0) (f : A → A → Order) : Type 0 where
+pub record Ordered (A : Type 0) (f : A → A → Ordering) : Type 0 where
   pub turns : (a b : A) → f b a ≡ turned (f a b)
   pub chain : (a b c : A) → f a b ≡ Less → f b c ≡ Less → f a c ≡ Less
   pub alike : (a b c : A) → f a b ≡ Equal → f a c ≡ f b c
 
 -- two orders with different codes are not equal
-differ : {X : Type 0} (n : Order → ℕ) (a b : Order) → a ≡ b → (n a ≡ n b → ⊥) → X
+differ : {X : Type 0} (n : Ordering → ℕ) (a b : Ordering) → a ≡ b → (n a ≡ n b → ⊥) → X
 differ n a b e h = absurd (h (ap n e))
 
-code : Order → ℕ
+code : Ordering → ℕ
 code Less = 0
 code Equal = 1
 code Greater = 2
 
 -- numbers
-pub record Number (a b : ℕ) (o : Order) : Type 0 where
+pub record Number (a b : ℕ) (o : Ordering) : Type 0 where
   pub less : o ≡ Less → ltb a b ≡ true
   pub same : o ≡ Equal → a ≡ b
   pub more : o ≡ Greater → ltb b a ≡ true
@@ -72,12 +72,12 @@ numbers A key = record {
 }
 
 -- one order and then another
-pub then-turned : (o o' p p' : Order) → o' ≡ turned o → p' ≡ turned p → then_by o' p' ≡ turned (then_by o p)
+pub then-turned : (o o' p p' : Ordering) → o' ≡ turned o → p' ≡ turned p → then_by o' p' ≡ turned (then_by o p)
 then-turned Less o' p p' e f = rw e
 then-turned Equal o' p p' e f = rw (e, f)
 then-turned Greater o' p p' e f = rw e
 
-pub then-chained : (x y z p q r : Order) → (x ≡ Less → y ≡ Less → z ≡ Less) → (x ≡ Equal → z ≡ y) → (y ≡ Equal → x ≡ z) → (p ≡ Less → q ≡ Less → r ≡ Less) →
+pub then-chained : (x y z p q r : Ordering) → (x ≡ Less → y ≡ Less → z ≡ Less) → (x ≡ Equal → z ≡ y) → (y ≡ Equal → x ≡ z) → (p ≡ Less → q ≡ Less → r ≡ Less) →
     then_by x p ≡ Less → then_by y q ≡ Less → then_by z r ≡ Less
 then-chained Less Less z p q r f g h i s t = rw (f refl refl)
 then-chained Less Equal z p q r f g h i s t = rw (← (h refl))
@@ -87,16 +87,16 @@ then-chained Equal Equal z p q r f g h i s t = rw (g refl) (i s t)
 then-chained Equal Greater z p q r f g h i s t = cc
 then-chained Greater y z p q r f g h i s t = cc
 
-pub then_same : (o p : Order) → then_by o p ≡ Equal → (o ≡ Equal) × (p ≡ Equal)
+pub then_same : (o p : Ordering) → then_by o p ≡ Equal → (o ≡ Equal) × (p ≡ Equal)
 then_same Less p e = (e, cc)
 then_same Equal p e = (refl, e)
 then_same Greater p e = (e, cc)
 
 -- what is equal is alike from the other side too
-alike_right : {A : Type 0} {f : A → A → Order} → Ordered A f → (a b c : A) → f b c ≡ Equal → f a b ≡ f a c
+alike_right : {A : Type 0} {f : A → A → Ordering} → Ordered A f → (a b c : A) → f b c ≡ Equal → f a b ≡ f a c
 alike_right F a b c e = F.turns b a ∙ ap turned (F.alike b c a e) ∙ sym (F.turns c a)
 
-module _ (A : Type 0) (f g : A → A → Order) (F : Ordered A f) (G : Ordered A g) where
+module _ (A : Type 0) (f g : A → A → Ordering) (F : Ordered A f) (G : Ordered A g) where
   then-alike : (a b c : A) → then_by (f a b) (g a b) ≡ Equal → then_by (f a c) (g a c) ≡ then_by (f b c) (g b c)
   then-alike a b c p = let s = then_same (f a b) (g a b) p in ap₂ then_by (F.alike a b c s.0) (G.alike a b c s.1)
 
@@ -164,7 +164,7 @@ rank_same a b e =
 pub comparable : (a b : Rank) → (by_rank a b ≡ Less) ⊎ ((by_rank b a ≡ Less) ⊎ (a ≡ b))
 comparable a b = go (by_rank a b) refl
   where
-    go : (o : Order) → by_rank a b ≡ o → (by_rank a b ≡ Less) ⊎ ((by_rank b a ≡ Less) ⊎ (a ≡ b))
+    go : (o : Ordering) → by_rank a b ≡ o → (by_rank a b ≡ Less) ⊎ ((by_rank b a ≡ Less) ⊎ (a ≡ b))
     go Less e = inl e
     go Greater e = inr (inl (ranks.turns a b ∙ ap turned e))
     go Equal e = inr (inr (rank_same a b e))
@@ -173,11 +173,11 @@ pub transitive : (a b c : Rank) → by_rank a b ≡ Less → by_rank b c ≡ Les
 transitive = ranks.chain
 
 -- choices chain: of three, it does not matter which two are looked at first
-module _ {A : Type 0} {f : A → A → Order} (F : Ordered A f) where
+module _ {A : Type 0} {f : A → A → Ordering} (F : Ordered A f) where
   pub by-order-chain : (a b c : A) → chosen_by f (chosen_by f a b) c ≡ chosen_by f a (chosen_by f b c)
   by-order-chain a b c = go (f a b) (f b c) refl refl
     where
-      go : (x y : Order) → f a b ≡ x → f b c ≡ y → chosen_by f (of_side a b (ahead x)) c ≡ chosen_by f a (of_side b c (ahead y))
+      go : (x y : Ordering) → f a b ≡ x → f b c ≡ y → chosen_by f (of_side a b (ahead x)) c ≡ chosen_by f a (of_side b c (ahead y))
       go Less Less i j = rw (F.chain a b c i j, i)
       go Less Equal i j = rw (← alike_right F a b c j, i)
       go Less Greater i j = refl

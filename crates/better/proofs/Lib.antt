@@ -1,5 +1,5 @@
 -- The laws of `better`.
-pub mod Bytes
+pub mod Bridges
 pub mod Chains
 pub mod Running
 pub mod Ranking

@@ -7,8 +7,8 @@ use Rattle.workspace.specs.Area.{fixed}
 use Rattle.graph.specs.Graph.{read_sheet}
 use Rattle.better.specs.Orders.{Rank, by_rank}
 use Rattle.better.specs.Ranks.{rank_of}
-use Rattle.better.specs.declared.order.Order.{Order}
-use Rattle.better.specs.declared.order.Order.TheVariants.{Less, Equal, Greater}
+use Rattle.std.specs.declared.cmp.Ordering.{Ordering}
+use Rattle.std.specs.declared.cmp.Ordering.TheVariants.{Less, Equal, Greater}
 
 -- the bundle that was lent first, or the one that was lent second
 pub data Side : Type 0 where
@@ -19,13 +19,13 @@ of_side x y firstLent = x
 of_side x y secondLent = y
 
 -- "equal bundles give the first lent"
-abbrev pub ahead : Order → Side
+abbrev pub ahead : Ordering → Side
 ahead Less = firstLent
 ahead Equal = firstLent
 ahead Greater = secondLent
 
 -- the better of two things, by an order of them; and of two ranks
-abbrev pub chosen_by : {A : Type 0} → (A → A → Order) → A → A → A
+abbrev pub chosen_by : {A : Type 0} → (A → A → Ordering) → A → A → A
 chosen_by order a b = of_side a b (ahead (order a b))
 
 abbrev pub chosen : Rank → Rank → Rank

@@ -1,20 +1,20 @@
 -- The order of accepted bundles.
 use Rattle.std.specs.Prelude.{ℕ, List, [], ◌∷◌, ltb}
 use Rattle.folds.specs.Folds.{pick}
-use Rattle.better.specs.declared.order.Order.{Order}
-use Rattle.better.specs.declared.order.Order.TheVariants.{Less, Equal, Greater}
+use Rattle.std.specs.declared.cmp.Ordering.{Ordering}
+use Rattle.std.specs.declared.cmp.Ordering.TheVariants.{Less, Equal, Greater}
 
-abbrev pub by_number : ℕ → ℕ → Order
+abbrev pub by_number : ℕ → ℕ → Ordering
 by_number a b = pick (ltb a b) Less (pick (ltb b a) Greater Equal)
 
 -- the first order, and the second where that tells nothing
-abbrev pub then_by : Order → Order → Order
+abbrev pub then_by : Ordering → Ordering → Ordering
 then_by Less o = Less
 then_by Equal o = o
 then_by Greater o = Greater
 
 -- "the first differing byte lower, a shorter bundle before a longer one that begins with it"
-unfoldable pub by_bytes : List ℕ → List ℕ → Order
+unfoldable pub by_bytes : List ℕ → List ℕ → Ordering
 by_bytes [] [] = Equal
 by_bytes [] (y ∷ b) = Less
 by_bytes (x ∷ a) [] = Greater
@@ -27,5 +27,5 @@ pub record Rank : Type 0 where
   pub bytes : List ℕ
 
 -- "the smaller claim, then fewer processors that run a task, then the first differing byte lower"
-unfoldable pub by_rank : Rank → Rank → Order
+unfoldable pub by_rank : Rank → Rank → Ordering
 by_rank a b = then_by (by_number a.claim b.claim) (then_by (by_number a.runners b.runners) (by_bytes a.bytes b.bytes))

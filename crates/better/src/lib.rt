@@ -1,13 +1,12 @@
 // The better of two bundles for one sheet, as the caller's own bytes.
 #![tactic(auto)]
 
-pub mod order; // order.rt: numbers and bytes compared
 pub mod standings; // standings.rt: what a bundle is ranked by
 pub mod choosing; // choosing.rt: which of two bundles
 
 ghost use Rattle.better.specs.Choices.{BetterIs};
 
-use crate::choosing::Choice;
+use crate::choosing::Lent;
 
 // Checks both bundles and hands back the better one; a refusal hands back the empty front of the first.
 pub fn better<'a>(
@@ -21,19 +20,19 @@ pub fn better<'a>(
     ensures { BetterIs sheet.now first.entry second.entry work.old work.new number.new place.new result }
 {
     match choosing::choose(sheet, first, second, work) {
-        Choice::First => {
+        Ok(Lent::First) => {
             *number = 0;
             *place = first.len() as u64;
             first
         }
-        Choice::Second => {
+        Ok(Lent::Second) => {
             *number = 0;
             *place = second.len() as u64;
             second
         }
-        Choice::Refused(n, at) => {
-            *number = n;
-            *place = at as u64;
+        Err(refusal) => {
+            *number = refusal.number;
+            *place = refusal.place as u64;
             &first[..0]
         }
     }

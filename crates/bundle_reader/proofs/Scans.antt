@@ -7,13 +7,13 @@ use mathlib.Core.List.{List, [], ◌∷◌, ◌++◌}
 use native.Mathlib.Omega.{arith}
 use lib.ListN.{length, get_or, drop, set, length-set, length-drop, length-append}
 use lib.Seq.{get_or-drop, drop-drop, get_or-set_other}
-use lib.Dec.{eqb, ltb}
+use lib.Dec.{ltb}
 use Rattle.folds.specs.Folds.{pick}
 use Rattle.folds.specs.Answers.{value, refused}
 use Rattle.folds.proofs.Tests.{ltb-same, not-value}
 use Rattle.numbers.specs.Number.{number_at}
 use Rattle.numbers.proofs.Laws.{number_at-drop}
-use Rattle.commands.specs.Commands.{Outcome, refuse, go, numbered, verdict, judge_kind, judge}
+use Rattle.commands.specs.Commands.{Outcome, refuse, go, verdict, judge_kind, judge}
 use Rattle.commands.specs.Reading.{Going}
 use Rattle.commands.proofs.Going.{comes, starts, goes, refuses, ends}
 use Rattle.sheet.specs.Sheet.{Sheet}
@@ -23,12 +23,15 @@ use Rattle.bundle.specs.Counts.{Sized, fault_below, limit_of, count_format, comm
 use Rattle.bundle.specs.Lies.{size_of, Stands, Laid}
 use Rattle.bundle.specs.Sizes.{short_size, long_size}
 use Rattle.bundle.specs.Kinds.{is_message, is_task, OfLink, sends, receives, discards, OfTask, runs, releases}
-use Rattle.bundle_reader.specs.Answers.{reading_of, closed_of, kind_next, next_of, judged_of}
+use Rattle.bundle_reader.specs.Answers.{outline, outline_of, reading_of, closed_of, kind_next, next_of, judged_of}
 use Rattle.bundle_reader.specs.ReadIs.{ReadIs}
 use Rattle.bundle_reader.specs.declared.bytes.Next.{Next}
-use Rattle.bundle_reader.specs.declared.bytes.Next.TheVariants.{Step, Open, Claim, No}
-use Rattle.bundle_reader.specs.declared.bytes.Reading.{Reading}
-use Rattle.bundle_reader.specs.declared.bytes.Reading.TheVariants.{Read, Refused}
+use Rattle.bundle_reader.specs.declared.bytes.Next.TheVariants.{Step, Open, Claim}
+use Rattle.bundle_reader.specs.declared.bytes.Outline.{Outline}
+use Rattle.refusals.specs.Refusals.{refusal, fault_of, placed}
+use Rattle.refusals.specs.declared.Refusal.{Refusal}
+use Rattle.refusals.proofs.Results.{fault-by}
+use Rattle.std.specs.Prelude.{⊤, Result, Ok, Err}
 use Rattle.bundle.proofs.Parts.{byte_of, kind-byte, open-facts, task-facts, link-facts, length-within, width_some}
 use Rattle.bundle.proofs.Rounds.{clear_of, ended-value}
 use Rattle.bundle.proofs.Faults.{judge-sized, sheet_by, sized-by, fault-link, fault-task, message-kind, task-kind, strange-kind, judge-kind}
@@ -182,7 +185,7 @@ module _ {s : Sheet} {b : List ℕ} {p t l : ℕ} {w : List ℕ} {n m at : ℕ} 
   ended_here j = ends (bundle_format s) g.going claiming refl (judged (go claiming) j)
 
   scanning-claim : judge (count_format p t l) n (drop at b) ≡ go claiming → closed_of b at n m ≡ reading_of (read_bundle s b)
-  unfolding closed_of ended reading_of programme_count command_count
+  unfolding closed_of ended outline_of programme_count command_count
   scanning-claim j =
       let r = room-here z g.ps b at claiming (judged (go claiming) j) in
       let d : length (drop 1 (drop at b)) + (at + 1) ≡ length b = omega (arith, r, length-drop 1 (drop at b), length-drop at b) in
@@ -190,7 +193,7 @@ module _ {s : Sheet} {b : List ℕ} {p t l : ℕ} {w : List ℕ} {n m at : ℕ} 
       rw (e, number-here z g.ps b at 4, ← g.count, ← g.total) (by (ltb 4 (length (drop 1 (drop at b)))) refl) ∙ sym (ap reading_of (ended_here j))
     where
       by : (q : Bool) → ltb 4 (length (drop 1 (drop at b))) ≡ q
-          → pick q (Refused 24 (at + 5)) (Read (length g.ps) (commands_in g.ps) (number_at 4 (drop 1 (drop at b)) 0)) ≡ reading_of (ended g.ps at (drop 1 (drop at b)))
+          → pick q (Err (refusal 24 (at + 5))) (Ok (outline (length g.ps) (commands_in g.ps) (number_at 4 (drop 1 (drop at b)) 0))) ≡ reading_of (ended g.ps at (drop 1 (drop at b)))
       by true q = rw q
       by false q = rw q
 
@@ -268,36 +271,36 @@ module _ {b : List ℕ} {p t l : ℕ} {v w : List ℕ} {n m at : ℕ} (g : Scan 
   pub scan-room : judge (count_format p t l) n (drop at b) ≡ go claiming → at + 5 ≤ length b
   scan-room j = some-room claiming j
 
-  pub scan-refused : (r : ℕ) → judge (count_format p t l) n (drop at b) ≡ refuse r → ReadIs b p t l v w (Refused r at)
-  unfolding reading_of
+  pub scan-refused : (r : ℕ) → judge (count_format p t l) n (drop at b) ≡ refuse r → ReadIs b p t l v w (Err (refusal r at))
   scan-refused r j =
       record {
         answer = λ s z. sym (ap reading_of (scanning-refused z (g.each s z) r j));
         laid = λ s z small x e. not-value (sym (scanning-refused z (g.each s z) r j) ∙ e);
         long = g.long;
         rest = g.rest;
-        fits = λ a c d e. let q : ◌≡◌ {A = ℕ} 0 1 = cc in absurd (omega arith);
+        fits = λ o e. absurd cc;
       }
 
-  closed-fits : judge (count_format p t l) n (drop at b) ≡ go claiming → (x y c : ℕ) → closed_of b at n m ≡ Read x y c → 2 * (x + y) + 5 ≤ length b
+  closed-fits : judge (count_format p t l) n (drop at b) ≡ go claiming → (o : Outline) → closed_of b at n m ≡ Ok o → 2 * (o.programmes + o.commands) + 5 ≤ length b
   unfolding closed_of
-  closed-fits j x y c e = by (ltb (at + 5) (length b)) e
+  closed-fits j o e = by (ltb (at + 5) (length b)) e
     where
-      by : (t : Bool) → pick t (Refused 24 (at + 5)) (Read n m (number_at 4 b (at + 1))) ≡ Read x y c → 2 * (x + y) + 5 ≤ length b
-      by true f = let z : ◌≡◌ {A = ℕ} 0 1 = cc in absurd (omega arith)
+      by : (t : Bool) → pick t (Err (refusal 24 (at + 5))) (Ok (outline n m (number_at 4 b (at + 1)))) ≡ Ok o → 2 * (o.programmes + o.commands) + 5 ≤ length b
+      by true f = absurd cc
       by false f =
-          let q : n ≡ x = cc in
-          let r : m ≡ y = cc in
+          let q : outline n m (number_at 4 b (at + 1)) ≡ o = cc in
+          let x : n ≡ o.programmes = ap (λ (y : Outline). y.programmes) q in
+          let z : m ≡ o.commands = ap (λ (y : Outline). y.commands) q in
           omega (arith, g.counted, scan-room j)
 
-  pub scan-claim : p < length v → judge (count_format p t l) n (drop at b) ≡ go claiming → (r : Reading) → r ≡ closed_of b at n m → ReadIs b p t l v (set w n (at % 4294967296)) r
+  pub scan-claim : p < length v → judge (count_format p t l) n (drop at b) ≡ go claiming → (r : Result Outline Refusal) → r ≡ closed_of b at n m → ReadIs b p t l v (set w n (at % 4294967296)) r
   scan-claim wide j r q =
       record {
         answer = λ s z. q ∙ scanning-claim z (g.each s z) j;
         laid = λ s z small x e. scanning-laid z (g.each s z) (omega (arith, g.few, g.long)) j small x e;
         long = length-set w n (at % 4294967296) ∙ g.long;
         rest = λ i h. get_or-set_other w n i (at % 4294967296) 0 (λ q. omega (arith, g.few)) ∙ g.rest i h;
-        fits = λ x y c e. closed-fits j x y c (sym q ∙ e);
+        fits = λ o e. closed-fits j o (sym q ∙ e);
       }
 
 -- the next command by what the code tests: its byte x, and the number r of its fault
@@ -305,15 +308,15 @@ module _ (p t l n : ℕ) (b : List ℕ) (at : ℕ) (more : at < length b) (x : �
   kind-next : (o : Option Kind) → kind_of x ≡ o → next_of (judge_kind (count_format p t l) n o (drop (at + 1) b)) ≡ next_of (judge (count_format p t l) n (drop at b))
   kind-next o e = sym (ap next_of (judge-kind p t l n b at more o (ap kind_of (sym here) ∙ e)))
 
-  verdict-next : (k : Kind) (r : ℕ) (q : Bool) → pick q (kind_next k) (No r) ≡ next_of (verdict (count_format p t l) k (pick q none (some r)))
-  verdict-next k r true = refl
-  verdict-next k r false = refl
+  verdict-next : (k : Kind) (r : Result ⊤ ℕ) → judged_of r (kind_next k) ≡ next_of (verdict (count_format p t l) k (fault_of r))
+  verdict-next k (Ok y) = refl
+  verdict-next k (Err n) = refl
 
-  pub known_next : (k : Kind) (r : ℕ) → kind_of x ≡ some k → numbered r ≡ fault_below (limit_of p t l k) n k (drop (at + 1) b) → judged_of r (kind_next k) ≡ next_of (judge (count_format p t l) n (drop at b))
-  known_next k r e h = verdict-next k r (eqb r 0) ∙ ap (λ (o : Option ℕ). next_of (verdict (count_format p t l) k o)) h ∙ kind-next (some k) e
+  pub known_next : (k : Kind) (r : Result ⊤ ℕ) → kind_of x ≡ some k → fault_of r ≡ fault_below (limit_of p t l k) n k (drop (at + 1) b) → judged_of r (kind_next k) ≡ next_of (judge (count_format p t l) n (drop at b))
+  known_next k r e h = verdict-next k r ∙ ap (λ (o : Option ℕ). next_of (verdict (count_format p t l) k o)) h ∙ kind-next (some k) e
 
   -- a command of a link, and one of a task
-  pub message-next : (r : ℕ) → is_message x ≡ true → numbered r ≡ fault_below l n sending (drop (at + 1) b) → judged_of r (Step long_size) ≡ next_of (judge (count_format p t l) n (drop at b))
+  pub message-next : (r : Result ⊤ ℕ) → is_message x ≡ true → fault_of r ≡ fault_below l n sending (drop (at + 1) b) → judged_of r (Step long_size) ≡ next_of (judge (count_format p t l) n (drop at b))
   message-next r e h = let f = message-kind x e in by f.among f.is
     where
       by : {k : Kind} → OfLink k → kind_of x ≡ some k → judged_of r (Step long_size) ≡ next_of (judge (count_format p t l) n (drop at b))
@@ -321,14 +324,14 @@ module _ (p t l n : ℕ) (b : List ℕ) (at : ℕ) (more : at < length b) (x : �
       by receives q = known_next receiving r q (h ∙ sym (fault-link receives l n (drop (at + 1) b)))
       by discards q = known_next discarding r q (h ∙ sym (fault-link discards l n (drop (at + 1) b)))
 
-  pub task-next : (r : ℕ) → is_task x ≡ true → numbered r ≡ fault_below t n running (drop (at + 1) b) → judged_of r (Step short_size) ≡ next_of (judge (count_format p t l) n (drop at b))
+  pub task-next : (r : Result ⊤ ℕ) → is_task x ≡ true → fault_of r ≡ fault_below t n running (drop (at + 1) b) → judged_of r (Step short_size) ≡ next_of (judge (count_format p t l) n (drop at b))
   task-next r e h = let f = task-kind x e in by f.among f.is
     where
       by : {k : Kind} → OfTask k → kind_of x ≡ some k → judged_of r (Step short_size) ≡ next_of (judge (count_format p t l) n (drop at b))
       by runs q = known_next running r q (h ∙ sym (fault-task runs t n (drop (at + 1) b)))
       by releases q = known_next releasing r q (h ∙ sym (fault-task releases t n (drop (at + 1) b)))
 
-  pub strange-next : is_message x ≡ false → is_task x ≡ false → (x ≡ 0x50 → ⊥) → (x ≡ 0x5A → ⊥) → No 22 ≡ next_of (judge (count_format p t l) n (drop at b))
+  pub strange-next : is_message x ≡ false → is_task x ≡ false → (x ≡ 0x50 → ⊥) → (x ≡ 0x5A → ⊥) → Err 22 ≡ next_of (judge (count_format p t l) n (drop at b))
   strange-next e f h k = kind-next none (strange-kind x e f h k)
 
 -- a command that stands in a programme, and its length
@@ -339,11 +342,11 @@ record Steps (o : Outcome Kind) (size : ℕ) : Type 0 where
   sized : 1 + width kind ≡ size
 
 -- what the code's answer tells of the outcome
-abbrev Tells : Outcome Kind → Next → Type 0
-Tells o (Step size) = Steps o size
-Tells o Open = o ≡ go opening
-Tells o Claim = o ≡ go claiming
-Tells o (No r) = o ≡ refuse r
+abbrev Tells : Outcome Kind → Result Next ℕ → Type 0
+Tells o (Ok (Step size)) = Steps o size
+Tells o (Ok Open) = o ≡ go opening
+Tells o (Ok Claim) = o ≡ go claiming
+Tells o (Err r) = o ≡ refuse r
 
 tells : (o : Outcome Kind) → Tells o (next_of o)
 tells (refuse r) = refl
@@ -356,26 +359,28 @@ tells (go discarding) = record { kind = discarding; inside = refl; goes_on = ref
 tells (go claiming) = refl
 
 -- the ways by the code's answer f
-module _ {b : List ℕ} {p t l : ℕ} {v w : List ℕ} {n m at : ℕ} (g : Scan b p t l v w n m at) (f : Next) (e : f ≡ next_of (judge (count_format p t l) n (drop at b))) where
-  told : (x : Next) → f ≡ x → Tells (judge (count_format p t l) n (drop at b)) x
+module _ {b : List ℕ} {p t l : ℕ} {v w : List ℕ} {n m at : ℕ} (g : Scan b p t l v w n m at) (f : Result Next ℕ) (e : f ≡ next_of (judge (count_format p t l) n (drop at b))) where
+  told : (x : Result Next ℕ) → f ≡ x → Tells (judge (count_format p t l) n (drop at b)) x
   told x q = subst (Tells (judge (count_format p t l) n (drop at b))) (sym e ∙ q) (tells (judge (count_format p t l) n (drop at b)))
 
-  pub step-on : (size : ℕ) → f ≡ Step size → Scan b p t l v w n (m + 1) (at + size) × (0 < size)
+  pub step-on : (size : ℕ) → f ≡ Ok (Step size) → Scan b p t l v w n (m + 1) (at + size) × (0 < size)
   step-on size q =
-      let s = told (Step size) q in
+      let s = told (Ok (Step size)) q in
       (subst (λ (i : ℕ). Scan b p t l v w n (m + 1) (at + i)) s.sized (scan_step g s.kind s.inside s.goes_on), omega (arith, s.sized))
 
-  pub open-room : f ≡ Open → (at + 2 ≤ length b) × (n < p)
-  open-room q = scan-open-room g (told Open q)
+  pub open-room : f ≡ Ok Open → (at + 2 ≤ length b) × (n < p)
+  open-room q = scan-open-room g (told (Ok Open) q)
 
-  pub open-on : p < length v → f ≡ Open → Scan b p t l v (set w n (at % 4294967296)) (n + 1) m (at + 2)
-  open-on wide q = scan-open g wide (told Open q)
+  pub open-on : p < length v → f ≡ Ok Open → Scan b p t l v (set w n (at % 4294967296)) (n + 1) m (at + 2)
+  open-on wide q = scan-open g wide (told (Ok Open) q)
 
-  pub claim-room : f ≡ Claim → at + 5 ≤ length b
-  claim-room q = scan-room g (told Claim q)
+  pub claim-room : f ≡ Ok Claim → at + 5 ≤ length b
+  claim-room q = scan-room g (told (Ok Claim) q)
 
-  pub claim-on : p < length v → f ≡ Claim → (r : Reading) → r ≡ closed_of b at n m → ReadIs b p t l v (set w n (at % 4294967296)) r
-  claim-on wide q r h = scan-claim g wide (told Claim q) r h
+  pub claim-on : p < length v → f ≡ Ok Claim → (r : Result Outline Refusal) → r ≡ closed_of b at n m → ReadIs b p t l v (set w n (at % 4294967296)) r
+  claim-on wide q r h = scan-claim g wide (told (Ok Claim) q) r h
 
-  pub refused-at : (r : ℕ) → f ≡ No r → ReadIs b p t l v w (Refused r at)
-  refused-at r q = scan-refused g r (told (No r) q)
+  pub refused-at : (r : Refusal) → Err r ≡ placed at f → ReadIs b p t l v w (Err r)
+  refused-at r h =
+      let q = fault-by at f r h in
+      subst (λ (x : Refusal). ReadIs b p t l v w (Err x)) (sym q.is) (scan-refused g q.number (told (Err q.number) q.found))

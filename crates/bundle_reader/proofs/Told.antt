@@ -1,6 +1,6 @@
 -- What the reader's answer tells of the bytes, and how many values a bundle has.
 use Prim.Native.Nat.{ℕ, suc, ◌+◌, ◌*◌}
-use mathlib.Core.Path.{◌≡◌, refl, sym, ◌∙◌}
+use mathlib.Core.Path.{ap, ◌≡◌, refl, sym, ◌∙◌}
 use mathlib.Core.List.{List, [], ◌∷◌}
 use native.Mathlib.Omega.{arith}
 use lib.ListN.{length, length-append}
@@ -10,10 +10,12 @@ use Rattle.bundle.specs.Bundle.{Command, run, send, receive, release, discard, B
 use Rattle.bundle.specs.Format.{read_bundle}
 use Rattle.bundle.specs.Writing.{programme_values, programmes_values, bundle_values}
 use Rattle.bundle.specs.Counts.{Sized, commands_in, command_count}
-use Rattle.bundle_reader.specs.Answers.{reading_of}
 use Rattle.bundle_reader.specs.ReadIs.{ReadIs}
-use Rattle.bundle_reader.specs.declared.bytes.Reading.{Reading}
-use Rattle.bundle_reader.specs.declared.bytes.Reading.TheVariants.{Read, Refused}
+use Rattle.bundle_reader.specs.Answers.{outline_of}
+use Rattle.bundle_reader.specs.declared.bytes.Outline.{Outline}
+use Rattle.refusals.specs.declared.Refusal.{Refusal}
+use Rattle.refusals.proofs.Results.{refused-by, value-by}
+use Rattle.std.specs.Prelude.{Result, Ok, Err}
 
 -- the bytes are read as a bundle of n programmes with m commands and the claim c
 pub record Holds (a : Answer Bundle) (n m c : ℕ) : Type 0 where
@@ -23,22 +25,15 @@ pub record Holds (a : Answer Bundle) (n m c : ℕ) : Type 0 where
   pub commands : m ≡ command_count bundle
   pub claimed : c ≡ bundle.claim
 
-reading-holds : (a : Answer Bundle) (n m c : ℕ) → Read n m c ≡ reading_of a → Holds a n m c
-unfolding reading_of
-reading-holds (value x) n m c e = record { bundle = x; reads = refl; programmes = cc; commands = cc; claimed = cc }
-reading-holds (refused r at) n m c e = let z : ◌≡◌ {A = ℕ} 0 1 = cc in absurd (omega arith)
+module _ {b : List ℕ} {p t l : ℕ} {v last : List ℕ} {f : Result Outline Refusal} (g : ReadIs b p t l v last f) where
+  pub told-holds : (o : Outline) → f ≡ Ok o → (s : Sheet) → Sized s p t l → Holds (read_bundle s b) o.programmes o.commands o.claim
+  unfolding outline_of
+  told-holds o e s z =
+      let h = value-by outline_of (read_bundle s b) o (sym e ∙ g.answer s z) in
+      record { bundle = h.x; reads = h.value; programmes = ap (λ (x : Outline). x.programmes) h.is; commands = ap (λ (x : Outline). x.commands) h.is; claimed = ap (λ (x : Outline). x.claim) h.is }
 
-reading-refused : (a : Answer Bundle) (r at : ℕ) → Refused r at ≡ reading_of a → a ≡ refused r at
-unfolding reading_of
-reading-refused (value x) r at e = let z : ◌≡◌ {A = ℕ} 0 1 = cc in absurd (omega arith)
-reading-refused (refused q o) r at e = cc
-
-module _ {b : List ℕ} {p t l : ℕ} {v last : List ℕ} {f : Reading} (g : ReadIs b p t l v last f) where
-  pub told-holds : (n m c : ℕ) → f ≡ Read n m c → (s : Sheet) → Sized s p t l → Holds (read_bundle s b) n m c
-  told-holds n m c e s z = reading-holds (read_bundle s b) n m c (sym e ∙ g.answer s z)
-
-  pub told-refused : (r at : ℕ) → f ≡ Refused r at → (s : Sheet) → Sized s p t l → read_bundle s b ≡ refused r at
-  told-refused r at e s z = reading-refused (read_bundle s b) r at (sym e ∙ g.answer s z)
+  pub told-refused : (r : Refusal) → f ≡ Err r → (s : Sheet) → Sized s p t l → read_bundle s b ≡ refused r.number r.place
+  told-refused r e s z = refused-by outline_of (read_bundle s b) r (sym e ∙ g.answer s z)
 
 length-programme : (p : List Command) → length (programme_values p) ≡ 2 * length p
 length-programme [] = refl

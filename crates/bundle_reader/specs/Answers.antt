@@ -1,7 +1,7 @@
 -- The code's answers as the definitions have them.
-use Rattle.std.specs.Prelude.{ℕ, ◌+◌, List, length, eqb, ltb}
+use Rattle.std.specs.Prelude.{ℕ, ⊤, Result, Ok, Err, ◌+◌, List, length, ltb}
 use Rattle.folds.specs.Folds.{pick}
-use Rattle.folds.specs.Answers.{Answer, value, refused}
+use Rattle.folds.specs.Answers.{Answer}
 use Rattle.numbers.specs.Number.{number_at}
 use Rattle.bundle.specs.Bundle.{Bundle, programme_count}
 use Rattle.bundle.specs.Counts.{command_count}
@@ -9,18 +9,24 @@ use Rattle.bundle.specs.Sizes.{short_size, long_size, claim_size}
 use Rattle.commands.specs.Commands.{Outcome, refuse, go}
 use Rattle.bundle.specs.Format.{Kind, opening, running, sending, receiving, releasing, discarding, claiming}
 use Rattle.bundle_reader.specs.declared.bytes.Next.{Next}
-use Rattle.bundle_reader.specs.declared.bytes.Next.TheVariants.{Step, Open, Claim, No}
-use Rattle.bundle_reader.specs.declared.bytes.Reading.{Reading}
-use Rattle.bundle_reader.specs.declared.bytes.Reading.TheVariants.{Read, Refused}
+use Rattle.bundle_reader.specs.declared.bytes.Next.TheVariants.{Step, Open, Claim}
+use Rattle.bundle_reader.specs.declared.bytes.Outline.{Outline}
+use Rattle.refusals.specs.Refusals.{refusal, result_of}
+use Rattle.refusals.specs.declared.Refusal.{Refusal}
+
+abbrev pub outline : ℕ → ℕ → ℕ → Outline
+outline n m c = record { programmes = n; commands = m; claim = c }
+
+unfoldable pub outline_of : Bundle → Outline
+outline_of b = outline (programme_count b) (command_count b) b.claim
 
 -- what reading a bundle gives: its programmes, the commands in them and its claim, or the refusal
-unfoldable pub reading_of : Answer Bundle → Reading
-reading_of (value b) = Read (programme_count b) (command_count b) b.claim
-reading_of (refused r e) = Refused r e
+abbrev pub reading_of : Answer Bundle → Result Outline Refusal
+reading_of a = result_of outline_of a
 
 -- what the claim at an offset closes, behind n programmes with m commands
-unfoldable pub closed_of : List ℕ → ℕ → ℕ → ℕ → Reading
-closed_of b at n m = pick (ltb (at + claim_size) (length b)) (Refused 24 (at + claim_size)) (Read n m (number_at 4 b (at + 1)))
+unfoldable pub closed_of : List ℕ → ℕ → ℕ → ℕ → Result Outline Refusal
+closed_of b at n m = pick (ltb (at + claim_size) (length b)) (Err (refusal 24 (at + claim_size))) (Ok (outline n m (number_at 4 b (at + 1))))
 
 -- what a command's kind is to the reader: of those in a programme it needs the length alone
 abbrev pub kind_next : Kind → Next
@@ -32,10 +38,11 @@ kind_next releasing = Step short_size
 kind_next discarding = Step long_size
 kind_next claiming = Claim
 
-abbrev pub next_of : Outcome Kind → Next
-next_of (refuse r) = No r
-next_of (go k) = kind_next k
+abbrev pub next_of : Outcome Kind → Result Next ℕ
+next_of (refuse r) = Err r
+next_of (go k) = Ok (kind_next k)
 
--- a command with the number of its fault, or 0
-abbrev pub judged_of : ℕ → Next → Next
-judged_of r x = pick (eqb r 0) x (No r)
+-- a command, by the test of it
+abbrev pub judged_of : Result ⊤ ℕ → Next → Result Next ℕ
+judged_of (Ok y) x = Ok x
+judged_of (Err r) x = Err r

@@ -1,5 +1,5 @@
 -- Values judged as the reader would judge their bytes: the state of that, and the ways on and out.
-use Prim.Native.Nat.{ℕ, zero, suc, ◌+◌, ◌<◌, ◌≤◌}
+use Prim.Native.Nat.{ℕ, suc, ◌+◌, ◌<◌, ◌≤◌}
 use mathlib.Core.Path.{◌≡◌, refl, sym, ap, subst, ◌∙◌}
 use mathlib.Core.Bool.{Bool, true, false, true≢false, false≢true}
 use mathlib.Core.Option.{Option, none, some}
@@ -14,10 +14,9 @@ use Rattle.folds.specs.Folds.{pick, both}
 use Rattle.folds.specs.Answers.{refused}
 use Rattle.numbers.specs.Number.{number_bytes}
 use Rattle.numbers.proofs.Laws.{number-of-bytes}
-use Rattle.commands.specs.Commands.{Outcome, refuse, go, numbered, verdict, judge_kind, judge}
+use Rattle.commands.specs.Commands.{Outcome, refuse, go, verdict, judge_kind, judge}
 use Rattle.commands.specs.Reading.{Going}
 use Rattle.commands.proofs.Going.{comes, starts, goes, refuses, ends}
-use Rattle.commands.proofs.Numbered.{numbered-some, numbered-none}
 use Rattle.sheet.specs.Sheet.{Sheet}
 use Rattle.bundle.specs.Bundle.{Command}
 use Rattle.bundle.specs.Format.{Kind, opening, running, sending, receiving, releasing, discarding, claiming, kind_of, width, inside, after, closes, ended, bundle_format, read_bundle}
@@ -26,11 +25,11 @@ use Rattle.bundle.specs.Sizes.{short_size, long_size}
 use Rattle.bundle.specs.Counts.{Sized, fault_below, limit_of, count_format}
 use Rattle.bundle.specs.Kinds.{is_message, is_task, OfLink, sends, receives, discards, OfTask, runs, releases}
 use Rattle.bundle_writer.specs.Writes.{judged_of, RefusalIs, known_fault, open_fault, cut_kind, cut_number}
-use Rattle.bundle_writer.specs.Judges.{Judging, Judges, NextIs, went_on}
-use Rattle.bundle_writer.specs.declared.writer.Judged.TheVariants.{Long, Refused}
-use Rattle.bundle_writer.specs.declared.writer.Judged.{Judged}
-use Rattle.bundle_writer.specs.declared.writer.Next.{Next}
-use Rattle.bundle_writer.specs.declared.writer.Next.TheVariants.{On, Out}
+use Rattle.bundle_writer.specs.Judges.{Judging, Judges, NextIs, went_on, spot}
+use Rattle.bundle_writer.specs.declared.writer.Spot.{Spot}
+use Rattle.std.specs.Prelude.{⊤, Result, Ok, Err}
+use Rattle.refusals.specs.Refusals.{refusal, fault_of, placed}
+use Rattle.refusals.specs.declared.Refusal.{Refusal}
 use Rattle.bundle.proofs.Steps.{on-claim}
 use Rattle.bundle.proofs.Parts.{drop-operand, length-within}
 use Rattle.bundle.proofs.Faults.{judge-sized, fault-link, fault-task, message-kind, task-kind, strange-kind}
@@ -177,13 +176,12 @@ module _ {s : Sheet} {vs : List ℕ} {claim n at i : ℕ} {p t l : ℕ} (z : Siz
         size = omega (arith, len, g.size);
       }
 
-  judging-refused : (r : ℕ) → judge (count_format p t l) n (value_bytes (drop i vs) claim) ≡ refuse r → Refused r at ≡ judged_of (value_bytes vs claim) (read_bundle s (value_bytes vs claim))
-  unfolding judged_of
+  judging-refused : (r : ℕ) → judge (count_format p t l) n (value_bytes (drop i vs) claim) ≡ refuse r → Err (refusal r at) ≡ judged_of (value_bytes vs claim) (read_bundle s (value_bytes vs claim))
   judging-refused r j = sym (ap (judged_of (value_bytes vs claim)) (refuses (bundle_format s) g.going r (judged (refuse r) j)))
 
   -- a claim among the values has something behind it
-  judging-tail : i + 1 < length vs → judge (count_format p t l) n (value_bytes (drop i vs) claim) ≡ go claiming → Refused 24 (at + 5) ≡ judged_of (value_bytes vs claim) (read_bundle s (value_bytes vs claim))
-  unfolding judged_of ended
+  judging-tail : i + 1 < length vs → judge (count_format p t l) n (value_bytes (drop i vs) claim) ≡ go claiming → Err (refusal 24 (at + 5)) ≡ judged_of (value_bytes vs claim) (read_bundle s (value_bytes vs claim))
+  unfolding ended
   judging-tail h j =
       let y = get_or vs i 0 in
       let x = get_or vs (i + 1) 0 in
@@ -197,13 +195,12 @@ module _ {s : Sheet} {vs : List ℕ} {claim n at i : ℕ} {p t l : ℕ} (z : Siz
       in
       sym (ap (judged_of (value_bytes vs claim)) a)
 
-  judging-end : length vs ≤ i → (0 < t → 0 < n) → claim < 4294967296 → Long (at + 5) ≡ judged_of (value_bytes vs claim) (read_bundle s (value_bytes vs claim))
-  unfolding judged_of
+  judging-end : length vs ≤ i → (0 < t → 0 < n) → claim < 4294967296 → Ok (at + 5) ≡ judged_of (value_bytes vs claim) (read_bundle s (value_bytes vs claim))
   judging-end h m c =
       let e = values-end vs claim i h in
       let a = on-claim s claim (subst (λ (b : List ℕ). Going (bundle_format s) (read_bundle s (value_bytes vs claim)) g.ps at b) e g.going) (λ h. let e = m (omega (arith, h, z.tasks)) in omega (arith, e, g.count)) c in
       let len : at + 5 ≡ length (value_bytes vs claim) = omega (arith, g.size, ap length e) in
-      ap Long len ∙ sym (ap (judged_of (value_bytes vs claim)) a)
+      ap Ok len ∙ sym (ap (judged_of (value_bytes vs claim)) a)
 
 pub judges-start : (vs : List ℕ) (p t l : ℕ) → Judges vs p t l 0 0 0
 unfolding read_bundle
@@ -235,15 +232,15 @@ opened-most n claiming = omega arith
 
 -- the next command, by its two cases
 module _ {vs : List ℕ} {p t l i : ℕ} where
-  only-on : {at n : ℕ} → Judges vs p t l n at (i + 2) → NextIs vs p t l i (On at n)
+  only-on : {at n : ℕ} → Judges vs p t l n at (i + 2) → NextIs vs p t l i (Ok (spot at n))
   only-on {at} {n} g =
       record {
-        on = λ a m e. let x : at ≡ a = cc in let y : n ≡ m = cc in subst (λ (j : ℕ). Judges vs p t l m j (i + 2)) x (subst (λ (j : ℕ). Judges vs p t l j at (i + 2)) y g);
-        out = λ r e. let z : ◌≡◌ {A = ℕ} 0 1 = cc in absurd (omega arith);
+        on = λ x e. let z : spot at n ≡ x = cc in subst (λ (y : Spot). Judges vs p t l y.opened y.at (i + 2)) z g;
+        out = λ r e. absurd cc;
       }
 
-  pub only_out : {j : Judged} → RefusalIs vs p t l j → NextIs vs p t l i (Out j)
-  only_out {j} g = record { on = λ a m e. let z : ◌≡◌ {A = ℕ} 0 1 = cc in absurd (omega arith); out = λ r e. let x : j ≡ r = cc in subst (RefusalIs vs p t l) x g }
+  pub only_out : {r : Refusal} → RefusalIs vs p t l (Err r) → NextIs vs p t l i (Err r)
+  only_out {r} g = record { on = λ x e. absurd cc; out = λ q e. let x : r ≡ q = cc in subst (λ (y : Refusal). RefusalIs vs p t l (Err y)) x g }
 
 -- the ways by what the code tests: the command of the values at i, with the number of its fault
 module _ {vs : List ℕ} {p t l n at i : ℕ} (g : Judges vs p t l n at i) (more : i + 1 < length vs) where
@@ -259,24 +256,24 @@ module _ {vs : List ℕ} {p t l n at i : ℕ} (g : Judges vs p t l n at i) (more
       ∙ ap (λ (q : Option Kind). judge_kind (count_format p t l) n (some k) (operand_bytes q x ++ r)) e
       ∙ ap (verdict (count_format p t l) k) (sym (h r))
 
-  on-kind : (k : Kind) → closes k ≡ false → kind_of (get_or vs i 0) ≡ some k → (r : ℕ) → r ≡ 0
-      → ((b : List ℕ) → numbered r ≡ fault_below (limit_of p t l k) n k (operand_bytes (some k) (get_or vs (i + 1) 0) ++ b))
+  on-kind : (k : Kind) → closes k ≡ false → kind_of (get_or vs i 0) ≡ some k → (r : Result ⊤ ℕ) → r ≡ Ok tt
+      → ((b : List ℕ) → fault_of r ≡ fault_below (limit_of p t l k) n k (operand_bytes (some k) (get_or vs (i + 1) 0) ++ b))
       → Judges vs p t l (opened_behind n k) (at + (1 + width k)) (i + 2)
   on-kind k c e r z h =
       record {
         place = omega arith;
         near = omega (arith, g.near, width-most k c);
         few = omega (arith, g.few, opened-most n k);
-        each = λ s q claim m. judging-on q (g.each s q claim m) k c more (judged-kind k e (numbered r) h claim ∙ ap (verdict (count_format p t l) k) (numbered-none r (numbered r) refl z));
+        each = λ s q claim m. judging-on q (g.each s q claim m) k c more (judged-kind k e (fault_of r) h claim ∙ ap (λ (x : Result ⊤ ℕ). verdict (count_format p t l) k (fault_of x)) z);
       }
 
-  refused-kind : (k : Kind) → kind_of (get_or vs i 0) ≡ some k → (r : ℕ) → (r ≡ 0 → ⊥)
-      → ((b : List ℕ) → numbered r ≡ fault_below (limit_of p t l k) n k (operand_bytes (some k) (get_or vs (i + 1) 0) ++ b)) → RefusalIs vs p t l (Refused r at)
-  refused-kind k e r z h =
-      record { answer = λ s q claim m. judging-refused q (g.each s q claim m) r (judged-kind k e (numbered r) h claim ∙ ap (verdict (count_format p t l) k) (numbered-some r (numbered r) refl z)) }
+  refused-kind : (k : Kind) → kind_of (get_or vs i 0) ≡ some k → (r : Result ⊤ ℕ) (m : ℕ) → r ≡ Err m
+      → ((b : List ℕ) → fault_of r ≡ fault_below (limit_of p t l k) n k (operand_bytes (some k) (get_or vs (i + 1) 0) ++ b)) → RefusalIs vs p t l (Err (refusal m at))
+  refused-kind k e r m z h =
+      record { answer = λ s q claim few. judging-refused q (g.each s q claim few) m (judged-kind k e (fault_of r) h claim ∙ ap (λ (x : Result ⊤ ℕ). verdict (count_format p t l) k (fault_of x)) z) }
 
   -- a command of a link, and one of a task
-  judges-message : get_or vs (i + 1) 0 < 65536 → is_message (get_or vs i 0) ≡ true → (r : ℕ) → numbered r ≡ known_fault l n (get_or vs (i + 1) 0) → r ≡ 0 → Judges vs p t l n (at + long_size) (i + 2)
+  judges-message : get_or vs (i + 1) 0 < 65536 → is_message (get_or vs i 0) ≡ true → (r : Result ⊤ ℕ) → fault_of r ≡ known_fault l n (get_or vs (i + 1) 0) → r ≡ Ok tt → Judges vs p t l n (at + long_size) (i + 2)
   judges-message s e r h z = let f = message-kind (get_or vs i 0) e in by f.among f.is
     where
       by : {k : Kind} → OfLink k → kind_of (get_or vs i 0) ≡ some k → Judges vs p t l n (at + long_size) (i + 2)
@@ -284,53 +281,53 @@ module _ {vs : List ℕ} {p t l n at i : ℕ} (g : Judges vs p t l n at i) (more
       by receives q = on-kind receiving refl q r z (λ b. h ∙ sym (fault-of-link l n (get_or vs (i + 1) 0) b receives s))
       by discards q = on-kind discarding refl q r z (λ b. h ∙ sym (fault-of-link l n (get_or vs (i + 1) 0) b discards s))
 
-  judges-message-no : get_or vs (i + 1) 0 < 65536 → is_message (get_or vs i 0) ≡ true → (r : ℕ) → numbered r ≡ known_fault l n (get_or vs (i + 1) 0) → (r ≡ 0 → ⊥) → RefusalIs vs p t l (Refused r at)
-  judges-message-no s e r h z = let f = message-kind (get_or vs i 0) e in by f.among f.is
+  judges-message-no : get_or vs (i + 1) 0 < 65536 → is_message (get_or vs i 0) ≡ true → (r : Result ⊤ ℕ) → fault_of r ≡ known_fault l n (get_or vs (i + 1) 0) → (m : ℕ) → r ≡ Err m → RefusalIs vs p t l (Err (refusal m at))
+  judges-message-no s e r h m z = let f = message-kind (get_or vs i 0) e in by f.among f.is
     where
-      by : {k : Kind} → OfLink k → kind_of (get_or vs i 0) ≡ some k → RefusalIs vs p t l (Refused r at)
-      by sends q = refused-kind sending q r z (λ b. h ∙ sym (fault-of-link l n (get_or vs (i + 1) 0) b sends s))
-      by receives q = refused-kind receiving q r z (λ b. h ∙ sym (fault-of-link l n (get_or vs (i + 1) 0) b receives s))
-      by discards q = refused-kind discarding q r z (λ b. h ∙ sym (fault-of-link l n (get_or vs (i + 1) 0) b discards s))
+      by : {k : Kind} → OfLink k → kind_of (get_or vs i 0) ≡ some k → RefusalIs vs p t l (Err (refusal m at))
+      by sends q = refused-kind sending q r m z (λ b. h ∙ sym (fault-of-link l n (get_or vs (i + 1) 0) b sends s))
+      by receives q = refused-kind receiving q r m z (λ b. h ∙ sym (fault-of-link l n (get_or vs (i + 1) 0) b receives s))
+      by discards q = refused-kind discarding q r m z (λ b. h ∙ sym (fault-of-link l n (get_or vs (i + 1) 0) b discards s))
 
-  judges-task : is_task (get_or vs i 0) ≡ true → (r : ℕ) → numbered r ≡ known_fault t n (get_or vs (i + 1) 0) → r ≡ 0 → Judges vs p t l n (at + short_size) (i + 2)
+  judges-task : is_task (get_or vs i 0) ≡ true → (r : Result ⊤ ℕ) → fault_of r ≡ known_fault t n (get_or vs (i + 1) 0) → r ≡ Ok tt → Judges vs p t l n (at + short_size) (i + 2)
   judges-task e r h z = let f = task-kind (get_or vs i 0) e in by f.among f.is
     where
       by : {k : Kind} → OfTask k → kind_of (get_or vs i 0) ≡ some k → Judges vs p t l n (at + short_size) (i + 2)
       by runs q = on-kind running refl q r z (λ b. h ∙ sym (fault-of-task t n (get_or vs (i + 1) 0) b runs))
       by releases q = on-kind releasing refl q r z (λ b. h ∙ sym (fault-of-task t n (get_or vs (i + 1) 0) b releases))
 
-  judges-task-no : is_task (get_or vs i 0) ≡ true → (r : ℕ) → numbered r ≡ known_fault t n (get_or vs (i + 1) 0) → (r ≡ 0 → ⊥) → RefusalIs vs p t l (Refused r at)
-  judges-task-no e r h z = let f = task-kind (get_or vs i 0) e in by f.among f.is
+  judges-task-no : is_task (get_or vs i 0) ≡ true → (r : Result ⊤ ℕ) → fault_of r ≡ known_fault t n (get_or vs (i + 1) 0) → (m : ℕ) → r ≡ Err m → RefusalIs vs p t l (Err (refusal m at))
+  judges-task-no e r h m z = let f = task-kind (get_or vs i 0) e in by f.among f.is
     where
-      by : {k : Kind} → OfTask k → kind_of (get_or vs i 0) ≡ some k → RefusalIs vs p t l (Refused r at)
-      by runs q = refused-kind running q r z (λ b. h ∙ sym (fault-of-task t n (get_or vs (i + 1) 0) b runs))
-      by releases q = refused-kind releasing q r z (λ b. h ∙ sym (fault-of-task t n (get_or vs (i + 1) 0) b releases))
+      by : {k : Kind} → OfTask k → kind_of (get_or vs i 0) ≡ some k → RefusalIs vs p t l (Err (refusal m at))
+      by runs q = refused-kind running q r m z (λ b. h ∙ sym (fault-of-task t n (get_or vs (i + 1) 0) b runs))
+      by releases q = refused-kind releasing q r m z (λ b. h ∙ sym (fault-of-task t n (get_or vs (i + 1) 0) b releases))
 
-  judges-open : get_or vs i 0 ≡ 0x50 → (r : ℕ) → numbered r ≡ open_fault p n (get_or vs (i + 1) 0) → r ≡ 0 → Judges vs p t l (n + 1) (at + 2) (i + 2)
+  judges-open : get_or vs i 0 ≡ 0x50 → (r : Result ⊤ ℕ) → fault_of r ≡ open_fault p n (get_or vs (i + 1) 0) → r ≡ Ok tt → Judges vs p t l (n + 1) (at + 2) (i + 2)
   judges-open e r h z = on-kind opening refl (ap kind_of e) r z (λ b. h ∙ sym (fault-opening p n (get_or vs (i + 1) 0) b))
 
-  judges-open-no : get_or vs i 0 ≡ 0x50 → (r : ℕ) → numbered r ≡ open_fault p n (get_or vs (i + 1) 0) → (r ≡ 0 → ⊥) → RefusalIs vs p t l (Refused r at)
-  judges-open-no e r h z = refused-kind opening (ap kind_of e) r z (λ b. h ∙ sym (fault-opening p n (get_or vs (i + 1) 0) b))
+  judges-open-no : get_or vs i 0 ≡ 0x50 → (r : Result ⊤ ℕ) → fault_of r ≡ open_fault p n (get_or vs (i + 1) 0) → (m : ℕ) → r ≡ Err m → RefusalIs vs p t l (Err (refusal m at))
+  judges-open-no e r h m z = refused-kind opening (ap kind_of e) r m z (λ b. h ∙ sym (fault-opening p n (get_or vs (i + 1) 0) b))
 
   -- .. and what a fault makes of each
-  went_on_lem : (r behind m : ℕ) → (r ≡ 0 → Judges vs p t l m behind (i + 2)) → ((r ≡ 0 → ⊥) → RefusalIs vs p t l (Refused r at)) → {q : Next} → q ≡ went_on r at behind m → NextIs vs p t l i q
-  went_on_lem zero behind m f g e = subst (NextIs vs p t l i) (sym e) (only-on (f refl))
-  went_on_lem (suc r) behind m f g e = subst (NextIs vs p t l i) (sym e) (only_out (g (λ z. omega arith)))
+  went_on_lem : (r : Result ⊤ ℕ) (behind m : ℕ) → (r ≡ Ok tt → Judges vs p t l m behind (i + 2)) → ((x : ℕ) → r ≡ Err x → RefusalIs vs p t l (Err (refusal x at))) → {q : Result Spot Refusal} → q ≡ went_on r at behind m → NextIs vs p t l i q
+  went_on_lem (Ok x) behind m f g e = subst (NextIs vs p t l i) (sym e) (only-on (f refl))
+  went_on_lem (Err x) behind m f g e = subst (NextIs vs p t l i) (sym e) (only_out (g x refl))
 
-  pub next-message : get_or vs (i + 1) 0 < 65536 → is_message (get_or vs i 0) ≡ true → (r : ℕ) → numbered r ≡ known_fault l n (get_or vs (i + 1) 0) → {q : Next} → q ≡ went_on r at (at + long_size) n → NextIs vs p t l i q
+  pub next-message : get_or vs (i + 1) 0 < 65536 → is_message (get_or vs i 0) ≡ true → (r : Result ⊤ ℕ) → fault_of r ≡ known_fault l n (get_or vs (i + 1) 0) → {q : Result Spot Refusal} → q ≡ went_on r at (at + long_size) n → NextIs vs p t l i q
   next-message s e r h = went_on_lem r (at + long_size) n (judges-message s e r h) (judges-message-no s e r h)
 
-  pub next-task : is_task (get_or vs i 0) ≡ true → (r : ℕ) → numbered r ≡ known_fault t n (get_or vs (i + 1) 0) → {q : Next} → q ≡ went_on r at (at + short_size) n → NextIs vs p t l i q
+  pub next-task : is_task (get_or vs i 0) ≡ true → (r : Result ⊤ ℕ) → fault_of r ≡ known_fault t n (get_or vs (i + 1) 0) → {q : Result Spot Refusal} → q ≡ went_on r at (at + short_size) n → NextIs vs p t l i q
   next-task e r h = went_on_lem r (at + short_size) n (judges-task e r h) (judges-task-no e r h)
 
-  pub next-open : get_or vs i 0 ≡ 0x50 → (r : ℕ) → numbered r ≡ open_fault p n (get_or vs (i + 1) 0) → {q : Next} → q ≡ went_on r at (at + 2) (n + 1) → NextIs vs p t l i q
+  pub next-open : get_or vs i 0 ≡ 0x50 → (r : Result ⊤ ℕ) → fault_of r ≡ open_fault p n (get_or vs (i + 1) 0) → {q : Result Spot Refusal} → q ≡ went_on r at (at + 2) (n + 1) → NextIs vs p t l i q
   next-open e r h = went_on_lem r (at + 2) (n + 1) (judges-open e r h) (judges-open-no e r h)
 
   -- a claim among the commands
-  pub judges-claim-no : get_or vs i 0 ≡ 0x5A → both (ltb 0 t) (eqb n 0) ≡ true → RefusalIs vs p t l (Refused 23 at)
-  judges-claim-no e z = refused-kind claiming (ap kind_of e) 23 (λ q. omega arith) (λ b. sym (fault-claiming t n (get_or vs (i + 1) 0) b ∙ rw z))
+  pub judges-claim-no : get_or vs i 0 ≡ 0x5A → both (ltb 0 t) (eqb n 0) ≡ true → RefusalIs vs p t l (Err (refusal 23 at))
+  judges-claim-no e z = refused-kind claiming (ap kind_of e) (Err 23) 23 refl (λ b. sym (fault-claiming t n (get_or vs (i + 1) 0) b ∙ rw z))
 
-  pub judges-tail : get_or vs i 0 ≡ 0x5A → both (ltb 0 t) (eqb n 0) ≡ false → RefusalIs vs p t l (Refused 24 (at + 5))
+  pub judges-tail : get_or vs i 0 ≡ 0x5A → both (ltb 0 t) (eqb n 0) ≡ false → RefusalIs vs p t l (Err (refusal 24 (at + 5)))
   judges-tail e z =
       record {
         answer = λ s q claim m.
@@ -338,7 +335,7 @@ module _ {vs : List ℕ} {p t l n at i : ℕ} (g : Judges vs p t l n at i) (more
             (judged-kind claiming (ap kind_of e) none (λ b. sym (fault-claiming t n (get_or vs (i + 1) 0) b ∙ rw z)) claim);
       }
 
-  pub judges-strange : is_message (get_or vs i 0) ≡ false → is_task (get_or vs i 0) ≡ false → (get_or vs i 0 ≡ 0x50 → ⊥) → (get_or vs i 0 ≡ 0x5A → ⊥) → RefusalIs vs p t l (Refused 22 at)
+  pub judges-strange : is_message (get_or vs i 0) ≡ false → is_task (get_or vs i 0) ≡ false → (get_or vs i 0 ≡ 0x50 → ⊥) → (get_or vs i 0 ≡ 0x5A → ⊥) → RefusalIs vs p t l (Err (refusal 22 at))
   judges-strange e f h k =
       record {
         answer = λ s q claim m.
@@ -347,7 +344,7 @@ module _ {vs : List ℕ} {p t l n at i : ℕ} (g : Judges vs p t l n at i) (more
       }
 
 module _ {vs : List ℕ} {p t l n at i : ℕ} (g : Judges vs p t l n at i) where
-  pub judges-cut : (r : ℕ) → i + 1 ≡ length vs → r ≡ cut_number t n (get_or vs i 0) → RefusalIs vs p t l (Refused r at)
+  pub judges-cut : (r : ℕ) → i + 1 ≡ length vs → r ≡ cut_number t n (get_or vs i 0) → RefusalIs vs p t l (Err (refusal r at))
   unfolding cut_number
   judges-cut r h e =
       record {
@@ -356,7 +353,7 @@ module _ {vs : List ℕ} {p t l n at i : ℕ} (g : Judges vs p t l n at i) where
             (ap (judge (count_format p t l) n) (values-cut vs claim i h) ∙ judge-cut p t l n (get_or vs i 0) (kind_of (get_or vs i 0)) refl ∙ ap {B = Outcome Kind} refuse (sym e));
       }
 
-  pub judges-bare : length vs ≤ i → both (ltb 0 t) (eqb n 0) ≡ true → RefusalIs vs p t l (Refused 23 at)
+  pub judges-bare : length vs ≤ i → both (ltb 0 t) (eqb n 0) ≡ true → RefusalIs vs p t l (Err (refusal 23 at))
   unfolding judge fault_below
   judges-bare h e =
       record {
@@ -364,16 +361,16 @@ module _ {vs : List ℕ} {p t l n at i : ℕ} (g : Judges vs p t l n at i) where
             judging-refused z (g.each s z claim m) 23 (ap (judge (count_format p t l) n) (values-end vs claim i h) ∙ rw e);
       }
 
-  pub judges-long : length vs ≤ i → both (ltb 0 t) (eqb n 0) ≡ false → RefusalIs vs p t l (Long (at + 5))
+  pub judges-long : length vs ≤ i → both (ltb 0 t) (eqb n 0) ≡ false → RefusalIs vs p t l (Ok (at + 5))
   judges-long h e =
       let begun : 0 < t → 0 < n = λ q. let f : eqb n 0 ≡ false = rw (lt-ltb 0 t q) at e in omega (arith, eqb-false n 0 f) in
       record { answer = λ s z claim m. judging-end z (g.each s z claim m) h begun m }
 
 -- a fault, by the code's test
-pub went-out : (r at behind n : ℕ) → (r ≡ 0 → ⊥) → Out (Refused r at) ≡ went_on r at behind n
-went-out zero at behind n h = absurd (h refl)
-went-out (suc r) at behind n h = refl
+pub went-out : (r : Result ⊤ ℕ) (at behind n : ℕ) (x : Refusal) → Err x ≡ placed at r → Err x ≡ went_on r at behind n
+went-out (Ok y) at behind n x h = absurd cc
+went-out (Err m) at behind n x h = let q : x ≡ refusal m at = cc in ap Err q
 
-pub went-in : (r at behind n : ℕ) → r ≡ 0 → On behind n ≡ went_on r at behind n
-went-in zero at behind n h = refl
-went-in (suc r) at behind n h = absurd (omega arith)
+pub went-in : (r : Result ⊤ ℕ) (at behind n : ℕ) → Ok tt ≡ placed at r → Ok (spot behind n) ≡ went_on r at behind n
+went-in (Ok y) at behind n h = refl
+went-in (Err m) at behind n h = absurd cc

@@ -117,6 +117,10 @@ module _ {vs : List ℕ} {claim : ℕ} {old out : List ℕ} {at i : ℕ} (g : Pu
   pub putting-long : length out ≡ length old
   putting-long = ap length g.here ∙ length-stored old 0 g.done (omega (arith, left, g.size))
 
+  -- no value is left alone
+  pub putting-even : length vs ≤ i + 1 → length vs ≤ i
+  putting-even h = elim (dec_lt i (length vs)) [ yes m ↦ absurd (omega (arith, (pair-at vs i g.plain m).0)) | no m ↦ omega arith ]
+
   -- a command has its two values, and room for its bytes
   pub putting-next : i < length vs → (i + 1 < length vs) × (at + 3 ≤ length out)
   putting-next h =

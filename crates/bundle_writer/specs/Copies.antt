@@ -12,7 +12,9 @@ use Rattle.bundle_writer.specs.Whole.{read_values}
 use Rattle.bundle.specs.Kinds.{is_message}
 use Rattle.bundle_writer.specs.Writes.{Small}
 use Rattle.bundle_writer.specs.declared.values.Copied.{Copied}
-use Rattle.bundle_writer.specs.declared.values.Copied.TheVariants.{Values, Refused}
+use Rattle.std.specs.Prelude.{Result, Ok, Err}
+use Rattle.refusals.specs.Refusals.{refusal}
+use Rattle.refusals.specs.declared.Refusal.{Refusal}
 
 -- the bytes are a bundle, and its values have room
 pub record Copyable (b old : List ℕ) : Type 0 where
@@ -27,12 +29,12 @@ pub record CopyIs (b old last : List ℕ) : Type 0 where
   pub left : (s : Sheet) → Small s → (x : Bundle) → read_bundle s b ≡ value x → last ≡ bundle_values x ++ drop (length (bundle_values x)) old
 
 -- how many values there are and the claim beside them, or the refusal; room for so many is lent
-unfoldable pub copied_of : ℕ → Answer Bundle → Copied
-copied_of lent (value x) = pick (ltb lent (length (bundle_values x))) (Refused 12 (length (bundle_values x))) (Values (length (bundle_values x)) x.claim)
-copied_of lent (refused n at) = Refused n at
+unfoldable pub copied_of : ℕ → Answer Bundle → Result Copied Refusal
+copied_of lent (value x) = pick (ltb lent (length (bundle_values x))) (Err (refusal 12 (length (bundle_values x)))) (Ok (record { values = length (bundle_values x); claim = x.claim }))
+copied_of lent (refused n at) = Err (refusal n at)
 
 -- bytes b, a sheet of p processors, t tasks and l links, lent values before and after, words before and after
-pub record ValuesIs (b : List ℕ) (p t l : ℕ) (old last words after : List ℕ) (r : Copied) : Type 0 where
+pub record ValuesIs (b : List ℕ) (p t l : ℕ) (old last words after : List ℕ) (r : Result Copied Refusal) : Type 0 where
   pub answer : (s : Sheet) → Sized s p t l → r ≡ copied_of (length old) (read_bundle s b)
   pub left : (s : Sheet) → Sized s p t l → last ≡ written old (read_values s b (length old))
   pub long : length after ≡ length words

@@ -1,5 +1,5 @@
 -- Values judged as the reader would judge their bytes: how far that has come, and what the next command makes of it.
-use Rattle.std.specs.Prelude.{ℕ, zero, suc, ◌+◌, ◌*◌, ◌<◌, ◌≤◌, ◌≡◌, List, length, drop}
+use Rattle.std.specs.Prelude.{ℕ, ◌+◌, ◌*◌, ◌<◌, ◌≤◌, ◌≡◌, List, length, drop}
 use Rattle.commands.specs.Reading.{Going}
 use Rattle.sheet.specs.Sheet.{Sheet}
 use Rattle.bundle.specs.Bundle.{Command}
@@ -7,10 +7,10 @@ use Rattle.bundle.specs.Format.{bundle_format, read_bundle}
 use Rattle.bundle.specs.Writing.{value_bytes}
 use Rattle.bundle.specs.Counts.{Sized}
 use Rattle.bundle_writer.specs.Writes.{RefusalIs}
-use Rattle.bundle_writer.specs.declared.writer.Judged.{Judged}
-use Rattle.bundle_writer.specs.declared.writer.Judged.TheVariants.{Refused}
-use Rattle.bundle_writer.specs.declared.writer.Next.{Next}
-use Rattle.bundle_writer.specs.declared.writer.Next.TheVariants.{On, Out}
+use Rattle.std.specs.Prelude.{⊤, Result, Ok, Err}
+use Rattle.refusals.specs.Refusals.{refusal}
+use Rattle.refusals.specs.declared.Refusal.{Refusal}
+use Rattle.bundle_writer.specs.declared.writer.Spot.{Spot}
 
 -- for one sheet and one claim: the programmes of the values so far, and that reading on gives the whole answer
 pub record Judging (s : Sheet) (vs : List ℕ) (claim n at i : ℕ) : Type 0 where
@@ -27,11 +27,14 @@ pub record Judges (vs : List ℕ) (p t l n at i : ℕ) : Type 0 where
   pub each : (s : Sheet) → Sized s p t l → (claim : ℕ) → claim < 4294967296 → Judging s vs claim n at i
 
 -- what the command of the values at i makes of it
-pub record NextIs (vs : List ℕ) (p t l i : ℕ) (q : Next) : Type 0 where
-  pub on : (at n : ℕ) → q ≡ On at n → Judges vs p t l n at (i + 2)
-  pub out : (r : Judged) → q ≡ Out r → RefusalIs vs p t l r
+pub record NextIs (vs : List ℕ) (p t l i : ℕ) (q : Result Spot Refusal) : Type 0 where
+  pub on : (x : Spot) → q ≡ Ok x → Judges vs p t l x.opened x.at (i + 2)
+  pub out : (r : Refusal) → q ≡ Err r → RefusalIs vs p t l (Err r)
 
--- a fault's number, or 0
-abbrev pub went_on : ℕ → ℕ → ℕ → ℕ → Next
-went_on zero at behind opened = On behind opened
-went_on (suc r) at behind opened = Out (Refused (suc r) at)
+abbrev pub spot : ℕ → ℕ → Spot
+spot at n = record { at = at; opened = n }
+
+-- the command at an offset, by the test of it: behind it stand so many bytes, and so many programmes are open there
+abbrev pub went_on : Result ⊤ ℕ → ℕ → ℕ → ℕ → Result Spot Refusal
+went_on (Ok x) at behind opened = Ok (spot behind opened)
+went_on (Err n) at behind opened = Err (refusal n at)

@@ -2,7 +2,7 @@
 use Rattle.std.specs.Prelude.{ℕ, ◌+◌, ◌%◌, ◌≤◌, ◌<◌, ◌≡◌, not, List, [], ◌∷◌, length, eqb, leb}
 use Rattle.std.proofs.Math.Option.{Option, none, some}
 use Rattle.folds.specs.Folds.{pick, both, either}
-use Rattle.folds.specs.Answers.{Answer, value, refused, written}
+use Rattle.folds.specs.Answers.{Answer, value, written}
 use Rattle.numbers.specs.Number.{number_bytes, stored}
 use Rattle.sheet.specs.Sheet.{Sheet, task_count, link_count}
 use Rattle.bundle.specs.Bundle.{Bundle}
@@ -11,25 +11,21 @@ use Rattle.bundle.specs.Writing.{value_bytes}
 use Rattle.bundle.specs.Counts.{Sized}
 use Rattle.bundle_writer.specs.Whole.{write_values}
 use Rattle.bundle.specs.Kinds.{is_message}
-use Rattle.bundle_writer.specs.declared.writer.Judged.{Judged}
-use Rattle.bundle_writer.specs.declared.writer.Judged.TheVariants.{Long, Refused}
+use Rattle.std.specs.Prelude.{Result}
+use Rattle.refusals.specs.Refusals.{result_of}
+pub use Rattle.refusals.specs.Refusals.{written_of}
+use Rattle.refusals.specs.declared.Refusal.{Refusal}
 
 -- what the reader says of the bytes b: their length, or the refusal
-unfoldable pub judged_of : List ℕ → Answer Bundle → Judged
-judged_of b (value x) = Long (length b)
-judged_of b (refused n at) = Refused n at
+abbrev pub judged_of : List ℕ → Answer Bundle → Result ℕ Refusal
+judged_of b a = result_of (λ x. length b) a
 
 -- values vs, a sheet of p processors, t tasks and l links: the answer does not depend on the claim
-pub record RefusalIs (vs : List ℕ) (p t l : ℕ) (r : Judged) : Type 0 where
+pub record RefusalIs (vs : List ℕ) (p t l : ℕ) (r : Result ℕ Refusal) : Type 0 where
   pub answer : (s : Sheet) → Sized s p t l → (claim : ℕ) → claim < 4294967296 → r ≡ judged_of (value_bytes vs claim) (read_bundle s (value_bytes vs claim))
 
--- the length of what is written, or the refusal
-unfoldable pub written_of : Answer (List ℕ) → Judged
-written_of (value b) = Long (length b)
-written_of (refused n at) = Refused n at
-
 -- values vs and a claim, a sheet of p processors, t tasks and l links, lent bytes before and after
-pub record WriteIs (vs : List ℕ) (claim p t l : ℕ) (old last : List ℕ) (r : Judged) : Type 0 where
+pub record WriteIs (vs : List ℕ) (claim p t l : ℕ) (old last : List ℕ) (r : Result ℕ Refusal) : Type 0 where
   pub answer : (s : Sheet) → Sized s p t l → r ≡ written_of (write_values s vs claim (length old))
   pub left : (s : Sheet) → Sized s p t l → last ≡ written old (write_values s vs claim (length old))
 

@@ -5,13 +5,14 @@ ghost use Rattle.bundle_writer.specs.Copies.{Copyable, CopyIs, ValuesIs, operand
 
 use bundle::CLAIM_SIZE;
 use bundle::kinds::{is_message, size_of};
-use bundle_reader::bytes::{Reading, read};
+use bundle_reader::bytes::read;
+use refusals::Refusal;
 
-// How many values a bundle has and the time that it claims, or a refusal's number and place.
+// How many values a bundle has, and the time that it claims.
 #[derive(Clone, Copy)]
-pub enum Copied {
-    Values(usize, u32),
-    Refused(u8, usize),
+pub struct Copied {
+    pub values: usize,
+    pub claim: u32,
 }
 
 // The operand of the command at `at`. Two bytes are there in any case, of which a task has the first.
@@ -21,9 +22,10 @@ fn operand_at(bytes: &[u8], at: usize) -> u16
 {
     let pair = numbers::get16(bytes, at + 1);
     if is_message(bytes[at] as u16) {
-        return pair;
+        pair
+    } else {
+        pair % 256
     }
-    pair % 256
 }
 
 // Puts the values of the bundle in these bytes at the front of `out`, and leaves what stands behind them.
@@ -52,19 +54,21 @@ pub fn read_values(
     links: usize,
     words: &mut [u32],
     out: &mut [u16],
-) -> Copied
+) -> Result<Copied, Refusal>
     requires { (processors < length words.old) × Counted processors tasks links }
     ensures { ValuesIs bytes.now processors tasks links out.old out.new words.old words.new result }
 {
-    match read(bytes, processors, tasks, links, words) {
-        Reading::Refused(r, at) => Copied::Refused(r, at),
-        Reading::Read(programmes, commands, claim) => {
-            let need = 2 * (programmes + commands);
-            if out.len() < need {
-                return Copied::Refused(12, need);
-            }
-            copy(bytes, out);
-            Copied::Values(need, claim)
-        }
+    let outline = read(bytes, processors, tasks, links, words)?;
+    let values = 2 * (outline.programmes + outline.commands);
+    if out.len() < values {
+        return Err(Refusal {
+            number: 12,
+            place: values,
+        });
     }
+    copy(bytes, out);
+    Ok(Copied {
+        values,
+        claim: outline.claim,
+    })
 }

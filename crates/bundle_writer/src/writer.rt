@@ -2,167 +2,156 @@
 ghost use Rattle.std.specs.Prelude.{◌≡◌, ◌++◌, ◌+◌, ◌<◌, ◌≤◌, length, drop, eqb, ltb};
 ghost use Rattle.folds.specs.Folds.{pick, both};
 ghost use Rattle.bundle.specs.Writing.{value_bytes};
-ghost use Rattle.commands.specs.Commands.{numbered};
+ghost use Rattle.refusals.specs.Refusals.{fault_of};
 ghost use Rattle.bundle_writer.specs.Writes.{Counted, WriteIs, RefusalIs, known_fault, open_fault, cut_number, Writable, PutIs};
-ghost use Rattle.bundle_writer.specs.Judges.{Judges, NextIs, went_on};
+ghost use Rattle.bundle_writer.specs.Judges.{Judges, NextIs};
 
 use bundle::kinds::{is_message, is_task};
-use bundle::{CLAIM_SIZE, LONG_SIZE, SHORT_SIZE};
+use bundle::{
+    CLAIM_BYTE, CLAIM_SIZE, DISCARD_BYTE, LONG_SIZE, OPEN_BYTE, RECEIVE_BYTE, RELEASE_BYTE,
+    RUN_BYTE, SEND_BYTE, SHORT_SIZE,
+};
 use bundle_reader::bytes::is_early;
+use refusals::Refusal;
 
-// How many bytes a bundle has that is given by its values, or a refusal's number and place.
+// Where the next command stands, and how many programmes are open before it.
 #[derive(Clone, Copy)]
-pub enum Judged {
-    Long(usize),
-    Refused(u8, usize),
+pub struct Spot {
+    pub at: usize,
+    pub opened: usize,
 }
 
-// A command in a programme of this number, of which `limit` are declared: 0, or the number that refuses it.
-fn known_fault(operand: u16, opened: usize, limit: usize) -> u8
-    ensures { numbered result ≡ known_fault limit opened operand }
+// A command in a programme of this number, of which `limit` are declared: the number that refuses it, if one does.
+fn known_fault(operand: u16, opened: usize, limit: usize) -> Result<(), u8>
+    ensures { fault_of result ≡ known_fault limit opened operand }
 {
     if opened == 0 {
-        return 23;
+        Err(23)
+    } else if limit <= operand as usize {
+        Err(25)
+    } else {
+        Ok(())
     }
-    if limit <= operand as usize {
-        return 25;
-    }
-    0
 }
 
 // A command that opens this processor's programme.
-fn open_fault(operand: u16, opened: usize, processors: usize) -> u8
-    ensures { numbered result ≡ open_fault processors opened operand }
+fn open_fault(operand: u16, opened: usize, processors: usize) -> Result<(), u8>
+    ensures { fault_of result ≡ open_fault processors opened operand }
 {
-    if operand as usize != opened {
-        return 23;
+    let k = operand as usize;
+    if k != opened || processors <= k {
+        Err(23)
+    } else {
+        Ok(())
     }
-    if processors <= operand as usize {
-        return 23;
-    }
-    0
 }
 
 // The number that refuses a command of a programme whose operand is missing.
 fn cut_inside(opened: usize) -> u8
     ensures { result ≡ pick (eqb opened 0) 23 21 }
 {
-    if opened == 0 {
-        return 23;
-    }
-    21
+    if opened == 0 { 23 } else { 21 }
 }
 
 // The number that refuses a claim whose operand is missing.
 fn cut_claim(opened: usize, tasks: usize) -> u8
     ensures { result ≡ pick (both (ltb 0 tasks) (eqb opened 0)) 23 21 }
 {
-    if is_early(opened, tasks) {
-        return 23;
-    }
-    21
+    if is_early(opened, tasks) { 23 } else { 21 }
 }
 
 // The number that refuses any command whose operand is missing.
+#[tactic(auto, unfolding(crate::specs::Writes::cut_number))]
 fn cut_number(command: u16, opened: usize, tasks: usize) -> u8
     ensures { result ≡ cut_number tasks opened command }
 {
-    if is_message(command) {
-        return cut_inside(opened);
+    match command {
+        RUN_BYTE | SEND_BYTE | RECEIVE_BYTE | RELEASE_BYTE | DISCARD_BYTE => cut_inside(opened),
+        OPEN_BYTE => 21,
+        CLAIM_BYTE => cut_claim(opened, tasks),
+        _ => 22,
     }
-    if is_task(command) {
-        return cut_inside(opened);
-    }
-    if command == 0x50 {
-        return 21;
-    }
-    if command == 0x5A {
-        return cut_claim(opened, tasks);
-    }
-    22
 }
 
-// A command that nothing refuses, with the offset behind it and the programmes open there; or how the judging ends.
-#[derive(Clone, Copy)]
-pub enum Next {
-    On(usize, usize),
-    Out(Judged),
-}
-
-// What a fault makes of a command at `at`, behind which stand `behind` and so many open programmes.
-fn go_on(fault: u8, at: usize, behind: usize, opened: usize) -> Next
-    ensures { result ≡ went_on fault at behind opened }
-{
-    if fault != 0 {
-        return Next::Out(Judged::Refused(fault, at));
-    }
-    Next::On(behind, opened)
-}
-
-// The command of the values at i, whose bytes stand at `at` behind so many open programmes.
+// The command of the values at i, whose bytes stand at `at` behind so many open programmes: where the one behind it stands.
 fn next_at(
     commands: &[u16],
     i: usize,
-    at: usize,
-    opened: usize,
+    spot: Spot,
     processors: usize,
     tasks: usize,
     links: usize,
-) -> Next
-    requires { Judges commands.now processors tasks links opened at i × (i + 1 < length commands.now) }
+) -> Result<Spot, Refusal>
+    requires { Judges commands.now processors tasks links spot.opened spot.at i × (i + 1 < length commands.now) }
     ensures { NextIs commands.now processors tasks links i result }
 {
     let c = commands[i];
     let x = commands[i + 1];
+    let at = spot.at;
+    let opened = spot.opened;
     if is_message(c) {
-        return go_on(known_fault(x, opened, links), at, at + LONG_SIZE, opened);
+        refusals::at(known_fault(x, opened, links), at)?;
+        Ok(Spot {
+            at: at + LONG_SIZE,
+            opened,
+        })
+    } else if is_task(c) {
+        refusals::at(known_fault(x, opened, tasks), at)?;
+        Ok(Spot {
+            at: at + SHORT_SIZE,
+            opened,
+        })
+    } else if c == OPEN_BYTE {
+        refusals::at(open_fault(x, opened, processors), at)?;
+        Ok(Spot {
+            at: at + SHORT_SIZE,
+            opened: opened + 1,
+        })
+    } else if c != CLAIM_BYTE {
+        Err(Refusal {
+            number: 22,
+            place: at,
+        })
+    } else if is_early(opened, tasks) {
+        Err(Refusal {
+            number: 23,
+            place: at,
+        })
+    } else {
+        Err(Refusal {
+            number: 24,
+            place: at + CLAIM_SIZE,
+        })
     }
-    if is_task(c) {
-        return go_on(known_fault(x, opened, tasks), at, at + SHORT_SIZE, opened);
-    }
-    if c == 0x50 {
-        return go_on(
-            open_fault(x, opened, processors),
-            at,
-            at + SHORT_SIZE,
-            opened + 1,
-        );
-    }
-    if c != 0x5A {
-        return Next::Out(Judged::Refused(22, at));
-    }
-    if is_early(opened, tasks) {
-        return Next::Out(Judged::Refused(23, at));
-    }
-    Next::Out(Judged::Refused(24, at + CLAIM_SIZE))
 }
 
 // What the reader would say of the bytes of these values, without the bytes: their number, or its refusal.
-pub fn refusal(commands: &[u16], processors: usize, tasks: usize, links: usize) -> Judged
+pub fn refusal(
+    commands: &[u16],
+    processors: usize,
+    tasks: usize,
+    links: usize,
+) -> Result<usize, Refusal>
     ensures { RefusalIs commands.now processors tasks links result }
 {
-    let mut at: usize = 0;
-    let mut opened: usize = 0;
-    let mut i = 0;
-    while i + 1 < commands.len() {
-        match next_at(commands, i, at, opened, processors, tasks, links) {
-            Next::Out(r) => {
-                return r;
-            }
-            Next::On(behind, open) => {
-                at = behind;
-                opened = open;
-                i += 2;
-            }
-        }
+    let mut spot = Spot { at: 0, opened: 0 };
+    for k in 0..commands.len() / 2 {
+        spot = next_at(commands, 2 * k, spot, processors, tasks, links)?;
     }
-    if i < commands.len() {
-        return Judged::Refused(cut_number(commands[i], opened, tasks), at);
+    if commands.len() % 2 == 1 {
+        let cut = commands[commands.len() - 1];
+        Err(Refusal {
+            number: cut_number(cut, spot.opened, tasks),
+            place: spot.at,
+        })
+    } else if is_early(spot.opened, tasks) {
+        Err(Refusal {
+            number: 23,
+            place: spot.at,
+        })
+    } else {
+        Ok(spot.at + CLAIM_SIZE)
     }
-    if is_early(opened, tasks) {
-        return Judged::Refused(23, at);
-    }
-    Judged::Long(at + CLAIM_SIZE)
 }
 
 // Puts the command of these two values at `at`, and gives the offset behind it.
@@ -173,10 +162,11 @@ fn put_command(out: &mut [u8], at: usize, command: u16, operand: u16) -> usize
     out[at] = (command % 256) as u8;
     if is_message(command) {
         numbers::put16(out, at + 1, operand);
-        return at + LONG_SIZE;
+        at + LONG_SIZE
+    } else {
+        out[at + 1] = (operand % 256) as u8;
+        at + SHORT_SIZE
     }
-    out[at + 1] = (operand % 256) as u8;
-    at + SHORT_SIZE
 }
 
 // Puts the bytes of these values and of the claim at the front of `out`, and leaves what stands behind them.
@@ -185,12 +175,10 @@ pub fn put(commands: &[u16], claim: u32, out: &mut [u8])
     ensures { out.new ≡ value_bytes commands.now claim ++ drop (length (value_bytes commands.now claim)) out.old }
 {
     let mut at: usize = 0;
-    let mut i = 0;
-    while i < commands.len() {
-        at = put_command(out, at, commands[i], commands[i + 1]);
-        i += 2;
+    for j in 0..commands.len() / 2 {
+        at = put_command(out, at, commands[2 * j], commands[2 * j + 1]);
     }
-    out[at] = 0x5A;
+    out[at] = CLAIM_BYTE as u8;
     numbers::put32(out, at + 1, claim);
 }
 
@@ -202,18 +190,17 @@ pub fn write(
     tasks: usize,
     links: usize,
     out: &mut [u8],
-) -> Judged
+) -> Result<usize, Refusal>
     requires { Counted processors tasks links }
     ensures { WriteIs commands.now claim processors tasks links out.old out.new result }
 {
-    match refusal(commands, processors, tasks, links) {
-        Judged::Refused(r, at) => Judged::Refused(r, at),
-        Judged::Long(need) => {
-            if out.len() < need {
-                return Judged::Refused(12, need);
-            }
-            put(commands, claim, out);
-            Judged::Long(need)
-        }
+    let need = refusal(commands, processors, tasks, links)?;
+    if out.len() < need {
+        return Err(Refusal {
+            number: 12,
+            place: need,
+        });
     }
+    put(commands, claim, out);
+    Ok(need)
 }

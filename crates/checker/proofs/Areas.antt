@@ -10,8 +10,9 @@ use Rattle.admission.specs.declared.view.View.{View}
 use Rattle.admission.proofs.Areas.{known_in}
 use Rattle.stepping_machine.specs.Layout as lay
 use Rattle.checker.specs.Verdicts.{JudgementIs, CheckIs}
-use Rattle.checker.specs.declared.Verdict.{Verdict}
+use Rattle.std.specs.Prelude.{⊤, Result}
+use Rattle.refusals.specs.declared.Refusal.{Refusal}
 
-pub checked-in : (w sheet bundle last after : List ℕ) (v : View) (r : Verdict) → Shown sheet w → ViewIs w v → JudgementIs sheet bundle (mid_of lay.board (length w - lay.board) w) last v r → length after ≡ length w
+pub checked-in : (w sheet bundle last after : List ℕ) (v : View) (r : Result ⊤ Refusal) → Shown sheet w → ViewIs w v → JudgementIs sheet bundle (mid_of lay.board (length w - lay.board) w) last v r → length after ≡ length w
     → CheckIs bundle w after r
 checked-in w sheet bundle last after v r h y g e = record { long = e; is = g.is (sheet_in w) (known_in w sheet v h y) }

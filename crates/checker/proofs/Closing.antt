@@ -16,24 +16,25 @@ use Rattle.folds.proofs.Laws.{none_first}
 use Rattle.sheet.specs.Sheet.{Sheet}
 use Rattle.bundle.specs.Bundle.{Bundle, programme_count}
 use Rattle.bundle.specs.Format.{read_bundle}
-use Rattle.bundle.specs.Counts.{command_count}
 use Rattle.admission.specs.Messages.{at26, at_message, at28, Published}
 use Rattle.admission.specs.Releases.{at37}
 use Rattle.workspace.specs.Found.{found_of}
 use Rattle.admission.specs.Admitted.{admitted, admitted_bytes, judged_of}
 use Rattle.admission.specs.declared.view.View.{View}
-use Rattle.workspace.specs.declared.total.Found.{Found}
-use Rattle.workspace.specs.declared.total.Found.TheVariants.{At, Nothing}
-use Rattle.admission.specs.declared.Judged.{Judged}
-use Rattle.admission.specs.declared.Judged.TheVariants.{Fit, Refused as Unfit}
+use Rattle.workspace.specs.Found.{Found}
+use Rattle.std.specs.Prelude.{Some, None}
+use Rattle.std.specs.Prelude.{⊤, Result, Ok, Err}
+use Rattle.bundle_reader.specs.Answers.{outline_of}
+use Rattle.bundle_reader.specs.declared.bytes.Outline.{Outline}
+use Rattle.refusals.specs.Refusals.{refusal}
+use Rattle.refusals.specs.declared.Refusal.{Refusal}
+use Rattle.refusals.proofs.Results.{refused-by}
 use Rattle.folds.proofs.Laws.{first_found}
 use Rattle.admission.proofs.Admits.{admitted-published}
 use Rattle.machine.specs.Machine.{State, fresh_state}
 use Rattle.machine.specs.Runs.{latest, settled}
 use Rattle.checker.specs.Checker.{unfinished, at29, at30, closing, checked}
 use Rattle.checker.specs.Verdicts.{verdict_of, checked_bytes, UnfinishedIs, LatestIs, FinishIs, JudgementIs}
-use Rattle.checker.specs.declared.Verdict.{Verdict}
-use Rattle.checker.specs.declared.Verdict.TheVariants.{Good, Refused}
 use Rattle.stepping_machine.specs.Words.{next_in, clock_in, last_in, count_in}
 use Rattle.stepping_machine.specs.Represents.{Represents}
 use Rattle.stepping_machine.specs.Settling.{SettleIs}
@@ -61,7 +62,7 @@ module _ (w : List ℕ) (s : Sheet) (b : Bundle) (σ : State) (h : Represents s 
   unfolding unfinished
   there k l = left_at s b w σ h k (omega (arith, h.programmed.few))
 
-pub finished-found : (w : List ℕ) (k : ℕ) → Finished w k → k < count_in w → next_in w k < last_in w k → UnfinishedIs w (At k)
+pub finished-found : (w : List ℕ) (k : ℕ) → Finished w k → k < count_in w → next_in w k < last_in w k → UnfinishedIs w (Some k)
 unfolding at29
 finished-found w k g l e =
     record {
@@ -73,7 +74,7 @@ finished-found w k g l e =
           (there w s b σ h k (omega arith) ∙ lt-ltb (next_in w k) (last_in w k) e) (omega arith));
     }
 
-pub finished-all : (w : List ℕ) (k : ℕ) → Finished w k → count_in w ≤ k → UnfinishedIs w Nothing
+pub finished-all : (w : List ℕ) (k : ℕ) → Finished w k → count_in w ≤ k → UnfinishedIs w None
 unfolding at29
 finished-all w k g l =
     record {
@@ -96,7 +97,7 @@ pub latest-is : (w : List ℕ) (k a : ℕ) → a ≡ greatest k (clock_in w) →
 latest-is w k a e f = record { is_latest = λ s b σ h. e ∙ ap (λ (i : ℕ). greatest i (clock_in w)) f ∙ sym (latest-by s b w σ h) }
 
 -- 29 and 30
-pub finish-stuck : (w : List ℕ) (claim k : ℕ) (f : Found) → f ≡ At k → UnfinishedIs w f → FinishIs w claim (Refused 29 k)
+pub finish-stuck : (w : List ℕ) (claim k : ℕ) (f : Found) → f ≡ Some k → UnfinishedIs w f → FinishIs w claim (Err (refusal 29 k))
 unfolding closing
 finish-stuck w claim k f e h =
     record {
@@ -108,10 +109,10 @@ unfolding at30
 late b σ a claim e c = ap (λ (x : ℕ). pick (eqb b.claim x) none (some x)) (sym e) ∙ ap (λ (x : ℕ). pick (eqb x a) none (some a)) c
 
 -- the verdict on a clock, whatever the bundle
-abbrev pub on_clock : ℕ → ℕ → Verdict
-on_clock claim a = pick (eqb claim a) Good (Refused 30 a)
+abbrev pub on_clock : ℕ → ℕ → Result ⊤ Refusal
+on_clock claim a = pick (eqb claim a) (Ok tt) (Err (refusal 30 a))
 
-pub finish-clock : (w : List ℕ) (claim a : ℕ) (f : Found) (v : Verdict) → f ≡ Nothing → UnfinishedIs w f → LatestIs w a → v ≡ on_clock claim a → FinishIs w claim v
+pub finish-clock : (w : List ℕ) (claim a : ℕ) (f : Found) (v : Result ⊤ Refusal) → f ≡ None → UnfinishedIs w f → LatestIs w a → v ≡ on_clock claim a → FinishIs w claim v
 unfolding closing
 finish-clock w claim a f v e h g q =
     record {
@@ -122,14 +123,14 @@ finish-clock w claim a f v e h g q =
           ∙ ap (λ (o : Option ℕ). verdict_of (unless 29 o (unless 30 (at30 b σ) (value b)))) (ap found_of (sym e) ∙ h.is_29 s b σ p);
     }
   where
-    by : (b : Bundle) (x : Bool) → pick x Good (Refused 30 a) ≡ verdict_of (unless 30 (pick x none (some a)) (value b))
+    by : (b : Bundle) (x : Bool) → pick x (Ok tt) (Err (refusal 30 a)) ≡ verdict_of (unless 30 (pick x none (some a)) (value b))
     by b true = refl
     by b false = refl
 
-pub good-clock : (claim a : ℕ) → a ≡ claim → Good ≡ on_clock claim a
+pub good-clock : (claim a : ℕ) → a ≡ claim → Ok tt ≡ on_clock claim a
 good-clock claim a e = rw (eq-eqb claim a (sym e))
 
-pub bad-clock : (claim a : ℕ) → (a ≡ claim → ⊥) → Refused 30 a ≡ on_clock claim a
+pub bad-clock : (claim a : ℕ) → (a ≡ claim → ⊥) → Err (refusal 30 a) ≡ on_clock claim a
 bad-clock claim a e = rw (ne_eqb claim a (λ q. e (sym q)))
 
 -- the checker's answer goes on where 26, 31 to 33, 37 and 28 do not apply
@@ -149,45 +150,36 @@ checked-ends : (s : Sheet) (b : Bundle) → Published s b → at28 s b ≡ none 
 unfolding checked
 checked-ends s b p e = rw (p.once, p.messages, p.releases, e)
 
-module _ (sheet bundle w u : List ℕ) (v : View) (f : Judged) (h : AdmitIs sheet bundle w u v f) where
-  pub judged-refused : (r at : ℕ) → f ≡ Unfit r at → JudgementIs sheet bundle w u v (Refused r at)
+module _ (sheet bundle w u : List ℕ) (v : View) (f : Result Outline Refusal) (h : AdmitIs sheet bundle w u v f) where
+  pub judged-refused : (r : Refusal) → f ≡ Err r → JudgementIs sheet bundle w u v (Err r)
   unfolding admitted_bytes checked_bytes
-  judged-refused r at e = record { long = h.long; is = λ s k. by s (read_bundle s bundle) (sym e ∙ h.is s k) }
+  judged-refused r e =
+      record { long = h.long; is = λ s k. sym (ap verdict_of (by s (read_bundle s bundle) (refused-by outline_of (and_then (read_bundle s bundle) (admitted s)) r (sym e ∙ h.is s k)))) }
     where
-      of : (s : Sheet) (x : Bundle) (a : Answer Bundle) → admitted s x ≡ a → Unfit r at ≡ judged_of a → Refused r at ≡ verdict_of (checked s x)
-      of s x (value y) q z = let d : ◌≡◌ {A = ℕ} 0 1 = cc in absurd (omega arith)
-      of s x (refused i j) q z =
-          let a : r ≡ i = cc in
-          let c : at ≡ j = cc in
-          sym (ap verdict_of (checked_refused s x r at (q ∙ ap₂ (λ (m k : ℕ). refused m k) (sym a) (sym c))))
+      by : (s : Sheet) (o : Answer Bundle) → and_then o (admitted s) ≡ refused r.number r.place → and_then o (checked s) ≡ refused r.number r.place
+      by s (value x) q = checked_refused s x r.number r.place q
+      by s (refused i j) q = q
 
-      by : (s : Sheet) (o : Answer Bundle) → Unfit r at ≡ judged_of (and_then o (admitted s)) → Refused r at ≡ verdict_of (and_then o (checked s))
-      by s (value x) q = of s x (admitted s x) refl q
-      by s (refused i j) q = two (cc) (cc)
-        where
-          two : r ≡ i → at ≡ j → Refused r at ≡ Refused i j
-          two a c = cc
-
-  pub judged-ends : (x : List ℕ) (m c claim : ℕ) (r : Verdict) → f ≡ Fit m c claim → SettleIs u x → FinishIs x claim r → JudgementIs sheet bundle w x v r
-  unfolding admitted_bytes checked_bytes
-  judged-ends x m c claim r e g t =
+  pub judged-ends : (x : List ℕ) (out : Outline) (r : Result ⊤ Refusal) → f ≡ Ok out → SettleIs u x → FinishIs x out.claim r → JudgementIs sheet bundle w x v r
+  unfolding admitted_bytes checked_bytes outline_of
+  judged-ends x out r e g t =
       record {
         long = g.runs.long ∙ h.long;
         is = λ s k. by s (read_bundle s bundle) (sym e ∙ h.is s k) (λ y q. (h.represents s k y q).0);
       }
     where
-      of : (s : Sheet) (b : Bundle) (o : Answer Bundle) → admitted s b ≡ o → Fit m c claim ≡ judged_of o
+      of : (s : Sheet) (b : Bundle) (o : Answer Bundle) → admitted s b ≡ o → Ok out ≡ judged_of o
           → ((y : Bundle) → admitted s b ≡ value y → Represents s y u (fresh_state s y)) → r ≡ verdict_of (checked s b)
-      of s b (refused i j) z d start = let y : ◌≡◌ {A = ℕ} 0 1 = cc in absurd (omega arith)
+      of s b (refused i j) z d start = absurd cc
       of s b (value y) z d start =
           let q = admitted-published s b y z in
-          let el : b.claim ≡ claim = ap (λ (i : Bundle). i.claim) q.2 ∙ third_of d in
+          let el : b.claim ≡ out.claim = ap (λ (i : Bundle). i.claim) q.2 ∙ third_of d in
           t.is_end s b (settled s b) (settles-to g s b q.0 (start b (z ∙ ap value (sym q.2)))) el ∙ ap verdict_of (sym (checked-ends s b q.0 q.1))
         where
-          third_of : Fit m c claim ≡ Fit (programme_count y) (command_count y) y.claim → y.claim ≡ claim
-          third_of d = cc
+          third_of : Ok out ≡ judged_of (value y) → y.claim ≡ out.claim
+          third_of d = let q : out ≡ outline_of y = cc in sym (ap (λ (i : Outline). i.claim) q)
 
-      by : (s : Sheet) (o : Answer Bundle) → Fit m c claim ≡ judged_of (and_then o (admitted s)) → ((y : Bundle) → and_then o (admitted s) ≡ value y → Represents s y u (fresh_state s y))
+      by : (s : Sheet) (o : Answer Bundle) → Ok out ≡ judged_of (and_then o (admitted s)) → ((y : Bundle) → and_then o (admitted s) ≡ value y → Represents s y u (fresh_state s y))
           → r ≡ verdict_of (and_then o (checked s))
       by s (value b) d start = of s b (admitted s b) refl d start
-      by s (refused i j) d start = let y : ◌≡◌ {A = ℕ} 0 1 = cc in absurd (omega arith)
+      by s (refused i j) d start = absurd cc

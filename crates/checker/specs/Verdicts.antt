@@ -1,6 +1,6 @@
 -- What the checker's code promises: the definition's number and place.
 use Rattle.std.specs.Prelude.{ℕ, ◌≡◌, List, length}
-use Rattle.folds.specs.Answers.{Answer, value, refused, and_then}
+use Rattle.folds.specs.Answers.{Answer, and_then}
 use Rattle.sheet.specs.Sheet.{Sheet}
 use Rattle.sheet.specs.Tables.{sheet_in}
 use Rattle.bundle.specs.Bundle.{Bundle}
@@ -8,17 +8,17 @@ use Rattle.bundle.specs.Format.{read_bundle}
 use Rattle.admission.specs.Fields.{Known}
 use Rattle.admission.specs.declared.view.View.{View}
 use Rattle.workspace.specs.Found.{found_of}
-use Rattle.workspace.specs.declared.total.Found.{Found}
+use Rattle.workspace.specs.Found.{Found}
 use Rattle.machine.specs.Machine.{State}
 use Rattle.machine.specs.Runs.{latest}
 use Rattle.stepping_machine.specs.Represents.{Represents}
 use Rattle.checker.specs.Checker.{at29, closing, checked, check}
-use Rattle.checker.specs.declared.Verdict.{Verdict}
-use Rattle.checker.specs.declared.Verdict.TheVariants.{Good, Refused}
+use Rattle.std.specs.Prelude.{⊤, Result}
+use Rattle.refusals.specs.Refusals.{result_of}
+use Rattle.refusals.specs.declared.Refusal.{Refusal}
 
-abbrev pub verdict_of : Answer Bundle → Verdict
-verdict_of (value b) = Good
-verdict_of (refused n at) = Refused n at
+abbrev pub verdict_of : Answer Bundle → Result ⊤ Refusal
+verdict_of a = result_of (λ b. tt) a
 
 -- of a bundle's bytes, for a sheet
 unfoldable pub checked_bytes : Sheet → List ℕ → Answer Bundle
@@ -31,20 +31,20 @@ pub record UnfinishedIs (w : List ℕ) (r : Found) : Type 0 where
 pub record LatestIs (w : List ℕ) (r : ℕ) : Type 0 where
   pub is_latest : (s : Sheet) (b : Bundle) (σ : State) → Represents s b w σ → r ≡ latest σ
 
-pub record FinishIs (w : List ℕ) (claim : ℕ) (r : Verdict) : Type 0 where
+pub record FinishIs (w : List ℕ) (claim : ℕ) (r : Result ⊤ Refusal) : Type 0 where
   pub is_end : (s : Sheet) (b : Bundle) (σ : State) → Represents s b w σ → b.claim ≡ claim → r ≡ verdict_of (closing b σ)
 
 -- any bytes, for a sheet seen by v
-pub record JudgementIs (sheet bundle w last : List ℕ) (v : View) (r : Verdict) : Type 0 where
+pub record JudgementIs (sheet bundle w last : List ℕ) (v : View) (r : Result ⊤ Refusal) : Type 0 where
   pub long : length last ≡ length w
   pub is : (s : Sheet) → Known s sheet v → r ≡ verdict_of (checked_bytes s bundle)
 
 -- any bytes, for the sheet in the tables of the work area
-pub record CheckIs (bundle w last : List ℕ) (r : Verdict) : Type 0 where
+pub record CheckIs (bundle w last : List ℕ) (r : Result ⊤ Refusal) : Type 0 where
   pub long : length last ≡ length w
   pub is : r ≡ verdict_of (checked_bytes (sheet_in w) bundle)
 
 -- any bytes of a sheet and of a bundle
-pub record BytesIs (sheet bundle work last : List ℕ) (r : Verdict) : Type 0 where
+pub record BytesIs (sheet bundle work last : List ℕ) (r : Result ⊤ Refusal) : Type 0 where
   pub long : length last ≡ length work
   pub is : r ≡ verdict_of (check sheet bundle)

@@ -3,10 +3,3 @@
 
 pub mod bytes; // bytes.rt: of any bytes
 pub mod whole; // whole.rt: 29, 30 and the whole
-
-// A bundle passes, or is refused with a number and a place.
-#[derive(Clone, Copy)]
-pub enum Verdict {
-    Good,
-    Refused(u8, usize),
-}

@@ -5,27 +5,23 @@ ghost use Rattle.admission.specs.Views.{Shown};
 ghost use Rattle.stepping_machine.specs.Layout.{extent};
 ghost use Rattle.checker.specs.Verdicts.{UnfinishedIs, LatestIs, FinishIs, JudgementIs, CheckIs};
 
-use crate::Verdict;
-use admission::Judged;
 use admission::view::View;
+use refusals::Refusal;
 use stepping_machine::settling::settle;
 use stepping_machine::start::admit;
 use stepping_machine::{BOARD, CLOCKS, COUNT, LASTS};
-use workspace::total::Found;
 
 // 29: the lowest processor with commands left.
-fn unfinished(w: &[u32]) -> Found
+fn unfinished(w: &[u32]) -> Option<usize>
     ensures { UnfinishedIs w.now result }
 {
     let count = workspace::total::word(w, COUNT);
-    let mut k = 0;
-    while k < count {
+    for k in 0..count {
         if workspace::total::word(w, k) < workspace::total::word(w, LASTS + k) {
-            return Found::At(k);
+            return Some(k);
         }
-        k += 1;
     }
-    Found::Nothing
+    None
 }
 
 // 30: the latest clock.
@@ -33,50 +29,51 @@ fn latest(w: &[u32]) -> usize
     ensures { LatestIs w.now result }
 {
     let n = workspace::total::word(w, COUNT);
-    let mut best = 0;
-    let mut k = 0;
-    while k < n {
-        best = numbers::later(best, workspace::total::word(w, CLOCKS + k));
-        k += 1;
+    let mut best: usize = 0;
+    for k in 0..n {
+        best = best.max(workspace::total::word(w, CLOCKS + k));
     }
     best
 }
 
 // 29, 30, or good.
-pub fn finish(w: &[u32], claim: usize) -> Verdict
+pub fn finish(w: &[u32], claim: usize) -> Result<(), Refusal>
     ensures { FinishIs w.now claim result }
 {
     match unfinished(w) {
-        Found::At(k) => Verdict::Refused(29, k),
-        Found::Nothing => {
+        Some(k) => Err(Refusal {
+            number: 29,
+            place: k,
+        }),
+        None => {
             let clock = latest(w);
             if clock == claim {
-                return Verdict::Good;
+                Ok(())
+            } else {
+                Err(Refusal {
+                    number: 30,
+                    place: clock,
+                })
             }
-            Verdict::Refused(30, clock)
         }
     }
 }
 
 // 21 to 30 of a bundle, for a sheet seen by v: it is run in the words in which it is loaded.
-pub fn judgement(sheet: &[u8], bundle: &[u8], w: &mut [u32], v: View) -> Verdict
+pub fn judgement(sheet: &[u8], bundle: &[u8], w: &mut [u32], v: View) -> Result<(), Refusal>
     requires { Seen sheet.now v × (extent ≤ length w.old) }
     ensures { JudgementIs sheet.now bundle.now w.old w.new v result }
 {
-    match admit(sheet, bundle, w, v) {
-        Judged::Refused(r, at) => Verdict::Refused(r, at),
-        Judged::Fit(_, _, claim) => {
-            settle(w);
-            finish(w, claim)
-        }
-    }
+    let outline = admit(sheet, bundle, w, v)?;
+    settle(w);
+    finish(w, outline.claim as usize)
 }
 
 // 21 to 30 of a bundle, for the sheet in the tables of the work area, whose bytes are given too. The words behind the board are used.
-pub fn check(sheet: &[u8], bundle: &[u8], work: &mut [u32]) -> Verdict
+pub fn check(sheet: &[u8], bundle: &[u8], work: &mut [u32]) -> Result<(), Refusal>
     requires { Shown sheet.now work.old }
     ensures { CheckIs bundle.now work.old work.new result }
 {
-    let v = admission::view::of_tables(work);
+    let v = View::of_tables(work);
     judgement(sheet, bundle, &mut work[BOARD..], v)
 }

@@ -8,27 +8,22 @@ use lib.Seq.{take-append_seam}
 use Rattle.folds.specs.Answers.{written}
 use Rattle.numbers.proofs.Puts.{fits-well}
 use Rattle.listing.specs.Listing.{listing}
-use Rattle.listing_writer.specs.Listed.{listed_of, FitIs}
-use Rattle.listing_writer.specs.declared.Listed.{Listed}
-use Rattle.listing_writer.specs.declared.Listed.TheVariants.{Long, Short}
-use Rattle.console.specs.Pieces.{Whole, PutIs}
+use Rattle.std.specs.Prelude.{Result, Ok}
+use Rattle.refusals.specs.Refusals.{written_of}
+use Rattle.refusals.specs.declared.Refusal.{Refusal}
+use Rattle.listing_writer.specs.Listed.{FitIs}
+use Rattle.console.specs.Pieces.{PutIs}
 
 -- an output of 21,551 bytes is long enough
-pub whole : {v out out' : List ℕ} {r : Listed} → FitIs v out out' r → 21551 ≤ length out → Whole r
-whole {v} {out} h e = record { size = length v; long = h.answer ∙ ap listed_of (fits-well (length out) v (omega (arith, h.short))); short = h.short }
+pub written-whole : {v out out' : List ℕ} {r : Result ℕ Refusal} → FitIs v out out' r → 21551 ≤ length out → r ≡ Ok (length v)
+written-whole {v} {out} h e = h.answer ∙ ap written_of (fits-well (length out) v (omega (arith, h.short)))
 
-pub whole_long : {r : Listed} (n : ℕ) → Whole r → r ≡ Long n → (r ≡ Long n) × (n ≤ 21551)
-whole_long n w e = let x = sym w.long ∙ e in let s : w.size ≡ n = cc in (e, omega (arith, w.short))
-
-pub whole-short : {A : Type 0} {r : Listed} (n : ℕ) → Whole r → r ≡ Short n → A
-whole-short n w e = let x = sym w.long ∙ e in let z : ◌≡◌ {A = ℕ} 0 1 = cc in absurd (omega arith)
-
-pub put : (sheet out out' : List ℕ) {r : Listed} (n : ℕ) → FitIs (listing sheet) out out' r → 21551 ≤ length out → r ≡ Long n → PutIs sheet out' n
+pub put : (sheet out out' : List ℕ) {r : Result ℕ Refusal} (n : ℕ) → FitIs (listing sheet) out out' r → 21551 ≤ length out → r ≡ Ok n → PutIs sheet out' n
 unfolding written
 put sheet out out' n h e q =
     let v = listing sheet in
     let f = fits-well (length out) v (omega (arith, h.short)) in
-    let x : Long (length v) ≡ Long n = sym (h.answer ∙ ap listed_of f) ∙ q in
+    let x : ◌≡◌ {A = Result ℕ Refusal} (Ok (length v)) (Ok n) = sym (written-whole h e) ∙ q in
     let s : length v ≡ n = cc in
     let front : out' ≡ v ++ drop (length v) out = h.output ∙ ap (written out) f in
     record {

@@ -4,30 +4,29 @@ use native.Mathlib.Omega.{arith}
 use mathlib.Core.Bool.{Bool, true, false}
 use mathlib.Core.Option.{Option, none, some}
 use mathlib.Core.Path.{◌≡◌, refl, sym, ap, ap₂, ◌∙◌, subst}
-use mathlib.Core.Logic.{◌≢◌, ◌⊎◌, inl, inr, ⊎_elim}
-use mathlib.Core.List.{List, [], ◌∷◌}
+use mathlib.Core.Logic.{◌≢◌, inl, ⊎_elim}
+use mathlib.Core.List.{List, ◌∷◌}
 use lib.ListN.{length, get_or, set, length-set}
 use lib.Seq.{get_or-set_same, get_or-set_other}
 use lib.Dec.{eqb}
 use borrow.Author.Tests.{eq-eqb, ne_eqb}
 use Rattle.folds.specs.Folds.{pick, bit}
-use Rattle.folds.proofs.Tests.{equal-or, not_some}
+use Rattle.folds.proofs.Tests.{equal-or}
 use Rattle.sheet.specs.Sheet.{Sheet, task_count, link_count, work_of}
 use Rattle.bundle.specs.Bundle.{Command, run, send, receive, release, discard, Bundle, programme_count}
-use Rattle.bundle.specs.Fits.{Known}
 use Rattle.admission.specs.Counting.{weigh, same, is}
-use Rattle.machine.specs.Machine.{State, Processor, processor_of, next, travels, stated, moved, step_in, step, stamp_in}
+use Rattle.machine.specs.Machine.{State, Processor, processor_of, next, travels, stated, step_in, step, stamp_in}
 use Rattle.machine.proofs.Steps.{other, self, step-below}
 use Rattle.stepping_machine.specs.Layout as lay
-use Rattle.stepping_machine.specs.Words.{next_in, clock_in, store_in, first_in, unpacking_in, stamped_in, kind_in, number_in, amount_in, kind_of, number_of, amount_of}
+use Rattle.stepping_machine.specs.Words.{next_in, clock_in, store_in, first_in, unpacking_in, stamped_in, kind_in, number_in, amount_in, kind_of}
 use Rattle.stepping_machine.specs.Represents.{Programmed}
-use Rattle.stepping_machine.proofs.Moves.{Away, Moved, programmed-same, next-same, clock-same}
+use Rattle.stepping_machine.proofs.Moves.{Moved, programmed-same, next-same, clock-same}
 use Rattle.drift.specs.Tails.{Tails, at, joined, longer, back, Steps, tails}
-use Rattle.drift.specs.Following.{Follows, done, more, commands, through, Trail, fresh, behind, end_of}
+use Rattle.drift.specs.Following.{Follows, more, commands, through, Trail, fresh, behind, end_of}
 use Rattle.drift.specs.Recording.{most_steps, most_ends, Ordered}
 use Rattle.drift.specs.Tracing.{longest, back_words, ran_back, sent_back, got_back, slack_slots, slot_of, Traced, TraceIs}
 use Rattle.drift.proofs.Tails.{at_same, at_other}
-use Rattle.drift.proofs.Following.{step_is, many-on}
+use Rattle.drift.proofs.Following.{step_is}
 use Rattle.drift.proofs.Noting.{Coded, coded, inside_of}
 
 -- what the small functions compute

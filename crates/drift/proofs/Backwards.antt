@@ -1,28 +1,24 @@
 -- Back over all steps of a recorded run.
-use Prim.Native.Nat.{ℕ, zero, suc, ◌+◌, ◌*◌, ◌-◌, ◌≤◌, ◌<◌}
+use Prim.Native.Nat.{ℕ, suc, ◌+◌, ◌-◌, ◌≤◌, ◌<◌}
 use native.Mathlib.Omega.{arith}
 use mathlib.Core.Bool.{Bool}
-use mathlib.Core.Option.{none, some}
 use mathlib.Core.Path.{◌≡◌, refl, sym, ap, ◌∙◌, subst}
-use mathlib.Core.Logic.{◌≢◌, ◌⊎◌, inl, inr}
-use mathlib.Core.List.{List, [], ◌∷◌}
+use mathlib.Core.Logic.{◌⊎◌, inl, inr}
+use mathlib.Core.List.{List, []}
 use lib.ListN.{length, get_or}
-use lib.Dec.{eqb}
 use borrow.Author.Tests.{eq-eqb}
 use Rattle.folds.specs.Folds.{pick}
 use Rattle.workspace.specs.Area.{ClearIs}
-use Rattle.sheet.specs.Sheet.{Sheet, task_count}
-use Rattle.bundle.specs.Bundle.{Bundle, run}
-use Rattle.admission.specs.Counting.{weigh, is}
+use Rattle.sheet.specs.Sheet.{Sheet}
+use Rattle.bundle.specs.Bundle.{Bundle}
+use Rattle.admission.specs.Counting.{weigh}
 use Rattle.machine.specs.Machine.{State, processor_of, stated, stamp_in}
 use Rattle.stepping_machine.specs.Layout as lay
 use Rattle.stepping_machine.specs.Words.{next_in, clock_in, stamped_in}
-use Rattle.stepping_machine.specs.Represents.{Represents}
 use Rattle.stepping_machine.proofs.Moves.{first-kept, programmed-kept}
 use Rattle.drift.specs.Tails.{tails}
-use Rattle.drift.specs.Following.{done, commands, through, end_of}
-use Rattle.drift.specs.Recording.{Noted}
-use Rattle.drift.specs.Tracing.{slot_of, Traced, TraceIs, TracesIs, TracedIs}
+use Rattle.drift.specs.Following.{done, through, end_of}
+use Rattle.drift.specs.Tracing.{Traced, TraceIs, TracesIs, TracedIs}
 
 -- back over all but the first i of n steps
 pub record Tracing (w₀ order slots₀ w slots : List ℕ) (n i claim : ℕ) : Type 0 where

@@ -1,18 +1,18 @@
 -- The same choices, with one task's work as it is and raised by d: the same commands are done, none of them more than d later.
-use Prim.Native.Nat.{ℕ, zero, suc, ◌+◌, ◌≤◌, ◌<◌}
+use Prim.Native.Nat.{ℕ, suc, ◌+◌, ◌≤◌, ◌<◌}
 use native.Mathlib.Omega.{arith}
 use mathlib.Core.Bool.{Bool, true, false}
 use mathlib.Core.Option.{Option, none, some}
 use mathlib.Core.Path.{◌≡◌, refl, sym, ap, ◌∙◌}
 use mathlib.Core.List.{List, [], ◌∷◌}
-use lib.ListN.{length, length-replicate}
+use lib.ListN.{length-replicate}
 use Rattle.folds.specs.Folds.{pick, bit}
 use Rattle.sheet.specs.Sheet.{Sheet, task_count, link_count}
-use Rattle.bundle.specs.Bundle.{Command, run, Bundle, programme_count}
+use Rattle.bundle.specs.Bundle.{Command, run, Bundle}
 use Rattle.admission.specs.Counting.{each, same, is}
 use Rattle.admission.specs.Messages.{Published}
 use Rattle.admission.proofs.Messages.{run-once}
-use Rattle.machine.specs.Machine.{State, fresh_state, processor_of, stamp_of, next, stated, step_in, step, holds_some, can_step}
+use Rattle.machine.specs.Machine.{State, fresh_state, stamp_of, stated, step_in, step, holds_some, can_step}
 use Rattle.machine.specs.Runs.{Run, took, choose, run_from, fresh_run, run_of, left, settled, Later}
 use Rattle.machine.proofs.Steps.{left-moved}
 use Rattle.machine.proofs.Runs.{leads-sound, fresh-left, fresh-sound}

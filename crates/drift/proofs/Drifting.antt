@@ -1,39 +1,39 @@
 -- For an accepted bundle: what one task's work raised by d makes of the finishing time, and that the report is the greatest d that leaves it.
-use Prim.Native.Nat.{ℕ, zero, suc, ◌+◌, ◌-◌, ◌≤◌, ◌<◌, max}
+use Prim.Native.Nat.{ℕ, suc, ◌+◌, ◌-◌, ◌≤◌, ◌<◌, max}
 use native.Mathlib.Omega.{arith}
 use native.Mathlib.Decide.{dec_lt}
 use mathlib.Core.Bool.{Bool, true, false}
 use mathlib.Core.Option.{Option, none, some}
-use mathlib.Core.Path.{◌≡◌, refl, sym, ap, ap₂, ◌∙◌, subst}
-use mathlib.Core.Logic.{◌≢◌, ◌⊎◌, inl, inr, ⊎_elim, ◌↔◌}
+use mathlib.Core.Path.{◌≡◌, refl, sym, ap, ◌∙◌}
+use mathlib.Core.Logic.{◌≢◌, ◌⊎◌, inl, inr}
 use mathlib.Core.List.{List, [], ◌∷◌}
-use lib.ListN.{length, get_or, set, length-set, length-replicate, take, drop, get_elem?}
+use lib.ListN.{length, get_or, set, length-set, length-replicate, take, drop}
 use lib.Seq.{get_or-set_same, get_or-set_other, set_out}
 use lib.Dec.{eqb}
 use borrow.Author.Tests.{eqb-true, eq-eqb, ne_eqb}
-use Rattle.folds.specs.Folds.{pick, both, any, then, greatest, first}
+use Rattle.folds.specs.Folds.{pick, both, then, first}
 use Rattle.folds.specs.Answers.{value}
 use Rattle.folds.proofs.Tests.{equal-or}
 use Rattle.folds.proofs.Laws.{greatest-is}
 use Rattle.sheet.specs.Sheet.{Sheet, Task, no_task, task_count, link_count, work_of, store_of, source_of, target_of, cost_of, bytes_of}
 use Rattle.sheet.specs.Hops.{link_time}
 use Rattle.bundle.specs.Bundle.{Command, run, send, receive, release, discard, Bundle, programme_count, programme_of}
-use Rattle.admission.specs.Counting.{weigh, whole, each, is, need, gives, stored}
-use Rattle.admission.specs.Releases.{is_release, joins, uses_result, uses_message, uses, held, right}
-use Rattle.admission.specs.Messages.{not_once, home, inside, send_fault, receive_fault, order_fault, message_fault, at26, at_message, Published}
+use Rattle.admission.specs.Counting.{weigh, each, is, need, gives}
+use Rattle.admission.specs.Releases.{uses_result, uses_message, uses, held, right}
+use Rattle.admission.specs.Messages.{not_once, inside, send_fault, receive_fault, order_fault, message_fault, at26, at_message, Published}
 use Rattle.admission.proofs.Messages.{run-once}
 use Rattle.admission.proofs.Rights.{all_right, right-all}
-use Rattle.machine.specs.Machine.{State, fresh_state, processor_of, next, waits, travels, stated, moved, step_in, step}
-use Rattle.machine.specs.Runs.{left, latest, settled}
+use Rattle.machine.specs.Machine.{State, fresh_state, next, waits, travels, stated, moved, step_in, step}
+use Rattle.machine.specs.Runs.{left, latest}
 use Rattle.machine.proofs.Steps.{step_move}
 use Rattle.machine.proofs.Runs.{Leads, here, on, leads-sound, fresh-left, fresh-sound, ended-all}
 use Rattle.machine.proofs.Orders.{ended-still, any_order}
 use Rattle.checker.specs.Checker.{checked}
-use Rattle.checker.proofs.Accepted.{Passes, passes}
+use Rattle.checker.proofs.Accepted.{passes}
 use Rattle.drift.specs.Drift.{raise, finishing, leaves, leaving, drift_of}
 use Rattle.drift.specs.Tails.{Steps}
 use Rattle.drift.specs.Following.{Follows, done, more, commands, through}
-use Rattle.drift.proofs.Following.{follows-left, extra, raised_time, Raised, raised, through-le}
+use Rattle.drift.proofs.Following.{follows-left, extra, raised_time, raised, through-le}
 
 weigh-cong : (f g : Command → ℕ) → ((c : Command) → f c ≡ g c) → (q : List Command) → weigh f q ≡ weigh g q
 unfolding weigh

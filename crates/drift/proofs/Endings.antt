@@ -1,29 +1,29 @@
 -- The report from a recorded run, and behind the refusals.
-use Prim.Native.Nat.{ℕ, zero, suc, ◌+◌, ◌*◌, ◌-◌, ◌≤◌, ◌<◌}
+use Prim.Native.Nat.{ℕ, ◌+◌, ◌*◌, ◌-◌, ◌≤◌, ◌<◌}
 use native.Mathlib.Omega.{arith}
 use mathlib.Core.Bool.{Bool, true, false}
-use mathlib.Core.Option.{Option, none, some}
-use mathlib.Core.Path.{◌≡◌, refl, sym, ap, ap₂, ◌∙◌, subst}
-use mathlib.Core.List.{List, [], ◌∷◌, ◌++◌}
-use lib.ListN.{length, drop, get_or, replicate, length-replicate, length-append, length-drop}
+use mathlib.Core.Option.{none, some}
+use mathlib.Core.Path.{◌≡◌, refl, sym, ap, ◌∙◌, subst}
+use mathlib.Core.List.{List, []}
+use lib.ListN.{length, drop, get_or, replicate, length-replicate, length-drop}
 use lib.Dec.{eqb}
-use borrow.Author.Tests.{eqb-true, eq-eqb, ne_eqb, ltb-false}
+use borrow.Author.Tests.{eqb-true, ne_eqb, ltb-false}
 use borrow.Rule.Slice.PartMut.{mid_of}
-use Rattle.folds.specs.Folds.{pick, gather}
-use Rattle.folds.specs.Answers.{Answer, value, refused, and_then, fitting, written}
-use Rattle.folds.proofs.Tests.{unless-value, not_some, not-value}
+use Rattle.folds.specs.Folds.{pick}
+use Rattle.folds.specs.Answers.{Answer, value, refused, and_then, fitting}
+use Rattle.folds.proofs.Tests.{unless-value, not_some}
 use Rattle.folds.proofs.Laws.{sum_zeros, first-none}
 use Rattle.folds.proofs.Lists.{get_d_replicate, gather_cong}
 use Rattle.numbers.specs.Number.{Bytes, number_bytes, stored}
 use Rattle.numbers.proofs.Laws.{length-stored}
 use Rattle.numbers.proofs.Puts.{kept, front, fits_not, fits-well}
-use Rattle.workspace.specs.declared.answers.Written.{Written}
-use Rattle.workspace.specs.declared.answers.Written.TheVariants.{Long, Refused}
-use Rattle.workspace.specs.Written.{WriteIs}
+use Rattle.std.specs.Prelude.{⊤, Result, Ok, Err}
+use Rattle.bundle_reader.specs.Answers.{outline_of}
+use Rattle.bundle_reader.specs.declared.bytes.Outline.{Outline}
+use Rattle.refusals.specs.Refusals.{refusal, WriteIs}
+use Rattle.refusals.specs.declared.Refusal.{Refusal}
 use Rattle.sheet.specs.Sheet.{Sheet, task_count}
 use Rattle.sheet.specs.Tables.{sheet_in}
-use Rattle.sheet_reader.specs.declared.Reading.{Reading}
-use Rattle.sheet_reader.specs.declared.Reading.TheVariants as readings
 use Rattle.graph.specs.Graph.{read_sheet}
 use Rattle.levelling.specs.Opened.{OpenIs}
 use Rattle.levelling.proofs.Opens.{open-refusal, open-value}
@@ -37,8 +37,6 @@ use Rattle.admission.specs.Fields.{Known, Seen}
 use Rattle.admission.specs.Views.{ViewIs, Shown}
 use Rattle.admission.specs.Admitted.{admitted, admitted_bytes, judged_of}
 use Rattle.admission.specs.declared.view.View.{View}
-use Rattle.admission.specs.declared.Judged.{Judged}
-use Rattle.admission.specs.declared.Judged.TheVariants.{Fit, Refused as Unfit}
 use Rattle.admission.proofs.Areas.{known_in}
 use Rattle.admission.proofs.Admits.{admitted-published}
 use Rattle.admission.proofs.Few.{commands-whole}
@@ -56,8 +54,6 @@ use Rattle.stepping_machine.proofs.Going.{settles-to}
 use Rattle.stepping_machine.proofs.Starting.{short-fit}
 use Rattle.checker.specs.Checker.{unfinished, at29, at30, closing, checked}
 use Rattle.checker.specs.Verdicts.{verdict_of, checked_bytes, FinishIs, JudgementIs}
-use Rattle.checker.specs.declared.Verdict.{Verdict}
-use Rattle.checker.specs.declared.Verdict.TheVariants as verdicts
 use Rattle.checker.proofs.Accepted.{passes}
 use Rattle.checker.proofs.Closing.{judged-refused, judged-ends}
 use Rattle.checker.proofs.Verdicts.{good-value, refused-value}
@@ -98,7 +94,7 @@ slots-are {s} {b} {φ} {claim} {slots = slots} p over f h t l = go h.trail h.cou
         ∙ ap (λ (x : ℕ). x - through s b (stated s b) t r) (sym f) ∙ sym (drift-is s b p r over t l)
 
 -- 12, or the report
-pub put-short : (w order slots : List ℕ) (steps n claim : ℕ) (old : List ℕ) → length old < 4 * n → PutIs w order slots w steps n claim old old (Refused 12 (4 * n))
+pub put-short : (w order slots : List ℕ) (steps n claim : ℕ) (old : List ℕ) → length old < 4 * n → PutIs w order slots w steps n claim old old (Err (refusal 12 (4 * n)))
 put-short w order slots steps n claim old l =
     record {
       area = refl;
@@ -106,11 +102,11 @@ put-short w order slots steps n claim old l =
       is =
           λ s b e p few short h over f.
           let z : length (drift_bytes s b) ≡ 4 * n = drift-long s b ∙ ap (λ (x : ℕ). 4 * x) e in
-          rw (fits_not (length old) (drift_bytes s b) (omega arith)) (record { answer = ap (Refused 12) (sym z); left = kept old 12 (length (drift_bytes s b)) });
+          rw (fits_not (length old) (drift_bytes s b) (omega arith)) (record { answer = ap (λ (i : ℕ). Err (refusal 12 i)) (sym z); left = kept old 12 (length (drift_bytes s b)) });
     }
 
 pub put-done : {w order slots w' slots' : List ℕ} {steps n claim : ℕ} {old last : List ℕ} → TracedIs w order slots w' slots' steps claim → 4 * n ≤ length old
-    → last ≡ stored old 0 (slot_bytes slots' n) → PutIs w order slots w' steps n claim old last (Long (4 * n))
+    → last ≡ stored old 0 (slot_bytes slots' n) → PutIs w order slots w' steps n claim old last (Ok (4 * n))
 unfolding slot_bytes drift_bytes
 put-done {order = order} {slots' = slots'} {n = n} {claim = claim} {old = old} {last = last} g l e =
     record {
@@ -121,7 +117,7 @@ put-done {order = order} {slots' = slots'} {n = n} {claim = claim} {old = old} {
           let tr = g.all_traced s b h few short (λ t k. omega (arith, trail-left h.trail t, run-once s b p.once t k)) in
           let z : length (drift_bytes s b) ≡ 4 * n = drift-long s b ∙ ap (λ (x : ℕ). 4 * x) c in
           let bytes : slot_bytes slots' n ≡ drift_bytes s b = ap (slot_bytes slots') (sym c) ∙ gather_cong (task_count s) _ _ (λ t k. ap (number_bytes 4) (slots-are p over f tr t k)) in
-          rw (fits-well (length old) (drift_bytes s b) (omega arith)) (record { answer = ap Long (sym z); left = e ∙ ap (stored old 0) bytes ∙ front old (drift_bytes s b) });
+          rw (fits-well (length old) (drift_bytes s b) (omega arith)) (record { answer = ap Ok (sym z); left = e ∙ ap (stored old 0) bytes ∙ front old (drift_bytes s b) });
     }
 
 -- 29 and 30 of a state
@@ -142,7 +138,7 @@ claimed b σ e = go (eqb b.claim (latest σ)) refl e
     go true q r = sym (eqb-true b.claim (latest σ) q)
     go false q r = not_some (sym r)
 
-good-end : (b : Bundle) (σ : State) → verdicts.Good ≡ verdict_of (closing b σ) → (left b σ each ≡ 0) × (latest σ ≡ b.claim)
+good-end : (b : Bundle) (σ : State) → Ok tt ≡ verdict_of (closing b σ) → (left b σ each ≡ 0) × (latest σ ≡ b.claim)
 unfolding closing
 good-end b σ e =
     let a = good-value (closing b σ) e in
@@ -166,9 +162,9 @@ noted-fresh s b w short h =
       long = omega (arith, length-replicate {A = ℕ} most_ends 0);
     }
 
-module _ {w mid order slots : List ℕ} {steps n claim : ℕ} (settles : SettleIs w mid) (notes : NoteIs w (replicate most_steps 0) (replicate most_ends 0) 0 mid order slots steps) {o : Verdict} (ends : FinishIs mid claim o) where
-  pub admitted-bad : (old : List ℕ) (r at : ℕ) → o ≡ verdicts.Refused r at → AdmittedIs w mid n claim old old (Refused r at)
-  admitted-bad old r at e =
+module _ {w mid order slots : List ℕ} {steps n claim : ℕ} (settles : SettleIs w mid) (notes : NoteIs w (replicate most_steps 0) (replicate most_ends 0) 0 mid order slots steps) {o : Result ⊤ Refusal} (ends : FinishIs mid claim o) where
+  pub admitted-bad : (old : List ℕ) (r : Refusal) → o ≡ Err r → AdmittedIs w mid n claim old old (Err r)
+  admitted-bad old r e =
       record {
         area = notes.long;
         long = refl;
@@ -176,10 +172,10 @@ module _ {w mid order slots : List ℕ} {steps n claim : ℕ} (settles : SettleI
         verdict = o;
         settles = settles;
         finishes = ends;
-        is = λ s b c p short f few h. rw e (record { answer = refl; left = kept old r at });
+        is = λ s b c p short f few h. rw e (record { answer = refl; left = kept old r.number r.place });
       }
 
-  pub admitted-good : {w' old last : List ℕ} {r : Written} → o ≡ verdicts.Good → PutIs mid order slots w' steps n claim old last r → AdmittedIs w w' n claim old last r
+  pub admitted-good : {w' old last : List ℕ} {r : Result ℕ Refusal} → o ≡ Ok tt → PutIs mid order slots w' steps n claim old last r → AdmittedIs w w' n claim old last r
   unfolding finishing
   admitted-good {w'} {old} {last} {r} e g =
       record {
@@ -198,20 +194,20 @@ module _ {w mid order slots : List ℕ} {steps n claim : ℕ} (settles : SettleI
       }
 
 -- 21 to 37
-module _ (sheet bundle w u : List ℕ) (v : View) (f : Judged) (h : AdmitIs sheet bundle w u v f) where
-  pub part-refused : (old : List ℕ) (r at : ℕ) → f ≡ Unfit r at → PartIs sheet bundle w u v old old (Refused r at)
+module _ (sheet bundle w u : List ℕ) (v : View) (f : Result Outline Refusal) (h : AdmitIs sheet bundle w u v f) where
+  pub part-refused : (old : List ℕ) (r : Refusal) → f ≡ Err r → PartIs sheet bundle w u v old old (Err r)
   unfolding reported_bytes
-  part-refused old r at e =
-      let j = judged-refused sheet bundle w u v f h r at e in
+  part-refused old r e =
+      let j = judged-refused sheet bundle w u v f h r e in
       record {
         area = h.long;
         long = refl;
-        is = λ s k. rw (refused-value (checked_bytes s bundle) r at (j.is s k)) (record { answer = refl; left = kept old r at });
+        is = λ s k. rw (refused-value (checked_bytes s bundle) r (j.is s k)) (record { answer = refl; left = kept old r.number r.place });
       }
 
-  pub part-ends : Seen sheet v → Bytes bundle → (m c claim : ℕ) → f ≡ Fit m c claim → {w' old last : List ℕ} {r : Written} → AdmittedIs u w' v.tasks claim old last r → PartIs sheet bundle w w' v old last r
-  unfolding reported_bytes checked_bytes admitted_bytes
-  part-ends seen bytes m c claim e {w'} {old} {last} {r} g =
+  pub part-ends : Seen sheet v → Bytes bundle → (out : Outline) → f ≡ Ok out → {w' old last : List ℕ} {r : Result ℕ Refusal} → AdmittedIs u w' v.tasks out.claim old last r → PartIs sheet bundle w w' v old last r
+  unfolding reported_bytes checked_bytes admitted_bytes outline_of
+  part-ends seen bytes out e {w'} {old} {last} {r} g =
       record {
         area = g.area ∙ h.long;
         long = g.long;
@@ -219,10 +215,10 @@ module _ (sheet bundle w u : List ℕ) (v : View) (f : Judged) (h : AdmitIs shee
       }
     where
       j : JudgementIs sheet bundle w g.mid v g.verdict
-      j = judged-ends sheet bundle w u v f h g.mid m c claim g.verdict e g.settles g.finishes
+      j = judged-ends sheet bundle w u v f h g.mid out g.verdict e g.settles g.finishes
 
-      few : c ≤ most_steps
-      few = omega (arith, short-fit sheet bundle w u [] v f h m c claim e seen bytes)
+      few : out.commands ≤ most_steps
+      few = omega (arith, short-fit sheet bundle w u [] v f h out e seen bytes)
 
       last_step : (s : Sheet) (y : Bundle) (a : Answer Bundle) → checked s y ≡ a → g.verdict ≡ verdict_of a → WriteIs (told g.verdict (fitting (length old) (drift_bytes s y))) old last r
           → WriteIs (and_then (and_then a (λ b. value (drift_bytes s b))) (fitting (length old))) old last r
@@ -231,41 +227,41 @@ module _ (sheet bundle w u : List ℕ) (v : View) (f : Judged) (h : AdmitIs shee
           let same : y ≡ b = (passes s y b q).1 in
           subst (λ (o : Bundle). WriteIs (fitting (length old) (drift_bytes s o)) old last r) same (rw z at x)
 
-      of : (s : Sheet) (y : Bundle) → Known s sheet v → read_bundle s bundle ≡ value y → (o : Answer Bundle) → admitted s y ≡ o → Fit m c claim ≡ judged_of o
+      of : (s : Sheet) (y : Bundle) → Known s sheet v → read_bundle s bundle ≡ value y → (o : Answer Bundle) → admitted s y ≡ o → Ok out ≡ judged_of o
           → ((x : Bundle) → admitted s y ≡ value x → Represents s x u (fresh_state s x)) → g.verdict ≡ verdict_of (checked s y)
           → WriteIs (and_then (and_then (checked s y) (λ b. value (drift_bytes s b))) (fitting (length old))) old last r
-      of s y k read (refused i l) z d start verdict = let x : ◌≡◌ {A = ℕ} 0 1 = cc in absurd (omega arith)
+      of s y k read (refused i l) z d start verdict = absurd cc
       of s y k read (value x) z d start verdict =
           let q = admitted-published s y x z in
-          let el : y.claim ≡ claim = ap (λ (i : Bundle). i.claim) q.2 ∙ third d in
-          let count : command_count y ≡ c = ap command_count q.2 ∙ second d in
+          let el : y.claim ≡ out.claim = ap (λ (i : Bundle). i.claim) q.2 ∙ third d in
+          let count : command_count y ≡ out.commands = ap command_count q.2 ∙ second d in
           let fits = read_fits s bundle y bytes read in
           last_step s y (checked s y) refl verdict
           (g.is s y k.tasks q.0 (omega (arith, commands-whole y, few)) el (omega (arith, fits.claimed)) (start y (z ∙ ap value (sym q.2))))
         where
-          third : Fit m c claim ≡ Fit (programme_count x) (command_count x) x.claim → x.claim ≡ claim
-          third d = cc
+          third : Ok out ≡ judged_of (value x) → x.claim ≡ out.claim
+          third d = let p : out ≡ outline_of x = cc in sym (ap (λ (i : Outline). i.claim) p)
 
-          second : Fit m c claim ≡ Fit (programme_count x) (command_count x) x.claim → command_count x ≡ c
-          second d = cc
+          second : Ok out ≡ judged_of (value x) → command_count x ≡ out.commands
+          second d = let p : out ≡ outline_of x = cc in sym (ap (λ (i : Outline). i.commands) p)
 
-      by : (s : Sheet) → Known s sheet v → (o : Answer Bundle) → read_bundle s bundle ≡ o → Fit m c claim ≡ judged_of (and_then o (admitted s))
+      by : (s : Sheet) → Known s sheet v → (o : Answer Bundle) → read_bundle s bundle ≡ o → Ok out ≡ judged_of (and_then o (admitted s))
           → ((x : Bundle) → and_then o (admitted s) ≡ value x → Represents s x u (fresh_state s x)) → g.verdict ≡ verdict_of (and_then o (checked s))
           → WriteIs (and_then (and_then (and_then o (checked s)) (λ b. value (drift_bytes s b))) (fitting (length old))) old last r
       by s k (value y) read d start verdict = of s y k read (admitted s y) refl d start verdict
-      by s k (refused i l) read d start verdict = let x : ◌≡◌ {A = ℕ} 0 1 = cc in absurd (omega arith)
+      by s k (refused i l) read d start verdict = absurd cc
 
 -- 1 to 10, and by the sheet that was read
-module _ (sheet bundle work mid : List ℕ) {o : Reading} (h : OpenIs (read_sheet sheet) work mid o) where
-  pub sheet-refused : (old : List ℕ) (r e : ℕ) → o ≡ readings.Refused r e → ReportIs sheet bundle work mid old old (Refused r e)
+module _ (sheet bundle work mid : List ℕ) {o : Result ⊤ Refusal} (h : OpenIs (read_sheet sheet) work mid o) where
+  pub sheet-refused : (old : List ℕ) (r : Refusal) → o ≡ Err r → ReportIs sheet bundle work mid old old (Err r)
   unfolding report
-  sheet-refused old r e q =
+  sheet-refused old r q =
       record {
         area = h.long;
-        is = rw (open-refusal h r e q) (record { answer = refl; left = kept old r e });
+        is = rw (open-refusal h r q) (record { answer = refl; left = kept old r.number r.place });
       }
 
-  pub sheet-read : (last after old out : List ℕ) (v : View) (r : Written) → o ≡ readings.Read → Shown sheet mid → ViewIs mid v
+  pub sheet-read : (last after old out : List ℕ) (v : View) (r : Result ℕ Refusal) → o ≡ Ok tt → Shown sheet mid → ViewIs mid v
       → PartIs sheet bundle (mid_of lay.board (length mid - lay.board) mid) last v old out r → length after ≡ length mid → ReportIs sheet bundle work after old out r
   unfolding report
   sheet-read last after old out v r q y z g e =

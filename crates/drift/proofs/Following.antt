@@ -1,11 +1,11 @@
 -- The steps of a run, followed with one task's work raised: the latest clock is the later of what it was and the longest way through that run, with what it was raised by.
-use Prim.Native.Nat.{ℕ, zero, suc, ◌+◌, ◌≤◌, ◌<◌, max}
+use Prim.Native.Nat.{ℕ, ◌+◌, ◌≤◌}
 use native.Mathlib.Omega.{arith}
 use mathlib.Core.Bool.{Bool, true, false}
 use mathlib.Core.Option.{Option, none, some, some-injective}
 use mathlib.Core.Path.{◌≡◌, refl, sym, ap, ap₂, ◌∙◌, subst}
-use mathlib.Core.Logic.{◌≢◌, ◌⊎◌, inl, inr, ⊎_elim, ◌↔◌}
-use mathlib.Core.List.{List, [], ◌∷◌, ◌++◌, map}
+use mathlib.Core.Logic.{⊎_elim}
+use mathlib.Core.List.{[], ◌∷◌, ◌++◌}
 use lib.ListN.{length, length-set, get_or-eq_default}
 use lib.Dec.{eqb}
 use borrow.Author.Tests.{eq-eqb, ne_eqb}
@@ -15,15 +15,14 @@ use Rattle.sheet.specs.Sheet.{Sheet}
 use Rattle.bundle.specs.Bundle.{Command, run, send, receive, release, discard, Bundle, programme_count}
 use Rattle.admission.specs.Counting.{weigh, same, is}
 use Rattle.admission.proofs.Rights.{same-is}
-use Rattle.machine.specs.Machine.{State, processor_of, stamp_of, next, waits, takes, posted, stated, moved, step_in, step}
+use Rattle.machine.specs.Machine.{State, processor_of, stamp_of, next, waits, moved, step_in}
 use Rattle.machine.specs.Runs.{left, latest}
 use Rattle.machine.proofs.Steps.{then_some, other, self, left-moved, length-posted}
-use Rattle.machine.proofs.Runs.{Leads, here, on}
 use Rattle.machine.proofs.Near.{Near, Together, neither, stepped, near_step, near_next}
 use Rattle.machine.proofs.Early.{near_same}
-use Rattle.drift.specs.Tails.{Tails, ended, at, joined, longer, back, Steps, tails}
+use Rattle.drift.specs.Tails.{Tails, joined, back, Steps, tails}
 use Rattle.drift.specs.Following.{Follows, done, more, commands, through}
-use Rattle.drift.proofs.Tails.{Below, Fits, at_same, at_other, below_end, end_below, back_below, below-back}
+use Rattle.drift.proofs.Tails.{Below, at_same, at_other, below_end, end_below, back_below, below-back}
 
 module _ (s : Sheet) (b : Bundle) (time : ℕ → Command → ℕ) where
   -- what one step is

@@ -1,17 +1,17 @@
 -- A step with its notes: who made it, and when a run ended.
-use Prim.Native.Nat.{ℕ, zero, suc, ◌+◌, ◌-◌, ◌%◌, ◌≤◌, ◌<◌}
+use Prim.Native.Nat.{ℕ, ◌+◌, ◌-◌, ◌%◌, ◌≤◌, ◌<◌}
 use native.Mathlib.Omega.{arith}
 use native.Mathlib.Decide.{dec_lt}
 use mathlib.Core.Bool.{Bool, true, false}
-use mathlib.Core.Option.{Option, none, some, some-injective}
+use mathlib.Core.Option.{Option, some, some-injective}
 use mathlib.Core.Path.{◌≡◌, refl, sym, ap, ap₂, ◌∙◌, subst}
-use mathlib.Core.Logic.{◌≢◌, ◌⊎◌, inl, inr, ⊎_elim}
+use mathlib.Core.Logic.{◌≢◌, ⊎_elim}
 use mathlib.Core.List.{List, [], ◌∷◌}
 use lib.ListN.{length, get_or, set, length-set}
 use lib.Seq.{get_or-set_same, get_or-set_other}
 use lib.Dec.{eqb}
 use borrow.Author.Tests.{eq-eqb, ne_eqb}
-use Rattle.folds.specs.Folds.{pick, bit}
+use Rattle.folds.specs.Folds.{pick}
 use Rattle.folds.proofs.Tests.{equal-or, not_some}
 use Rattle.sheet.specs.Sheet.{Sheet}
 use Rattle.bundle.specs.Bundle.{Command, run, send, receive, release, discard, Bundle, programme_of}
@@ -22,12 +22,12 @@ use Rattle.machine.specs.Machine.{State, processor_of, next, stated, step_in, st
 use Rattle.machine.specs.Runs.{left, chosen}
 use Rattle.machine.proofs.Steps.{step_move, can-step, left-moved}
 use Rattle.stepping_machine.specs.Layout as lay
-use Rattle.stepping_machine.specs.Words.{next_in, clock_in, first_in, kind_in, number_in, amount_in, kind_of, number_of, amount_of, word_by}
+use Rattle.stepping_machine.specs.Words.{clock_in, first_in, kind_in, number_in, amount_in, kind_of, number_of, amount_of, word_by}
 use Rattle.stepping_machine.specs.Represents.{Programmed, Represents, ChoiceIs}
 use Rattle.stepping_machine.proofs.Packing.{amount-small, word-kind, word_number, word-amount}
 use Rattle.stepping_machine.proofs.Moves.{command-at}
 use Rattle.drift.specs.Tails.{Steps}
-use Rattle.drift.specs.Following.{Trail, fresh, behind, end_of}
+use Rattle.drift.specs.Following.{Trail, behind, end_of}
 use Rattle.drift.specs.Recording.{most_ends, ends_with, Ordered, Noted, NoteIs}
 
 -- the word x stands for the command c of processor k

@@ -1,26 +1,20 @@
 -- The backward pass: the latest clock at the end is at most x exactly if every clock and every stamp, with its tail, is.
-use Prim.Native.Nat.{ℕ, zero, suc, ◌+◌, ◌≤◌, ◌<◌, max}
+use Prim.Native.Nat.{ℕ, ◌+◌, ◌≤◌, ◌<◌, max}
 use native.Mathlib.Omega.{arith}
 use native.Mathlib.Decide.{dec_lt}
-use mathlib.Core.Bool.{Bool, true, false}
-use mathlib.Core.Option.{Option, none, some, some-injective}
-use mathlib.Core.Path.{◌≡◌, refl, sym, ap, ap₂, ◌∙◌, subst}
-use mathlib.Core.Logic.{◌≢◌, ◌⊎◌, inl, inr, ⊎_elim, ◌↔◌}
-use mathlib.Core.List.{List, [], ◌∷◌}
+use mathlib.Core.Option.{Option, none, some}
+use mathlib.Core.Path.{◌≡◌, refl, sym, ap, subst}
+use mathlib.Core.Logic.{◌≢◌, ⊎_elim}
 use lib.ListN.{length, set, length-set, get_or-eq_default}
-use lib.Seq.{get_or-set_same, get_or-set_other, set_out}
-use lib.Dec.{eqb}
 use borrow.Author.Tests.{eq-eqb, ne_eqb}
-use Rattle.folds.specs.Folds.{pick, greatest}
 use Rattle.folds.proofs.Tests.{equal-or, not_some}
 use Rattle.folds.proofs.Laws.{term-le-greatest, greatest-le}
 use Rattle.sheet.specs.Sheet.{Sheet}
 use Rattle.bundle.specs.Bundle.{Command, run, send, receive, release, discard, Bundle, programme_count}
-use Rattle.admission.specs.Counting.{weigh, is}
-use Rattle.machine.specs.Machine.{State, Processor, fresh_processor, processor_of, stamp_of, next, waits, takes, moved, step_in}
+use Rattle.machine.specs.Machine.{State, Processor, fresh_processor, processor_of, stamp_of, next, waits, takes, moved}
 use Rattle.machine.specs.Runs.{clock_of, latest}
-use Rattle.machine.proofs.Steps.{other, self, stamp-sent, stamp-other, length-posted}
-use Rattle.drift.specs.Tails.{Tails, ended, at, joined, longer, back, Steps, tails}
+use Rattle.machine.proofs.Steps.{other, self, stamp-sent, stamp-other}
+use Rattle.drift.specs.Tails.{Tails, ended, at, joined, longer, back}
 
 pub at_same : {X : Type 0} (f : ℕ → X) (k : ℕ) (x : X) → at f k x k ≡ x
 at_same f k x = rw (eq-eqb k k refl)

@@ -1,11 +1,10 @@
 -- The pass back over a recorded run, in the words in which it was run: `tails` of specs/Tails, and the slack of each task whose run is behind.
-use Rattle.std.specs.Prelude.{ℕ, suc, ◌+◌, ◌*◌, ◌-◌, ◌%◌, ◌≤◌, ◌<◌, max, ◌≡◌, List, [], ◌∷◌, length, get_or, set, eqb}
+use Rattle.std.specs.Prelude.{ℕ, suc, ◌+◌, ◌*◌, ◌-◌, ◌%◌, ◌≤◌, ◌<◌, max, ◌≡◌, List, length, get_or, set, eqb}
 use Rattle.folds.specs.Folds.{pick}
 use Rattle.sheet.specs.Sheet.{Sheet, task_count, link_count}
 use Rattle.bundle.specs.Bundle.{Bundle, run, programme_count}
-use Rattle.admission.specs.Counting.{weigh, is, each}
-use Rattle.machine.specs.Machine.{State, fresh_state, processor_of, stated, stamp_in}
-use Rattle.machine.specs.Runs.{left}
+use Rattle.admission.specs.Counting.{weigh, is}
+use Rattle.machine.specs.Machine.{State, processor_of, stated, stamp_in}
 use Rattle.stepping_machine.specs.Layout as lay
 use Rattle.stepping_machine.specs.Words.{next_in, clock_in, first_in, unpacking_in, stamped_in}
 use Rattle.stepping_machine.specs.Represents.{Programmed}

@@ -25,7 +25,7 @@ fn note_end(w: &[u32], ends: &mut [u32], k: usize, x: usize)
     ensures { ends.new ≡ ends_with w.now ends.old k x }
 {
     if x / KINDS == 1 {
-        let t = numbers::minus(x / NUMBERS % SPAN, TASKS);
+        let t = (x / NUMBERS % SPAN).saturating_sub(TASKS);
         total::put(ends, t, total::word(w, CLOCKS + k));
     }
 }
@@ -39,9 +39,10 @@ fn note_step(w: &mut [u32], order: &mut [u8], ends: &mut [u32], k: usize, n: usi
     if step(w, k) {
         put(order, n, k);
         note_end(w, ends, k, x);
-        return true;
+        true
+    } else {
+        false
     }
-    false
 }
 
 // Processor k as far as it goes, behind n steps: how many it made.
@@ -49,15 +50,12 @@ fn advance(w: &mut [u32], order: &mut [u8], ends: &mut [u32], k: usize, n: usize
     requires { (k < 16) × (n < 1099511627776) }
     ensures { AdvanceIs w.old w.new k result × NoteIs w.old order.old ends.old n w.new order.new ends.new (n + result) }
 {
-    let mut m: usize = 0;
-    while m < LONGEST {
-        if note_step(w, order, ends, k, n + m) {
-            m += 1;
-        } else {
+    for m in 0..LONGEST {
+        if !note_step(w, order, ends, k, n + m) {
             return m;
         }
     }
-    m
+    LONGEST
 }
 
 // Each processor as far as it goes, behind n steps: how many were made.
@@ -65,12 +63,10 @@ fn round(w: &mut [u32], order: &mut [u8], ends: &mut [u32], n: usize) -> usize
     requires { n < 549755813888 }
     ensures { RoundIs w.old w.new result × (result ≤ 262144) × NoteIs w.old order.old ends.old n w.new order.new ends.new (n + result) }
 {
-    let count = numbers::smaller(total::word(w, COUNT), 16);
+    let count = total::word(w, COUNT).min(16);
     let mut m = 0;
-    let mut k = 0;
-    while k < count {
+    for k in 0..count {
         m += advance(w, order, ends, k, n + m);
-        k += 1;
     }
     m
 }
@@ -80,14 +76,12 @@ pub fn record(w: &mut [u32], order: &mut [u8], ends: &mut [u32]) -> usize
     ensures { SettleIs w.old w.new × NoteIs w.old order.old ends.old 0 w.new order.new ends.new result }
 {
     let mut n: usize = 0;
-    let mut rounds: usize = LONGEST;
-    while 0 < rounds {
+    for _ in 0..LONGEST {
         let m = round(w, order, ends, n);
         if m == 0 {
             return n;
         }
         n += m;
-        rounds -= 1;
     }
     n
 }

@@ -12,10 +12,7 @@ fn way_on(tail: usize, d: usize, m: usize) -> usize
     requires { (d < 4294967296) × (m < 4294967296) }
     ensures { result ≡ longest tail d m }
 {
-    if m == 0 {
-        return tail;
-    }
-    numbers::later(tail, d + m - 1)
+    if m == 0 { tail } else { tail.max(d + m - 1) }
 }
 
 // Processor k is before the command at the index p, and its way from there.
@@ -33,7 +30,7 @@ fn note_slack(w: &[u32], slots: &mut [u32], k: usize, t: usize, claim: usize)
     ensures { slots.new ≡ slack_slots w.now slots.old k t claim }
 {
     let way = total::word(slots, t) + total::word(w, CLOCKS + k);
-    total::put(slots, t, numbers::minus(claim, way));
+    total::put(slots, t, claim.saturating_sub(way));
 }
 
 fn before_run(w: &mut [u32], k: usize, p: usize, work: usize)
@@ -60,7 +57,7 @@ fn before_receive(w: &mut [u32], k: usize, p: usize, i: usize)
     ensures { w.new ≡ got_back w.old k p i }
 {
     let way = total::word(w, CLOCKS + k) + total::word(w, UNPACKING);
-    let m = numbers::later(total::word(w, i), way + 1);
+    let m = total::word(w, i).max(way + 1);
     go_back(w, k, p, way);
     total::put(w, i, m);
 }
@@ -70,34 +67,26 @@ fn trace_one(w: &mut [u32], slots: &mut [u32], k: usize, claim: usize)
     requires { k < 256 }
     ensures { TraceIs w.old slots.old w.new slots.new k claim }
 {
-    let p = numbers::minus(total::word(w, k), 1);
+    let p = total::word(w, k).saturating_sub(1);
     let x = total::word(w, p);
-    let kind = x / KINDS;
     let amount = x % NUMBERS;
     let number = x / NUMBERS % SPAN;
-    if kind == 1 {
-        note_slack(w, slots, k, numbers::minus(number, TASKS), claim);
-        before_run(w, k, p, amount);
-        return;
+    match x / KINDS {
+        1 => {
+            note_slack(w, slots, k, number.saturating_sub(TASKS), claim);
+            before_run(w, k, p, amount);
+        }
+        2 => before_send(w, k, p, amount, STAMPS + number),
+        3 => before_receive(w, k, p, STAMPS + number),
+        _ => before_run(w, k, p, 0),
     }
-    if kind == 2 {
-        before_send(w, k, p, amount, STAMPS + number);
-        return;
-    }
-    if kind == 3 {
-        before_receive(w, k, p, STAMPS + number);
-        return;
-    }
-    before_run(w, k, p, 0);
 }
 
 // Back over n steps.
 fn trace_all(w: &mut [u32], order: &[u8], slots: &mut [u32], n: usize, claim: usize)
     ensures { TracesIs w.old order.now slots.old w.new slots.new n claim }
 {
-    let mut i = n;
-    while 0 < i {
-        i -= 1;
+    for i in (0..n).rev() {
         trace_one(w, slots, total::byte(order, i), claim);
     }
 }

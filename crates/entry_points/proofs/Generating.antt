@@ -1,4 +1,7 @@
 -- The sheet of a seed, from the tables to the output.
+use Rattle.std.specs.Prelude.{Result, Ok, Err}
+use Rattle.refusals.specs.Refusals.{refusal}
+use Rattle.refusals.specs.declared.Refusal.{Refusal}
 use Prim.Native.Nat.{ℕ, ◌<◌, ◌≤◌}
 use native.Mathlib.Omega.{arith}
 use mathlib.Core.Bool.{true, false}
@@ -16,11 +19,9 @@ use Rattle.sheet_reader.proofs.Backs.{sheet-length}
 use Rattle.generator.specs.Load.{outside, sheet_from, generated}
 use Rattle.generator.proofs.Ranges.{generated-no, generated-sheet}
 use Rattle.entry_points.specs.Parts.{outcome_of, PartIs}
-use Rattle.entry_points.specs.declared.ending.Outcome.{Outcome}
-use Rattle.entry_points.specs.declared.ending.Outcome.TheVariants.{Done, Refused}
 
 -- an answer that is known
-part-is : {a : Answer (List ℕ)} (b : Answer (List ℕ)) {work mid out : List ℕ} → a ≡ b → length mid ≡ length work → (out' : List ℕ) (o : Outcome) → o ≡ outcome_of length b → out' ≡ written out b
+part-is : {a : Answer (List ℕ)} (b : Answer (List ℕ)) {work mid out : List ℕ} → a ≡ b → length mid ≡ length work → (out' : List ℕ) (o : Result ℕ Refusal) → o ≡ outcome_of length b → out' ≡ written out b
     → PartIs a work mid out out' o
 part-is b {work} {mid} {out} e long out' o p q = record { answer = p ∙ sym (ap (outcome_of length) e); output = q ∙ sym (ap (written out) e); long = long }
 
@@ -28,9 +29,9 @@ module _ (seed n m p l : ℕ) (work out : List ℕ) where
   abbrev answer : Answer (List ℕ)
   answer = and_then (generated seed n m p l) (λ s. fitting (length out) (sheet_bytes s))
 
-  pub generate-refused : outside seed n m p ≡ true → PartIs answer work work out out (Refused 6 0)
+  pub generate-refused : outside seed n m p ≡ true → PartIs answer work work out out (Err (refusal 6 0))
   generate-refused e =
-      part-is (refused 6 0) (ap (λ (a : Answer Sheet). and_then a (λ s. fitting (length out) (sheet_bytes s))) (generated-no seed n m p l e)) refl out (Refused 6 0) refl (kept out 6 0)
+      part-is (refused 6 0) (ap (λ (a : Answer Sheet). and_then a (λ s. fitting (length out) (sheet_bytes s))) (generated-no seed n m p l e)) refl out (Err (refusal 6 0)) refl (kept out 6 0)
 
   -- the tables hold the sheet, and k is how many bytes it has
   module _ {mid : List ℕ} (k : ℕ) (inside : outside seed n m p ≡ false) (h : LoadedOf (sheet_from seed n p l m) work mid) (count : k ≡ size_of (sheet_in mid)) where
@@ -42,12 +43,12 @@ module _ (seed n m p l : ℕ) (work out : List ℕ) where
         ap (λ (a : Answer Sheet). and_then a (λ s. fitting (length out) (sheet_bytes s))) (generated-sheet seed n m p l inside)
         ∙ ap (λ (s : Sheet). fitting (length out) (sheet_bytes s)) (sym h.sheet)
 
-    pub generate-short : length out < k → PartIs answer work mid out out (Refused 12 k)
+    pub generate-short : length out < k → PartIs answer work mid out out (Err (refusal 12 k))
     generate-short less =
         let bytes = sheet_bytes (sheet_in mid) in
-        part-is (refused 12 (length bytes)) (goes ∙ fits_not (length out) bytes (omega (arith, long-is))) h.long out (Refused 12 k) (ap (Refused 12) long-is) (kept out 12 (length bytes))
+        part-is (refused 12 (length bytes)) (goes ∙ fits_not (length out) bytes (omega (arith, long-is))) h.long out (Err (refusal 12 k)) (ap (λ (i : ℕ). Err (refusal 12 i)) long-is) (kept out 12 (length bytes))
 
-    pub generate-done : k ≤ length out → (out' : List ℕ) → out' ≡ stored out 0 (sheet_bytes (sheet_in mid)) → PartIs answer work mid out out' (Done k)
+    pub generate-done : k ≤ length out → (out' : List ℕ) → out' ≡ stored out 0 (sheet_bytes (sheet_in mid)) → PartIs answer work mid out out' (Ok k)
     generate-done room out' put =
         let bytes = sheet_bytes (sheet_in mid) in
-        part-is (value bytes) (goes ∙ fits-well (length out) bytes (omega (arith, long-is))) h.long out' (Done k) (ap Done long-is) (put ∙ front out bytes)
+        part-is (value bytes) (goes ∙ fits-well (length out) bytes (omega (arith, long-is))) h.long out' (Ok k) (ap Ok long-is) (put ∙ front out bytes)

@@ -1,6 +1,5 @@
 -- The laws of `entry_points`.
 pub mod Opening
-pub mod Told
 pub mod Generating
 pub mod Bundling
 pub mod Running

@@ -1,6 +1,12 @@
 -- From the checker and the machine to the ends of their functions.
+use Rattle.std.specs.Prelude.{⊤, Result, Ok, Err}
+use Rattle.refusals.specs.declared.Refusal.{Refusal}
+use Rattle.refusals.proofs.Results.{refused-by, value-by}
+use Rattle.bundle_reader.specs.Answers.{outline_of}
+use Rattle.bundle_reader.specs.declared.bytes.Outline.{Outline}
+use Rattle.checker.proofs.Verdicts.{good-value, refused-value}
 use Prim.Native.Nat.{ℕ, ◌%◌, ◌≤◌, ◌<◌}
-use mathlib.Core.Path.{◌≡◌, refl, sym, ap, subst, ◌∙◌}
+use mathlib.Core.Path.{◌≡◌, sym, ap, subst, ◌∙◌}
 use mathlib.Core.List.{List, [], ◌∷◌}
 use native.Mathlib.Omega.{arith}
 use native.Mathlib.Nat.{zero-add}
@@ -11,8 +17,6 @@ use Rattle.folds.proofs.Tests.{not-value}
 use Rattle.workspace.specs.Area.{fixed}
 use Rattle.sheet.specs.Sheet.{Sheet}
 use Rattle.bundle.specs.Bundle.{Bundle}
-use Rattle.admission.specs.declared.Judged.{Judged}
-use Rattle.admission.specs.declared.Judged.TheVariants as judged
 use Rattle.machine.specs.Machine.{State, Processor, fresh_state, fresh_processor, processor_of}
 use Rattle.machine.specs.Runs.{fresh_run, run_of}
 use Rattle.machine.specs.Kept.{RunIs}
@@ -20,48 +24,38 @@ use Rattle.stepping_machine.specs.Represents.{Represents, ClockIs, PositionIs, S
 use Rattle.stepping_machine.specs.Starts.{starting, started_of, BytesIs}
 use Rattle.checker.specs.Checker.{check}
 use Rattle.checker.specs.Verdicts as checker
-use Rattle.checker.specs.declared.Verdict.{Verdict}
-use Rattle.checker.specs.declared.Verdict.TheVariants as verdicts
 use Rattle.entry_points.specs.Values.{no_place}
 use Rattle.entry_points.specs.Values.{stepped_in}
 use Rattle.entry_points.specs.Parts.{outcome_of, EndIs, StateIs, NumbersIs}
-use Rattle.entry_points.specs.declared.ending.Outcome.{Outcome}
-use Rattle.entry_points.specs.declared.ending.Outcome.TheVariants as ends
 
 -- how the checker ended, by its answer
-module _ (sheet bundle work mid : List ℕ) {v : Verdict} (h : checker.BytesIs sheet bundle work mid v) where
-  verdict : (a : Answer Bundle) (o : Outcome) → v ≡ checker.verdict_of a → v ≡ verdicts.Good → o ≡ ends.Done 0 → o ≡ outcome_of no_place a
-  verdict (value b) o e q z = z
-  verdict (refused n at) o e q z = let y : ◌≡◌ {A = ℕ} 0 1 = cc in absurd (omega arith)
+module _ (sheet bundle work mid : List ℕ) {v : Result ⊤ Refusal} (h : checker.BytesIs sheet bundle work mid v) where
+  pub check-good : v ≡ Ok tt → EndIs no_place (check sheet bundle) work mid (Ok 0)
+  check-good q =
+      let a = good-value (check sheet bundle) (sym q ∙ h.is) in
+      record { answer = sym (ap (outcome_of no_place) a.1); long = h.long }
 
-  refusal : (a : Answer Bundle) (r at : ℕ) → v ≡ checker.verdict_of a → v ≡ verdicts.Refused r at → ends.Refused r at ≡ outcome_of no_place a
-  refusal (value b) r at e q = let y : ◌≡◌ {A = ℕ} 0 1 = cc in absurd (omega arith)
-  refusal (refused n e) r at f q = let x : r ≡ n = cc in let y : at ≡ e = cc in ap (λ (i : ℕ). ends.Refused i at) x ∙ ap (ends.Refused n) y
-
-  pub check-good : v ≡ verdicts.Good → EndIs no_place (check sheet bundle) work mid (ends.Done 0)
-  check-good q = record { answer = verdict (check sheet bundle) (ends.Done 0) h.is q refl; long = h.long }
-
-  pub check-refused : (r at : ℕ) → v ≡ verdicts.Refused r at → EndIs no_place (check sheet bundle) work mid (ends.Refused r at)
-  check-refused r at q = record { answer = refusal (check sheet bundle) r at h.is q; long = h.long }
+  pub check-refused : (r : Refusal) → v ≡ Err r → EndIs no_place (check sheet bundle) work mid (Err r)
+  check-refused r q =
+      let a = refused-value (check sheet bundle) r (sym q ∙ h.is) in
+      record { answer = sym (ap (outcome_of no_place) a); long = h.long }
 
 -- how the start ended, by its answer
-started-refused : (a : Answer (Sheet × Bundle)) (r at : ℕ) → judged.Refused r at ≡ started_of a → a ≡ refused r at
-started-refused (value x) r at e = let z : ◌≡◌ {A = ℕ} 0 1 = cc in absurd (omega arith)
-started-refused (refused n e) r at q = let x : r ≡ n = cc in let y : at ≡ e = cc in sym (ap (λ (i : ℕ). refused i at) x ∙ ap (refused n) y)
+started-refused : (a : Answer (Sheet × Bundle)) (r : Refusal) → Err r ≡ started_of a → a ≡ refused r.number r.place
+started-refused a r e = refused-by (λ x. outline_of x.1) a r e
 
-started-value : (a : Answer (Sheet × Bundle)) (m c t : ℕ) → judged.Fit m c t ≡ started_of a → (s : Sheet) × (b : Bundle) × (a ≡ value (s, b))
-started-value (value x) m c t e = (x.0, x.1, refl)
-started-value (refused n at) m c t e = let z : ◌≡◌ {A = ℕ} 0 1 = cc in absurd (omega arith)
+started-value : (a : Answer (Sheet × Bundle)) (u : Outline) → Ok u ≡ started_of a → (s : Sheet) × (b : Bundle) × (a ≡ value (s, b))
+started-value a u e = let v = value-by (λ x. outline_of x.1) a u e in (v.x.0, v.x.1, v.value)
 
 same-pair : {s t : Sheet} {b c : Bundle} → ◌≡◌ {A = Answer (Sheet × Bundle)} (value (s, b)) (value (t, c)) → (s ≡ t) × (b ≡ c)
 same-pair {s} {t} {b} {c} e =
     let p : ◌≡◌ {A = Sheet × Bundle} (s, b) (t, c) = cc in
     (ap (λ (x : Sheet × Bundle). x.0) p, ap (λ (x : Sheet × Bundle). x.1) p)
 
-module _ (sheet bundle work mid state last : List ℕ) {j : Judged} (h : BytesIs sheet bundle work mid state last j) where
-  pub state-refused : (f : Sheet × Bundle → ℕ) (τ : Sheet → Bundle → State) (r at : ℕ) → j ≡ judged.Refused r at → StateIs f τ sheet bundle work mid state last (ends.Refused r at)
-  state-refused f τ r at e =
-      let a = started-refused (starting sheet bundle) r at (sym e ∙ h.is) in
+module _ (sheet bundle work mid state last : List ℕ) {j : Result Outline Refusal} (h : BytesIs sheet bundle work mid state last j) where
+  pub state-refused : (f : Sheet × Bundle → ℕ) (τ : Sheet → Bundle → State) (r : Refusal) → j ≡ Err r → StateIs f τ sheet bundle work mid state last (Err r)
+  state-refused f τ r e =
+      let a = started-refused (starting sheet bundle) r (sym e ∙ h.is) in
       record {
         answer = sym (ap (outcome_of f) a);
         long = h.long;
@@ -70,9 +64,9 @@ module _ (sheet bundle work mid state last : List ℕ) {j : Judged} (h : BytesIs
         keeps = λ enough s b q. not-value (sym a ∙ q);
       }
 
-  pub state-fresh : (m c t : ℕ) → j ≡ judged.Fit m c t → StateIs (λ x. 0) fresh_state sheet bundle work mid state last (ends.Done 0)
-  state-fresh m c t e =
-      let a = started-value (starting sheet bundle) m c t (sym e ∙ h.is) in
+  pub state-fresh : (u : Outline) → j ≡ Ok u → StateIs (λ x. 0) fresh_state sheet bundle work mid state last (Ok 0)
+  state-fresh u e =
+      let a = started-value (starting sheet bundle) u (sym e ∙ h.is) in
       record {
         answer = sym (ap (outcome_of (λ (x : Sheet × Bundle). 0)) a.2);
         long = h.long;
@@ -81,14 +75,14 @@ module _ (sheet bundle work mid state last : List ℕ) {j : Judged} (h : BytesIs
         keeps = λ enough. h.represents;
       }
 
-  pub state-ran : fixed ≤ length state → (choices final : List ℕ) (n m c t : ℕ) → j ≡ judged.Fit m c t → RunIs Represents choices last final n
-      → StateIs (stepped_in choices) (λ s b. (run_of s b choices).state) sheet bundle work mid state final (ends.Done n)
+  pub state-ran : fixed ≤ length state → (choices final : List ℕ) (n : ℕ) (u : Outline) → j ≡ Ok u → RunIs Represents choices last final n
+      → StateIs (stepped_in choices) (λ s b. (run_of s b choices).state) sheet bundle work mid state final (Ok n)
   unfolding run_of
-  state-ran long choices final n m c t e g =
-      let a = started-value (starting sheet bundle) m c t (sym e ∙ h.is) in
+  state-ran long choices final n u e g =
+      let a = started-value (starting sheet bundle) u (sym e ∙ h.is) in
       let k = g.agrees a.0 a.1 (fresh_run a.0 a.1) (h.represents a.0 a.1 a.2) in
       record {
-        answer = ap ends.Done (sym (zero-add n) ∙ k.0) ∙ sym (ap (outcome_of (stepped_in choices)) a.2);
+        answer = ap Ok (sym (zero-add n) ∙ k.0) ∙ sym (ap (outcome_of (stepped_in choices)) a.2);
         long = h.long;
         state_long = g.long ∙ h.state_long;
         untouched = λ r at q. not-value (sym q ∙ a.2);

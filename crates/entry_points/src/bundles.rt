@@ -10,15 +10,10 @@ ghost use Rattle.releasing.specs.Passing.{pass};
 ghost use Rattle.entry_points.specs.Values.{no_place};
 ghost use Rattle.entry_points.specs.Parts.{EndIs, PartIs, BundleIs};
 
-use crate::ending::Outcome;
-use bundle_writer::values::Copied;
-use bundle_writer::writer::Judged;
 use bundle_writer::{values, writer};
-use checker::Verdict;
 use levelling::open;
-use releasing::Written;
+use refusals::Refusal;
 use sheet::tables;
-use sheet_reader::Reading;
 
 // The values of a bundle.
 pub fn read(
@@ -27,25 +22,17 @@ pub fn read(
     work: &mut [u32],
     commands: &mut [u16],
     claim: &mut u32,
-) -> Outcome
+) -> Result<usize, Refusal>
     requires { fixed ≤ length work.old }
     ensures { BundleIs (and_then (read_sheet sheet.now) (λ s. and_then (read_bundle s bundle.now) (λ b. and_then (fitting (length commands.old) (bundle_values b)) (λ v. value b)))) work.old work.new commands.old commands.new claim.old claim.new result }
 {
-    match open::read(sheet, work) {
-        Reading::Refused(r, at) => Outcome::Refused(r, at),
-        Reading::Read => {
-            let p = tables::processors(work);
-            let t = tables::tasks(work);
-            let l = tables::links(work);
-            match values::read_values(bundle, p, t, l, work, commands) {
-                Copied::Refused(r, at) => Outcome::Refused(r, at),
-                Copied::Values(n, c) => {
-                    *claim = c;
-                    Outcome::Done(n)
-                }
-            }
-        }
-    }
+    open::read(sheet, work)?;
+    let p = tables::processors(work);
+    let t = tables::tasks(work);
+    let l = tables::links(work);
+    let copied = values::read_values(bundle, p, t, l, work, commands)?;
+    *claim = copied.claim;
+    Ok(copied.values)
 }
 
 // The bytes of a bundle that is given by its values.
@@ -55,42 +42,35 @@ pub fn write(
     claim: u32,
     work: &mut [u32],
     out: &mut [u8],
-) -> Outcome
+) -> Result<usize, Refusal>
     requires { fixed ≤ length work.old }
     ensures { PartIs (and_then (read_sheet sheet.now) (λ s. and_then (read_bundle s (value_bytes commands.now claim)) (λ b. fitting (length out.old) (value_bytes commands.now claim)))) work.old work.new out.old out.new result }
 {
-    match open::read(sheet, work) {
-        Reading::Refused(r, at) => Outcome::Refused(r, at),
-        Reading::Read => {
-            let p = tables::processors(work);
-            let t = tables::tasks(work);
-            let l = tables::links(work);
-            match writer::write(commands, claim, p, t, l, out) {
-                Judged::Refused(r, at) => Outcome::Refused(r, at),
-                Judged::Long(n) => Outcome::Done(n),
-            }
-        }
-    }
+    open::read(sheet, work)?;
+    let p = tables::processors(work);
+    let t = tables::tasks(work);
+    let l = tables::links(work);
+    writer::write(commands, claim, p, t, l, out)
 }
 
 // What the checker says of a bundle.
-pub fn check(sheet: &[u8], bundle: &[u8], work: &mut [u32]) -> Outcome
+pub fn check(sheet: &[u8], bundle: &[u8], work: &mut [u32]) -> Result<usize, Refusal>
     requires { fixed ≤ length work.old }
     ensures { EndIs no_place (check sheet.now bundle.now) work.old work.new result }
 {
-    match checker::bytes::check(sheet, bundle, work) {
-        Verdict::Refused(r, at) => Outcome::Refused(r, at),
-        Verdict::Good => Outcome::Done(0),
-    }
+    checker::bytes::check(sheet, bundle, work)?;
+    Ok(0)
 }
 
 // The bytes of an accepted bundle with its releases.
-pub fn release(sheet: &[u8], bundle: &[u8], work: &mut [u32], out: &mut [u8]) -> Outcome
+pub fn release(
+    sheet: &[u8],
+    bundle: &[u8],
+    work: &mut [u32],
+    out: &mut [u8],
+) -> Result<usize, Refusal>
     requires { fixed ≤ length work.old }
     ensures { PartIs (and_then (pass sheet.now bundle.now) (fitting (length out.old))) work.old work.new out.old out.new result }
 {
-    match releasing::passes::release(sheet, bundle, work, out) {
-        Written::Refused(r, at) => Outcome::Refused(r, at),
-        Written::Long(n) => Outcome::Done(n),
-    }
+    releasing::passes::release(sheet, bundle, work, out)
 }

@@ -7,39 +7,28 @@ ghost use Rattle.listing.specs.Listing.{listing};
 ghost use Rattle.least.specs.Least.{least_bundle};
 ghost use Rattle.entry_points.specs.Parts.{PartIs};
 
-use crate::ending::Outcome;
-use bundle_writer::writer::Judged;
-use listing_writer::Listed;
+use refusals::Refusal;
 
 // The bundle of a sheet's plan.
-pub fn write(sheet: &[u8], work: &mut [u32], out: &mut [u8]) -> Outcome
+pub fn write(sheet: &[u8], work: &mut [u32], out: &mut [u8]) -> Result<usize, Refusal>
     requires { fixed ≤ length work.old }
     ensures { PartIs (and_then (plan sheet.now) (fitting (length out.old))) work.old work.new out.old out.new result }
 {
-    match plan_writer::whole::plan(sheet, work, out) {
-        Judged::Refused(r, at) => Outcome::Refused(r, at),
-        Judged::Long(n) => Outcome::Done(n),
-    }
+    plan_writer::whole::plan(sheet, work, out)
 }
 
 // The listing of a sheet's plan, or of its refusal.
-pub fn list(sheet: &[u8], work: &mut [u32], out: &mut [u8]) -> Outcome
+pub fn list(sheet: &[u8], work: &mut [u32], out: &mut [u8]) -> Result<usize, Refusal>
     requires { fixed ≤ length work.old }
     ensures { PartIs (fitting (length out.old) (listing sheet.now)) work.old work.new out.old out.new result }
 {
-    match listing_writer::list(sheet, work, out) {
-        Listed::Short(n) => Outcome::Refused(12, n),
-        Listed::Long(n) => Outcome::Done(n),
-    }
+    listing_writer::list(sheet, work, out)
 }
 
 // The bundle of a small sheet's least time.
-pub fn least(sheet: &[u8], work: &mut [u32], out: &mut [u8]) -> Outcome
+pub fn least(sheet: &[u8], work: &mut [u32], out: &mut [u8]) -> Result<usize, Refusal>
     requires { fixed ≤ length work.old }
     ensures { PartIs (and_then (least_bundle sheet.now) (fitting (length out.old))) work.old work.new out.old out.new result }
 {
-    match search::whole::least(sheet, work, out) {
-        Judged::Refused(r, at) => Outcome::Refused(r, at),
-        Judged::Long(n) => Outcome::Done(n),
-    }
+    search::whole::least(sheet, work, out)
 }

@@ -5,16 +5,17 @@ ghost use Rattle.workspace.specs.Area.{fixed};
 ghost use Rattle.drift.specs.Reporting.{report};
 ghost use Rattle.entry_points.specs.Parts.{PartIs};
 
-use crate::ending::Outcome;
-use workspace::answers::Written;
+use refusals::Refusal;
 
 // Four bytes for each task of an accepted bundle: how far its work may grow.
-pub fn drift(sheet: &[u8], bundle: &[u8], work: &mut [u32], out: &mut [u8]) -> Outcome
+pub fn drift(
+    sheet: &[u8],
+    bundle: &[u8],
+    work: &mut [u32],
+    out: &mut [u8],
+) -> Result<usize, Refusal>
     requires { fixed ≤ length work.old }
     ensures { PartIs (and_then (report sheet.now bundle.now) (fitting (length out.old))) work.old work.new out.old out.new result }
 {
-    match drift::reports::report(sheet, bundle, work, out) {
-        Written::Refused(r, at) => Outcome::Refused(r, at),
-        Written::Long(n) => Outcome::Done(n),
-    }
+    drift::reports::report(sheet, bundle, work, out)
 }

@@ -6,19 +6,21 @@ ghost use Rattle.machine.specs.Runs.{run_of};
 ghost use Rattle.entry_points.specs.Values.{stepped_in};
 ghost use Rattle.entry_points.specs.Parts.{StateIs, NumbersIs};
 
-use crate::ending::Outcome;
-use admission::Judged;
+use refusals::Refusal;
 
 // The fresh state.
-pub fn start(sheet: &[u8], bundle: &[u8], work: &mut [u32], state: &mut [u32]) -> Outcome
+pub fn start(
+    sheet: &[u8],
+    bundle: &[u8],
+    work: &mut [u32],
+    state: &mut [u32],
+) -> Result<usize, Refusal>
     requires fixed_in_bounds { fixed ≤ length work.old }
     requires fixed_in_bounds_2 { fixed ≤ length state.old }
     ensures { StateIs (λ x. 0) fresh_state sheet.now bundle.now work.old work.new state.old state.new result }
 {
-    match stepping_machine::start::start(sheet, bundle, work, state) {
-        Judged::Refused(r, at) => Outcome::Refused(r, at),
-        Judged::Fit(_, _, _) => Outcome::Done(0),
-    }
+    stepping_machine::start::start(sheet, bundle, work, state)?;
+    Ok(0)
 }
 
 // The state after a list of choices, and how many of them stepped.
@@ -28,15 +30,13 @@ pub fn run(
     choices: &[u8],
     work: &mut [u32],
     state: &mut [u32],
-) -> Outcome
+) -> Result<usize, Refusal>
     requires fixed_in_bounds { fixed ≤ length work.old }
     requires fixed_in_bounds_2 { fixed ≤ length state.old }
     ensures { StateIs (stepped_in choices.now) (λ s b. (run_of s b choices.now).state) sheet.now bundle.now work.old work.new state.old state.new result }
 {
-    match stepping_machine::start::start(sheet, bundle, work, state) {
-        Judged::Refused(r, at) => Outcome::Refused(r, at),
-        Judged::Fit(_, _, _) => Outcome::Done(stepping_machine::steps::run_all(choices, state)),
-    }
+    stepping_machine::start::start(sheet, bundle, work, state)?;
+    Ok(stepping_machine::steps::run_all(choices, state))
 }
 
 // Clock, position and store in use of processor k.

@@ -1,6 +1,5 @@
 // The sheet's side of the interface, behind the test of the work area.
 ghost use Rattle.std.specs.Prelude.{◌≡◌, ◌+◌, ◌*◌, ◌≤◌, ◌<◌, length};
-ghost use Rattle.folds.specs.Folds.{pick};
 ghost use Rattle.folds.specs.Answers.{and_then, fitting};
 ghost use Rattle.numbers.specs.Number.{stored};
 ghost use Rattle.workspace.specs.Area.{fixed};
@@ -13,11 +12,10 @@ ghost use Rattle.levelling.specs.Found.{Levelled};
 ghost use Rattle.entry_points.specs.Values.{levels_of, tabled, board_of};
 ghost use Rattle.entry_points.specs.Parts.{PartIs, SheetIs};
 
-use crate::ending::Outcome;
 use generator::{bytes, loads};
 use levelling::open;
+use refusals::Refusal;
 use sheet::{LINK_SIZE, TASK_SIZE, tables};
-use sheet_reader::Reading;
 use sheet_writer::{unload, writer};
 use workspace::{LEVELS, LIMIT, LINK_COUNT, PROCESSORS, TASK_COUNT, UNPACKING};
 
@@ -29,29 +27,24 @@ fn copy_levels(w: &[u32], out: &mut [u32])
     ensures { out.new ≡ stored out.old 0 (levels_of (sheet_in w.now)) }
 {
     let n = tables::tasks(w);
-    let mut t: usize = 0;
-    while t < n {
-        out[t] = w[LEVELS + t];
-        t += 1;
-    }
+    out[..n].copy_from_slice(&w[LEVELS..LEVELS + n]);
 }
 
 // The levels of a sheet.
-pub fn levels(sheet: &[u8], work: &mut [u32], out: &mut [u32]) -> Outcome
+pub fn levels(sheet: &[u8], work: &mut [u32], out: &mut [u32]) -> Result<usize, Refusal>
     requires { fixed ≤ length work.old }
     ensures { PartIs (and_then (read_sheet sheet.now) (λ s. fitting (length out.old) (levels_of s))) work.old work.new out.old out.new result }
 {
-    match open::read(sheet, work) {
-        Reading::Refused(r, at) => Outcome::Refused(r, at),
-        Reading::Read => {
-            let n = tables::tasks(work);
-            if out.len() < n {
-                return Outcome::Refused(12, n);
-            }
-            copy_levels(work, out);
-            Outcome::Done(n)
-        }
+    open::read(sheet, work)?;
+    let n = tables::tasks(work);
+    if out.len() < n {
+        return Err(Refusal {
+            number: 12,
+            place: n,
+        });
     }
+    copy_levels(work, out);
+    Ok(n)
 }
 
 // The bytes of a sheet that is given by its values.
@@ -64,23 +57,22 @@ pub fn write(
     links: &[u16],
     work: &mut [u32],
     out: &mut [u8],
-) -> Outcome
+) -> Result<usize, Refusal>
     requires { fixed ≤ length work.old }
     ensures { PartIs (and_then (read_sheet (value_bytes processors limit unpacking (cube_of cube) tasks.now links.now)) (λ s. fitting (length out.old) (value_bytes processors limit unpacking (cube_of cube) tasks.now links.now))) work.old work.new out.old out.new result }
 {
-    match open::load(processors, limit, unpacking, cube, tasks, links, work) {
-        Reading::Refused(r, at) => Outcome::Refused(r, at),
-        Reading::Read => {
-            let wired = cube != 0;
-            let start = sheet::front(unpacking as usize, wired);
-            let need = start + TASK_SIZE * (tasks.len() / 2) + LINK_SIZE * (links.len() / 4) + 1;
-            if out.len() < need {
-                return Outcome::Refused(12, need);
-            }
-            writer::put_sheet(out, processors, limit, unpacking, wired, tasks, links);
-            Outcome::Done(need)
-        }
+    open::load(processors, limit, unpacking, cube, tasks, links, work)?;
+    let wired = cube != 0;
+    let start = sheet::front(unpacking as usize, wired);
+    let need = start + TASK_SIZE * (tasks.len() / 2) + LINK_SIZE * (links.len() / 4) + 1;
+    if out.len() < need {
+        return Err(Refusal {
+            number: 12,
+            place: need,
+        });
     }
+    writer::put_sheet(out, processors, limit, unpacking, wired, tasks, links);
+    Ok(need)
 }
 
 // The bytes of the sheet that a seed gives.
@@ -92,34 +84,29 @@ pub fn generate(
     limit: u32,
     work: &mut [u32],
     out: &mut [u8],
-) -> Outcome
+) -> Result<usize, Refusal>
     requires { fixed ≤ length work.old }
     ensures { PartIs (and_then (generated seed tasks tries processors limit) (λ s. fitting (length out.old) (sheet_bytes s))) work.old work.new out.old out.new result }
 {
     if loads::are_outside(seed, tasks, tries, processors) {
-        return Outcome::Refused(6, 0);
+        return Err(Refusal {
+            number: 6,
+            place: 0,
+        });
     }
     loads::fill(seed, tasks, tries, processors, limit, work);
     let need = bytes::byte_count(work);
     if out.len() < need {
-        return Outcome::Refused(12, need);
+        return Err(Refusal {
+            number: 12,
+            place: need,
+        });
     }
     bytes::put_sheet(work, out);
-    Outcome::Done(need)
+    Ok(need)
 }
 
-// 1 for a cube.
-fn cube_word(w: &[u32]) -> u32
-    requires { Loaded w.now }
-    ensures { result ≡ pick (sheet_in w.now).cube 1 0 }
-{
-    if tables::cube(w) {
-        return 1;
-    }
-    0
-}
-
-// Processors, limit, tasks, links, the unpacking time, and whether the board is a cube.
+// Processors, limit, tasks, links, the unpacking time, and 1 for a cube.
 fn put_board(w: &[u32], board: &mut [u32; 6])
     requires { Loaded w.now }
     ensures { board.new ≡ board_of (sheet_in w.now) }
@@ -130,7 +117,7 @@ fn put_board(w: &[u32], board: &mut [u32; 6])
         w[TASK_COUNT],
         w[LINK_COUNT],
         w[UNPACKING],
-        cube_word(w),
+        u32::from(tables::cube(w)),
     ];
 }
 
@@ -141,25 +128,27 @@ pub fn read(
     tasks: &mut [u16],
     links: &mut [u16],
     board: &mut [u32; 6],
-) -> Outcome
+) -> Result<usize, Refusal>
     requires { fixed ≤ length work.old }
     ensures { SheetIs (and_then (read_sheet sheet.now) (tabled (length tasks.old) (length links.old))) work.old work.new tasks.old tasks.new links.old links.new board.old board.new result }
 {
-    match open::read(sheet, work) {
-        Reading::Refused(r, at) => Outcome::Refused(r, at),
-        Reading::Read => {
-            let n = 2 * tables::tasks(work);
-            if tasks.len() < n {
-                return Outcome::Refused(12, n);
-            }
-            let m = 4 * tables::links(work);
-            if links.len() < m {
-                return Outcome::Refused(12, m);
-            }
-            unload::tasks(work, tasks);
-            unload::links(work, links);
-            put_board(work, board);
-            Outcome::Done(0)
-        }
+    open::read(sheet, work)?;
+    let n = 2 * tables::tasks(work);
+    if tasks.len() < n {
+        return Err(Refusal {
+            number: 12,
+            place: n,
+        });
     }
+    let m = 4 * tables::links(work);
+    if links.len() < m {
+        return Err(Refusal {
+            number: 12,
+            place: m,
+        });
+    }
+    unload::tasks(work, tasks);
+    unload::links(work, links);
+    put_board(work, board);
+    Ok(0)
 }

@@ -9,7 +9,6 @@ use lib.ListN.{length, length-append}
 use lib.Dec.{ltb}
 use borrow.Author.Tests.{ltb-true}
 use Rattle.folds.specs.Folds.{pick}
-use Rattle.folds.specs.Answers.{written}
 use Rattle.formulas.specs.Grammar.{Sum, Product, Atom, number, letter, group, sum_text, product_text, atom_text, Kind, digit, small, adds, multiplies, opens, shuts, other, kind_of, Digits, SumFits, ProductFits, AtomFits, Reading, closer, most_digits, most_open, opener, plus_sign, times_sign}
 use Rattle.formulas.specs.Scanning.{Spot, times_to, plus_to, product_at, sum_at, State, want, have, longer, having, opening, shutting, step_by, whole, ended, reads, stops, scan, start, read_text}
 use Rattle.formulas.proofs.Bytes.{Match, matches}

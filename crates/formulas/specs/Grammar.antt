@@ -1,5 +1,5 @@
 -- The grammar of formulas: what a formula is made of, how it is written, and which are allowed. A reading of a text is an allowed formula that is written so.
-use Rattle.std.specs.Prelude.{ℕ, zero, suc, ◌≤◌, Bool, ◌≡◌, List, [], ◌∷◌, ◌++◌, length, leb, eqb}
+use Rattle.std.specs.Prelude.{ℕ, suc, ◌≤◌, Bool, ◌≡◌, List, [], ◌∷◌, ◌++◌, length, leb, eqb}
 use Rattle.folds.specs.Folds.{pick, both}
 
 -- "decimal numbers of one to ten digits"

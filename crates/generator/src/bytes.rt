@@ -6,7 +6,7 @@ ghost use Rattle.sheet.specs.Sizes.{task_size, link_size, size_of};
 ghost use Rattle.sheet.specs.Writing.{link_command, task_command, task_bytes, link_bytes, sheet_bytes};
 ghost use Rattle.sheet.specs.Tables.{link_in, task_in, sheet_in, Loaded};
 
-use sheet::{LINK_SIZE, TASK_SIZE, tables};
+use sheet::{END_BYTE, LINK_SIZE, TASK_SIZE, tables};
 use sheet_writer::writer;
 
 // Task i at its place.
@@ -26,11 +26,8 @@ fn put_tasks(w: &[u32], out: &mut [u8])
     requires w_in_bounds { task_size * task_count (sheet_in w.now) ≤ length out.old }
     ensures { out.new ≡ stored out.old 0 (task_bytes (sheet_in w.now).tasks) }
 {
-    let n = tables::tasks(w);
-    let mut i = 0;
-    while i < n {
+    for i in 0..tables::tasks(w) {
         put_task(w, i, out);
-        i += 1;
     }
 }
 
@@ -53,11 +50,8 @@ fn put_links(w: &[u32], out: &mut [u8])
     requires w_in_bounds { link_size * link_count (sheet_in w.now) ≤ length out.old }
     ensures { out.new ≡ stored out.old 0 (link_bytes (sheet_in w.now).links) }
 {
-    let m = tables::links(w);
-    let mut l = 0;
-    while l < m {
+    for l in 0..tables::links(w) {
         put_link(w, l, out);
-        l += 1;
     }
 }
 
@@ -87,5 +81,5 @@ pub fn put_sheet(w: &[u32], out: &mut [u8])
     let at = start + TASK_SIZE * tables::tasks(w);
     put_links(w, &mut out[at..]);
     let end = at + LINK_SIZE * tables::links(w);
-    out[end] = 0x51;
+    out[end] = END_BYTE;
 }

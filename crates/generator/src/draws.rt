@@ -37,7 +37,7 @@ pub fn next(d: Draws) -> Draws
 {
     Draws {
         shifted: shift(d.shifted),
-        grown: std::num::wrapping_add_u32(d.grown, GROWTH),
+        grown: d.grown.wrapping_add(GROWTH),
     }
 }
 
@@ -45,5 +45,5 @@ pub fn next(d: Draws) -> Draws
 pub fn draw(d: Draws) -> u32
     ensures { result ≡ draw_of d }
 {
-    std::num::wrapping_add_u32(d.shifted, d.grown)
+    d.shifted.wrapping_add(d.grown)
 }

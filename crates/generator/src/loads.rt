@@ -14,22 +14,7 @@ use sheet::{pairs, tables};
 pub fn are_outside(seed: u32, tasks: u32, tries: u32, processors: u32) -> bool
     ensures { result ≡ outside seed tasks tries processors }
 {
-    if seed == 0 {
-        return true;
-    }
-    if tasks < 1 {
-        return true;
-    }
-    if 256 < tasks {
-        return true;
-    }
-    if 1024 < tries {
-        return true;
-    }
-    if processors < 1 {
-        return true;
-    }
-    16 < processors
+    seed == 0 || tasks < 1 || 256 < tasks || 1024 < tries || processors < 1 || 16 < processors
 }
 
 // Task i by the two draws behind d, which are its work's and its store's; the states behind them.
@@ -52,10 +37,8 @@ fn put_tasks(seed: u32, tasks: usize, processors: u8, limit: u32, w: &mut [u32])
 {
     tables::put_board(w, processors, limit);
     let mut d = draws::start(seed);
-    let mut i = 0;
-    while i < tasks {
+    for i in 0..tasks {
         d = add_task(d, i, w);
-        i += 1;
     }
     d
 }
@@ -105,9 +88,7 @@ pub fn fill(seed: u32, tasks: u32, tries: u32, processors: u32, limit: u32, w: &
     let n = tasks as usize;
     let mut d = put_tasks(seed, n, processors as u8, limit, w);
     pairs::blank(w, n);
-    let mut j = 0;
-    while j < tries {
+    for _j in 0..tries {
         d = add_try(d, tasks, w);
-        j += 1;
     }
 }

@@ -13,8 +13,8 @@ use Rattle.bundle.specs.Writing.{bundle_bytes}
 use Rattle.better.specs.Orders.{by_number, by_bytes, by_rank}
 use Rattle.better.specs.Ranks.{runners}
 use Rattle.better.specs.Choices as choices
-use Rattle.better.specs.declared.order.Order.{Order}
-use Rattle.better.specs.declared.order.Order.TheVariants.{Less, Equal, Greater}
+use Rattle.std.specs.declared.cmp.Ordering.{Ordering as Order}
+use Rattle.std.specs.declared.cmp.Ordering.TheVariants.{Less, Equal, Greater}
 use Rattle.better.proofs.Chains.{turned, Ordered, ranked-by, bytes, bytes_same, rank_same, strict}
 use Rattle.least.specs.Ranking.{rank, order, choice, is_less, ahead, lower}
 

@@ -5,7 +5,7 @@ use Rattle.sheet.specs.Sheet.{Sheet, task_count}
 use Rattle.bundle.specs.Bundle.{Bundle}
 use Rattle.bundle.specs.Writing.{bundle_bytes}
 use Rattle.checker.specs.Checker.{check}
-use Rattle.better.specs.declared.order.Order.TheVariants.{Less}
+use Rattle.std.specs.declared.cmp.Ordering.TheVariants.{Less}
 use Rattle.least.specs.Written.{Written, NoRelease}
 use Rattle.least.specs.Ranking.{order}
 use Rattle.least.specs.Least.{most, least_time}

@@ -5,8 +5,8 @@ use Rattle.bundle.specs.Writing.{bundle_bytes}
 use Rattle.better.specs.Orders.{Rank, by_bytes, by_rank}
 use Rattle.better.specs.Ranks.{runners}
 use Rattle.better.specs.Choices.{chosen_by}
-use Rattle.better.specs.declared.order.Order.{Order}
-use Rattle.better.specs.declared.order.Order.TheVariants.{Less, Equal, Greater}
+use Rattle.std.specs.declared.cmp.Ordering.{Ordering as Order}
+use Rattle.std.specs.declared.cmp.Ordering.TheVariants.{Less, Equal, Greater}
 
 abbrev pub rank : Bundle → Rank
 rank b = record { claim = b.claim; runners = runners b; bytes = bundle_bytes b }

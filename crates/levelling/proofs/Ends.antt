@@ -22,8 +22,8 @@ use Rattle.topological_order.specs.Peeling.{due_by, level_in, Peeled}
 use Rattle.topological_order.specs.Steps.{Ordered, AllTaken}
 use Rattle.workspace.specs.Found.{found_of}
 use Rattle.levelling.specs.Found.{Levelled, LevelsAre}
-use Rattle.workspace.specs.declared.total.Found.{Found}
-use Rattle.workspace.specs.declared.total.Found.TheVariants.{Nothing}
+use Rattle.workspace.specs.Found.{Found}
+use Rattle.std.specs.Prelude.{None}
 use Rattle.graph.proofs.Reaches.{Declared}
 use Rattle.graph.proofs.Ranks.{Ranked, Solved, ranked-none, rank_of, none-ranked, level-is}
 use Rattle.topological_order.proofs.Frames.{only_kept, kept-held, kept-sheet, outside-held, outside-own, loaded-declared, outside-chained}
@@ -115,7 +115,7 @@ find-goes {w} {w₁} {w₂} h d b =
     (outside-held q.0 b, outside-own (λ (s : Sheet). Chained Target s w₂) q.0 b (chain-here q.0 q.1.1 b))
 
 pub levels-free : {w w₁ w₂ : List ℕ} {k n : ℕ} → Held w → Only levels_at opened_at w w₁ × (Chained Source (sheet_in w) w₁ × Chained Target (sheet_in w) w₁)
-    → Outside w₁ w₂ → AllTaken (sheet_in w₁) k w₂ → n ≡ task_count (sheet_in w₂) → k ≡ n → LevelsAre w w₂ Nothing
+    → Outside w₁ w₂ → AllTaken (sheet_in w₁) k w₂ → n ≡ task_count (sheet_in w₂) → k ≡ n → LevelsAre w w₂ None
 levels-free {w} {w₁} {w₂} {k} {n} h c b d e q =
     let kept : Only levels_at opened_at w w₂ = only-trans c.0 b.kept in
     let p : AllTaken (sheet_in w) k w₂ = subst (λ (s : Sheet). AllTaken s k w₂) (kept-sheet h c.0) d in

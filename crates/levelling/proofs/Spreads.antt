@@ -8,7 +8,7 @@ use mathlib.Core.List.{List}
 use native.Mathlib.Omega.{arith}
 use native.Mathlib.Decide.{dec_lt, ℕ_discrete}
 use borrow.Author.Tests.{lt-ltb}
-use lib.ListN.{length, get_or, set}
+use lib.ListN.{length, get_or}
 use Rattle.workspace.specs.Area.{fixed, marks_at, queue_at}
 use Rattle.folds.specs.Folds.{first}
 use Rattle.folds.proofs.Laws.{first_found, first-none}
@@ -19,13 +19,13 @@ use Rattle.graph.specs.Graph.{reaches, on_circle, circle}
 use Rattle.adjacency.specs.Chains.{head_of, next_of, Chained}
 use Rattle.adjacency.specs.declared.End.TheVariants.{Target}
 use Rattle.topological_order.specs.Words.{Held, Outside, place_in, Queued, pushed, done_by, done_up_to}
-use Rattle.topological_order.specs.Peeling.{Emptied, Noted, Search, Searched, Spreading}
+use Rattle.topological_order.specs.Peeling.{Counted, Emptied, Noted, Search, Searched, Spreading}
 use Rattle.levelling.specs.Found.{SpreadIs}
-use Rattle.levelling.specs.declared.search.Spread.{Spread}
-use Rattle.levelling.specs.declared.search.Spread.TheVariants.{Back, On}
+use Rattle.workspace.specs.Found.{Found}
+use Rattle.std.specs.Prelude.{Some, None}
 use Rattle.graph.proofs.Reaches.{Declared, link-reaches, reaches-along, reaches-none}
 use Rattle.topological_order.proofs.Frames.{loaded-declared, outside-sheet, outside-held, outside-none, outside_trans, outside-own, outside-from}
-use Rattle.topological_order.proofs.Places.{place-in, place-off, place-far, place_none}
+use Rattle.topological_order.proofs.Places.{place-in, place-off}
 use Rattle.topological_order.proofs.Pushes.{queued-few, queued-room, queued-push, push-here, push_else, push-outside}
 use Rattle.topological_order.proofs.Walks.{up_none, up-hop, up-end, up_same, up-late, up-else}
 use Rattle.topological_order.proofs.Starts.{queued-none, done_none}
@@ -206,20 +206,11 @@ spread-ends {w₀} {w} {goal} {v} {k} {l} h p g =
         let few = h.few_tasks in
         sym (q.search.queued.back t a (omega arith)) ∙ ap (λ (z : ℕ). get_or w (queue_at + z) 0) (x ∙ sym here) ∙ q.search.queued.back v q.task (omega arith)
 
+-- of blank marks none is of a task in the queue
+pub blank-empties : {s : Sheet} {n : ℕ} {w w' : List ℕ} → Outside w w' × Counted s n 0 w' → Outside w w' × Emptied n w'
+blank-empties b = (b.0, record { at = b.1.place })
+
 -- the search begins with the goal alone
-pub emptied-none : (w : List ℕ) → Emptied 0 w
-emptied-none w = record { at = λ t h. absurd (omega arith) }
-
-pub emptied-more : {w : List ℕ} (t : ℕ) → marks_at + t < length w → Emptied t w → Emptied (t + 1) (set w (marks_at + t) 0)
-emptied-more {w} t h d = record { at = λ u k. go u k (ℕ_discrete u t) }
-  where
-    go : (u : ℕ) → u < t + 1 → Dec (u ≡ t) → place_in (set w (marks_at + t) 0) u ≡ 256
-    go u k (yes e) = rw e (place_none w t h 0 (omega arith))
-    go u k (no e) = place-far w (marks_at + t) 0 u (λ x. e (omega arith)) ∙ d.at u (omega arith)
-
-pub emptied-at : {n t : ℕ} {w : List ℕ} → Emptied t w → t ≡ n → Emptied n w
-emptied-at {n} {t} {w} d e = subst (λ (x : ℕ). Emptied x w) e d
-
 pub search-starts : {s : Sheet} {goal : ℕ} {w w' : List ℕ} → task_count s ≤ 256 → fixed ≤ length w → goal < task_count s → Emptied (task_count s) w → w' ≡ pushed w 0 goal → Outside w w' × Searched s goal 0 1 w'
 search-starts {s} {goal} {w} {w'} few long g blank e =
     let q : Queued (task_count s) 0 w = queued-none blank.at in
@@ -297,23 +288,23 @@ look-index p h = omega (arith, queued-few p.search.queued)
 pub look-asks : {w₀ w : List ℕ} {goal i k : ℕ} → Held w₀ → Chained Target (sheet_in w₀) w₀ → Outside w₀ w → i < k → Searched (sheet_in w₀) goal i k w → Held w × (Chained Target (sheet_in w) w × ((i < k) × Searched (sheet_in w) goal i k w))
 look-asks {w₀} {w} {goal} {i} {k} h c b g p = (outside-held h b, outside-own (λ (s : Sheet). Chained Target s w × ((i < k) × Searched s goal i k w)) h b (chain-here h c b, (g, p)))
 
-pub look-back : {w₀ w w' : List ℕ} {goal i : ℕ} {r : Spread} → Held w₀ → Outside w₀ w → r ≡ Back → SpreadIs (sheet_in w) goal i w' r → true ≡ on_circle (sheet_in w₀) goal
+pub look-back : {w₀ w w' : List ℕ} {goal i : ℕ} {r : Found} → Held w₀ → Outside w₀ w → r ≡ None → SpreadIs (sheet_in w) goal i w' r → true ≡ on_circle (sheet_in w₀) goal
 look-back {w₀} {w} {w'} {goal} {i} {r} h b e p = sym (outside-from (λ (s : Sheet). on_circle s goal ≡ true) h b (p.back e))
 
-pub look-on : {w₀ w w' : List ℕ} {goal i k : ℕ} {r : Spread} → Held w₀ → Outside w₀ w → r ≡ On k → SpreadIs (sheet_in w) goal i w' r → Searched (sheet_in w₀) goal i k w'
+pub look-on : {w₀ w w' : List ℕ} {goal i k : ℕ} {r : Found} → Held w₀ → Outside w₀ w → r ≡ Some k → SpreadIs (sheet_in w) goal i w' r → Searched (sheet_in w₀) goal i k w'
 look-on {w₀} {w} {w'} {goal} {i} {k} {r} h b e p = outside-from (λ (s : Sheet). Searched s goal i k w') h b (p.on k e)
 
-pub spread-is-back : {s : Sheet} {goal i : ℕ} {w : List ℕ} → on_circle s goal ≡ true → SpreadIs s goal i w Back
+pub spread-is-back : {s : Sheet} {goal i : ℕ} {w : List ℕ} → on_circle s goal ≡ true → SpreadIs s goal i w None
 spread-is-back e = record { back = λ q. e; on = λ k q. let z : ◌≡◌ {A = ℕ} 0 1 = cc in absurd (omega arith) }
 
-pub spread-is-on : {s : Sheet} {goal i k : ℕ} {w : List ℕ} → Searched s goal i k w → SpreadIs s goal i w (On k)
+pub spread-is-on : {s : Sheet} {goal i k : ℕ} {w : List ℕ} → Searched s goal i k w → SpreadIs s goal i w (Some k)
 spread-is-on {s} {goal} {i} {k} {w} p = record { back = λ q. let z : ◌≡◌ {A = ℕ} 0 1 = cc in absurd (omega arith); on = λ j q. let z : k ≡ j = cc in subst (λ (x : ℕ). Searched s goal i x w) z p }
 
 pub look-ends : {w₀ w : List ℕ} {goal i k : ℕ} → Held w₀ → goal < task_count (sheet_in w₀) → Searched (sheet_in w₀) goal i k w → k ≤ i → false ≡ on_circle (sheet_in w₀) goal
 look-ends {w₀} {w} {goal} {i} {k} h g p l = sym (search-ends (sheet_in w₀) w goal i k (loaded-declared h.loaded) g p l)
 
 -- one step of the search, at place i of the queue
-pub look_is : {s : Sheet} {goal i j : ℕ} {w' : List ℕ} {r : Spread} → j ≡ i → SpreadIs s goal (j + 1) w' r → SpreadIs s goal (i + 1) w' r
+pub look_is : {s : Sheet} {goal i j : ℕ} {w' : List ℕ} {r : Found} → j ≡ i → SpreadIs s goal (j + 1) w' r → SpreadIs s goal (i + 1) w' r
 look_is {s} {goal} {i} {j} {w'} {r} e p = subst (λ (x : ℕ). SpreadIs s goal (x + 1) w' r) e p
 
 -- the lowest task on a circle

@@ -3,7 +3,7 @@ use Rattle.std.specs.Prelude.{ℕ, ◌+◌, ◌<◌, true, ◌≡◌, List, get_
 use Rattle.std.proofs.Math.Option.{none}
 use Rattle.workspace.specs.Area.{levels_at, opened_at}
 use Rattle.workspace.specs.Found.{found_of}
-use Rattle.workspace.specs.declared.total.Found.{Found}
+use Rattle.workspace.specs.Found.{Found}
 use Rattle.sheet.specs.Sheet.{Sheet, task_count}
 use Rattle.sheet.specs.Tables.{sheet_in}
 use Rattle.graph.specs.Graph.{on_circle, circle, level}
@@ -11,8 +11,7 @@ use Rattle.adjacency.specs.Chains.{Chained}
 use Rattle.adjacency.specs.Frames.{Only}
 use Rattle.adjacency.specs.declared.End.TheVariants.{Target}
 use Rattle.topological_order.specs.Peeling.{Searched}
-use Rattle.levelling.specs.declared.search.Spread.{Spread}
-use Rattle.levelling.specs.declared.search.Spread.TheVariants.{Back, On}
+use Rattle.std.specs.Prelude.{Some, None}
 
 -- what the search leaves where there is no circle: the level of each task, and the chains of the links into it
 pub record Levelled (s : Sheet) (w : List ℕ) : Type 0 where
@@ -25,7 +24,7 @@ pub record LevelsAre (w w' : List ℕ) (r : Found) : Type 0 where
   pub levels : circle (sheet_in w) ≡ none → Levelled (sheet_in w) w'
   pub kept : Only levels_at opened_at w w'
 
--- after the links into one more task of the search, of which i are looked at
-pub record SpreadIs (s : Sheet) (goal i : ℕ) (w : List ℕ) (r : Spread) : Type 0 where
-  pub back : r ≡ Back → on_circle s goal ≡ true
-  pub on : (k : ℕ) → r ≡ On k → Searched s goal i k w
+-- after the links into one more task of the search, of which i are looked at: none where a circle through the goal was closed
+pub record SpreadIs (s : Sheet) (goal i : ℕ) (w : List ℕ) (r : Found) : Type 0 where
+  pub back : r ≡ None → on_circle s goal ≡ true
+  pub on : (k : ℕ) → r ≡ Some k → Searched s goal i k w

@@ -4,10 +4,11 @@ use Rattle.folds.specs.Answers.{Answer, value}
 use Rattle.sheet.specs.Sheet.{Sheet}
 use Rattle.sheet.specs.Tables.{sheet_in, Loaded}
 use Rattle.sheet_reader.specs.Answers.{reading_of}
-use Rattle.sheet_reader.specs.declared.Reading.{Reading}
+use Rattle.std.specs.Prelude.{⊤, Result}
+use Rattle.refusals.specs.declared.Refusal.{Refusal}
 use Rattle.levelling.specs.Found.{Levelled}
 
-pub record OpenIs (a : Answer Sheet) (w last : List ℕ) (r : Reading) : Type 0 where
+pub record OpenIs (a : Answer Sheet) (w last : List ℕ) (r : Result ⊤ Refusal) : Type 0 where
   pub long : length last ≡ length w
   pub answer : r ≡ reading_of a
   pub loaded : (s : Sheet) → a ≡ value s → Loaded last

@@ -7,14 +7,13 @@ ghost use Rattle.levelling.specs.Found.{LevelsAre};
 use adjacency::End;
 use sheet::tables;
 use topological_order::peel;
-use workspace::total::Found;
 
 pub mod open;
 mod search;
 
 // The lowest task on a circle (10), or, where there is none, the level of each task in its word.
 // Takes time in proportion to tasks and links where there is no circle.
-pub fn levels(w: &mut [u32]) -> Found
+pub fn levels(w: &mut [u32]) -> Option<usize>
     requires { Loaded w.old }
     ensures { LevelsAre w.old w.new result }
 {
@@ -23,7 +22,7 @@ pub fn levels(w: &mut [u32]) -> Found
     let k = peel::peel(w);
     let n = tables::tasks(w);
     if k == n {
-        return Found::Nothing;
+        return None;
     }
     search::find(w)
 }

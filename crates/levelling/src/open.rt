@@ -7,29 +7,30 @@ ghost use Rattle.sheet.specs.Tables.{sheet_in, Loaded};
 ghost use Rattle.graph.specs.Graph.{circle, read_sheet};
 ghost use Rattle.levelling.specs.Opened.{OpenIs};
 
-use sheet_reader::{Reading, values};
-use workspace::total::Found;
+use refusals::Refusal;
+use sheet_reader::values;
 
 // Refusal 10 for a sheet that has the form, or its levels beside it.
-fn level(w: &mut [u32]) -> Reading
+fn level(w: &mut [u32]) -> Result<(), Refusal>
     requires { Loaded w.old }
     ensures { OpenIs (unless 10 (circle (sheet_in w.old)) (value (sheet_in w.old))) w.old w.new result }
 {
     match crate::levels(w) {
-        Found::At(t) => Reading::Refused(10, t),
-        Found::Nothing => Reading::Read,
+        Some(t) => Err(Refusal {
+            number: 10,
+            place: t,
+        }),
+        None => Ok(()),
     }
 }
 
 // Reads any bytes as a sheet: 1 to 10, or the sheet with its levels.
-pub fn read(bytes: &[u8], w: &mut [u32]) -> Reading
+pub fn read(bytes: &[u8], w: &mut [u32]) -> Result<(), Refusal>
     requires { fixed ≤ length w.old }
     ensures { OpenIs (read_sheet bytes.now) w.old w.new result }
 {
-    match sheet_reader::bytes::read(bytes, w) {
-        Reading::Refused(r, at) => Reading::Refused(r, at),
-        Reading::Read => level(w),
-    }
+    sheet_reader::bytes::read(bytes, w)?;
+    level(w)
 }
 
 // The same for the bytes that these values would have.
@@ -41,12 +42,10 @@ pub fn load(
     tasks: &[u16],
     links: &[u16],
     w: &mut [u32],
-) -> Reading
+) -> Result<(), Refusal>
     requires { fixed ≤ length w.old }
     ensures { OpenIs (read_sheet (value_bytes processors limit unpacking (cube_of cube) tasks.now links.now)) w.old w.new result }
 {
-    match values::load(processors, limit, unpacking, cube, tasks, links, w) {
-        Reading::Refused(r, at) => Reading::Refused(r, at),
-        Reading::Read => level(w),
-    }
+    values::load(processors, limit, unpacking, cube, tasks, links, w)?;
+    level(w)
 }

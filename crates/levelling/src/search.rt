@@ -6,22 +6,14 @@ ghost use Rattle.graph.specs.Graph.{on_circle, circle};
 ghost use Rattle.adjacency.specs.Chains.{Chained};
 ghost use Rattle.adjacency.specs.declared.End.TheVariants.{Target};
 ghost use Rattle.topological_order.specs.Words.{Held, Outside, place_in, Queued};
-ghost use Rattle.topological_order.specs.Peeling.{Emptied, Noted, Searched, Spreading};
+ghost use Rattle.topological_order.specs.Peeling.{Noted, Searched, Spreading};
 ghost use Rattle.workspace.specs.Found.{found_of};
 ghost use Rattle.levelling.specs.Found.{SpreadIs};
 
 use adjacency::End;
 use sheet::tables;
-use topological_order::queue;
-use workspace::total::Found;
+use topological_order::{peel, queue};
 use workspace::{MARKS, QUEUE};
-
-// A circle through the goal was closed, or the queue has so many tasks.
-#[derive(Clone, Copy)]
-pub enum Spread {
-    Back,
-    On(usize),
-}
 
 // Task u is in the queue of k tasks, or goes into it. The answer is the length of the queue.
 fn note(w: &mut [u32], k: usize, u: usize) -> usize
@@ -31,14 +23,16 @@ fn note(w: &mut [u32], k: usize, u: usize) -> usize
     ensures { Outside w.old w.new × Noted (task_count (sheet_in w.old)) k u result w.old w.new }
 {
     if 65536 <= workspace::word(w, MARKS + u) {
-        return k;
+        k
+    } else {
+        queue::push(w, k, u);
+        k + 1
     }
-    queue::push(w, k, u);
-    k + 1
 }
 
-// The links into v: their sources are in the queue of k tasks, or go into it, unless one is the goal.
-fn walk_into(w: &mut [u32], goal: usize, k: usize, v: usize) -> Spread
+// The links into v: their sources are in the queue of k tasks, or go into it. The answer is the length of the queue, or none where
+// a source is the goal.
+fn walk_into(w: &mut [u32], goal: usize, k: usize, v: usize) -> Option<usize>
     requires held { Held w.old }
     requires chained { Chained Target (sheet_in w.old) w.old }
     requires spreading { Spreading (sheet_in w.old) goal (place_in w.old v) k 0 v w.old }
@@ -50,16 +44,16 @@ fn walk_into(w: &mut [u32], goal: usize, k: usize, v: usize) -> Spread
     while l < m {
         let u = tables::source(w, l);
         if u == goal {
-            return Spread::Back;
+            return None;
         }
         q = note(w, q, u);
         l = adjacency::next(w, End::Target, l);
     }
-    Spread::On(q)
+    Some(q)
 }
 
-// Task i of the queue of k tasks is looked at.
-fn look(w: &mut [u32], goal: usize, i: usize, k: usize) -> Spread
+// Task i of the queue of k tasks is looked at: the length of the queue, or none where a circle through the goal is closed.
+fn look(w: &mut [u32], goal: usize, i: usize, k: usize) -> Option<usize>
     requires held { Held w.old }
     requires chained { Chained Target (sheet_in w.old) w.old }
     requires i_lt_k { i < k }
@@ -82,28 +76,16 @@ fn look_all(w: &mut [u32], goal: usize) -> bool
     let mut i: usize = 0;
     while i < k {
         match look(w, goal, i, k) {
-            Spread::Back => {
+            None => {
                 return true;
             }
-            Spread::On(found) => {
+            Some(found) => {
                 k = found;
                 i += 1;
             }
         }
     }
     false
-}
-
-fn empty(w: &mut [u32])
-    requires { Held w.old }
-    ensures { Outside w.old w.new × Emptied (task_count (sheet_in w.old)) w.new }
-{
-    let n = tables::tasks(w);
-    let mut t: usize = 0;
-    while t < n {
-        w[MARKS + t] = 0;
-        t += 1;
-    }
 }
 
 // Whether a path leads from the goal back to it.
@@ -113,23 +95,20 @@ fn on_circle(w: &mut [u32], goal: usize) -> bool
     requires goal_bound { goal < task_count (sheet_in w.old) }
     ensures { Outside w.old w.new × (result ≡ on_circle (sheet_in w.old) goal) }
 {
-    empty(w);
+    peel::blank(w);
     queue::push(w, 0, goal);
     look_all(w, goal)
 }
 
-pub fn find(w: &mut [u32]) -> Found
+pub fn find(w: &mut [u32]) -> Option<usize>
     requires held { Held w.old }
     requires chained { Chained Target (sheet_in w.old) w.old }
     ensures { Outside w.old w.new × (found_of result ≡ circle (sheet_in w.old)) }
 {
-    let n = tables::tasks(w);
-    let mut t: usize = 0;
-    while t < n {
+    for t in 0..tables::tasks(w) {
         if on_circle(w, t) {
-            return Found::At(t);
+            return Some(t);
         }
-        t += 1;
     }
-    Found::Nothing
+    None
 }

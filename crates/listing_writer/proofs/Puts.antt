@@ -1,38 +1,26 @@
 -- Puts, one directly behind the other.
 use Prim.Native.Nat.{ℕ, ◌+◌, ◌/◌, ◌%◌, ◌^◌, ◌≤◌, ◌<◌}
 use mathlib.Core.Path.{◌≡◌, refl, sym, ap, ◌∙◌}
-use mathlib.Core.List.{List, [], ◌∷◌, ◌++◌}
+use mathlib.Core.List.{List, [], ◌∷◌, append_assoc}
 use native.Mathlib.Omega.{arith}
-use lib.ListN.{length, get_or, set, take, length-append}
-use native.Mathlib.Nat.{add-zero}
-use lib.Seq.{take-suc, take_all, sets-eq}
+use lib.ListN.{length, set, take, drop, length-append}
+use lib.Seq.{sets-eq}
 use native.Mathlib.Numerals.{add-one, add-two, add-three}
+use borrow.Rule.Slice.PartMut.{put_mid}
+use Rattle.std.proofs.lemmas.List.Edits.{paste_all}
+use Rattle.std.proofs.lemmas.Slice.{put_mid-paste}
 use Rattle.numbers.specs.Number.{stored}
 use Rattle.numbers.proofs.Laws.{stored-two, stored-three}
-use Rattle.numbers.proofs.Puts.{put-none, put_one, put_then, put_as}
+use Rattle.numbers.proofs.Puts.{put_one, put_then, put_as}
 use Rattle.listing.specs.Listing.{decimal}
 use Rattle.numbers.specs.Number.{Put}
 use Rattle.listing_writer.specs.Lines.{four_digits}
 use Rattle.listing_writer.proofs.Digits.{decimal-small, decimal-two, decimal-three, decimal-four, decimal-more}
 
--- a word, byte by byte
-no_byte : (w : List ℕ) → take 0 w ≡ []
-no_byte [] = refl
-no_byte (x ∷ w) = refl
-
-pub word_none : (b w : List ℕ) (i : ℕ) → i ≤ length b → Put b i (take 0 w) b (i + 0)
-word_none b w i h = put_as (sym (no_byte w)) (rw add-zero (put-none b i))
-
-pub word_more : {b m : List ℕ} (w : List ℕ) (at i : ℕ) → at ≤ length b → at + i < length m → i < length w → Put b at (take i w) m (at + i)
-    → Put b at (take (i + 1) w) (set m (at + i) (get_or w i 0)) (at + (i + 1))
-word_more {b} {m} w at i l k h p =
-    let q = put_then l p (put_one m (at + i) (get_or w i 0) k) in
-    let e : at + i + 1 ≡ at + (i + 1) = omega arith in
-    let f : take (i + 1) w ≡ take i w ++ get_or w i 0 ∷ [] = rw add-one (take-suc w i 0 h) in
-    record { left = q.left ∙ ap (stored b at) (sym f); next = sym e ∙ q.next ∙ ap (λ (v : List ℕ). at + length v) (sym f) }
-
-pub word-whole : {b m : List ℕ} (w : List ℕ) (at i : ℕ) → length w ≤ i → Put b at (take i w) m (at + i) → Put b at w m (at + i)
-word-whole {b} {m} w at i h p = put_as (take_all i w h) p
+-- a word, in a slice of the output
+pub word-put : (b w s : List ℕ) (at k : ℕ) → s ≡ w → k ≡ length w → put_mid at k b s ≡ stored b at w
+unfolding stored
+word-put b w s at k e h = put_mid-paste at k b s w (length w) e (sym h) refl ∙ paste_all b at w (length w) refl ∙ sym (append_assoc (take at b) w (drop (at + length w) b))
 
 -- a number of at most four digits
 pub put-one-digit : (b : List ℕ) (at n x : ℕ) → n < 10 → at + length (decimal n) ≤ length b → x ≡ 48 + n → Put b at (decimal n) (set b at x) (at + 1)

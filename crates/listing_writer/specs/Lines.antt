@@ -1,5 +1,5 @@
 -- What the writers of fields and lines leave.
-use Rattle.std.specs.Prelude.{ℕ, ◌/◌, ◌%◌, ◌≤◌, ◌<◌, ◌≡◌, List, [], ◌∷◌, ◌++◌, get_or}
+use Rattle.std.specs.Prelude.{ℕ, ◌/◌, ◌%◌, ◌<◌, ◌≡◌, List, [], ◌∷◌, ◌++◌, get_or}
 use Rattle.folds.specs.Folds.{bit, any}
 use Rattle.folds.specs.Answers.{value}
 use Rattle.sheet.specs.Sheet.{Sheet, task_count}

@@ -8,10 +8,7 @@ ghost use Rattle.listing_writer.specs.Lines.{four_digits, two_fields};
 pub fn digits(n: usize) -> usize
     ensures { (result ≡ length (decimal n)) × (result ≤ 20) }
 {
-    if n < 10 {
-        return 1;
-    }
-    digits(n / 10) + 1
+    if n < 10 { 1 } else { digits(n / 10) + 1 }
 }
 
 // The byte of a digit.
@@ -41,20 +38,19 @@ fn put_short(out: &mut [u8], at: usize, n: usize) -> usize
 {
     if n < 10 {
         out[at] = digit(n);
-        return at + 1;
-    }
-    if n < 100 {
+        at + 1
+    } else if n < 100 {
         out[at] = digit(n / 10);
         out[at + 1] = digit(n % 10);
-        return at + 2;
-    }
-    if n < 1000 {
+        at + 2
+    } else if n < 1000 {
         out[at] = digit(n / 100);
         out[at + 1] = digit(n / 10 % 10);
         out[at + 2] = digit(n % 10);
-        return at + 3;
+        at + 3
+    } else {
+        put_four(out, at, n)
     }
-    put_four(out, at, n)
 }
 
 // Any number, four digits at a time.
@@ -63,10 +59,11 @@ fn put_long(out: &mut [u8], at: usize, n: usize) -> usize
     ensures { Put out.old at (decimal n) out.new result }
 {
     if n < 10000 {
-        return put_short(out, at, n);
+        put_short(out, at, n)
+    } else {
+        let end = put_long(out, at, n / 10000);
+        put_four(out, end, n % 10000)
     }
-    let end = put_long(out, at, n / 10000);
-    put_four(out, end, n % 10000)
 }
 
 // The same. The numbers of a plan have at most eight digits, and take no recursion.
@@ -75,13 +72,13 @@ pub fn put_decimal(out: &mut [u8], at: usize, n: usize) -> usize
     ensures { Put out.old at (decimal n) out.new result }
 {
     if n < 10000 {
-        return put_short(out, at, n);
-    }
-    if n < 100000000 {
+        put_short(out, at, n)
+    } else if n < 100000000 {
         let end = put_short(out, at, n / 10000);
-        return put_four(out, end, n % 10000);
+        put_four(out, end, n % 10000)
+    } else {
+        put_long(out, at, n)
     }
-    put_long(out, at, n)
 }
 
 // A space and n.
@@ -89,7 +86,7 @@ pub fn put_field(out: &mut [u8], at: usize, n: usize) -> usize
     requires { at + length (field n) ≤ length out.old }
     ensures { Put out.old at (field n) out.new result }
 {
-    out[at] = 0x20;
+    out[at] = b' ';
     put_decimal(out, at + 1, n)
 }
 
@@ -98,7 +95,7 @@ fn put_end(out: &mut [u8], at: usize) -> usize
     requires { at < length out.old }
     ensures { Put out.old at line_end out.new result }
 {
-    out[at] = 0x0A;
+    out[at] = b'\n';
     at + 1
 }
 
@@ -117,10 +114,7 @@ pub fn put_word(out: &mut [u8], at: usize, word: &[u8]) -> usize
     requires { at + length word.now ≤ length out.old }
     ensures { Put out.old at word.now out.new result }
 {
-    let mut i: usize = 0;
-    while i < word.len() {
-        out[at + i] = word[i];
-        i += 1;
-    }
-    at + i
+    let end = at + word.len();
+    out[at..end].copy_from_slice(word);
+    end
 }

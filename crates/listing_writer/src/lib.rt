@@ -12,47 +12,47 @@ ghost use Rattle.listing_writer.specs.Lines.{Standing, Stands};
 ghost use Rattle.listing_writer.specs.Listed.{FitIs, ListIs, planned_lines};
 
 use levelling::open;
-use sheet_reader::Reading;
-use turns::Planned;
+use refusals::Refusal;
 
 mod fields;
 mod rows;
 
-// The length of the listing that was written, or of one that the output is too short for (12).
-#[derive(Clone, Copy)]
-pub enum Listed {
-    Long(usize),
-    Short(usize),
-}
-
-// The listing of a refusal.
-fn list_refusal(number: usize, place: usize, out: &mut [u8]) -> Listed
-    ensures { FitIs (refusal_line number place) out.old out.new result }
+// The listing of a refusal: its length, or 12.
+fn list_refusal(refusal: Refusal, out: &mut [u8]) -> Result<usize, Refusal>
+    ensures { FitIs (refusal_line refusal.number refusal.place) out.old out.new result }
 {
+    let number = refusal.number as usize;
+    let place = refusal.place;
     let need = rows::refusal_length(number, place);
     if out.len() < need {
-        return Listed::Short(need);
+        return Err(Refusal {
+            number: 12,
+            place: need,
+        });
     }
     rows::put_refusal(out, number, place);
-    Listed::Long(need)
+    Ok(need)
 }
 
 // The listing of the schedule in the work area, counted before it is written.
-fn list_counted(w: &[u32], out: &mut [u8]) -> Listed
+fn list_counted(w: &[u32], out: &mut [u8]) -> Result<usize, Refusal>
     requires loaded { Loaded w.now }
     requires standing { Standing (sheet_in w.now) (schedule_in w.now) }
     ensures { FitIs (schedule_lines (sheet_in w.now) (schedule_in w.now)) out.old out.new result }
 {
     let need = rows::needed(w);
     if out.len() < need {
-        return Listed::Short(need);
+        return Err(Refusal {
+            number: 12,
+            place: need,
+        });
     }
     rows::put_schedule(w, out);
-    Listed::Long(need)
+    Ok(need)
 }
 
 // The same, written at once where the output is surely long enough.
-fn list_schedule(w: &[u32], out: &mut [u8]) -> Listed
+fn list_schedule(w: &[u32], out: &mut [u8]) -> Result<usize, Refusal>
     requires loaded { Loaded w.now }
     requires standing { Standing (sheet_in w.now) (schedule_in w.now) }
     ensures { FitIs (schedule_lines (sheet_in w.now) (schedule_in w.now)) out.old out.new result }
@@ -60,11 +60,11 @@ fn list_schedule(w: &[u32], out: &mut [u8]) -> Listed
     if out.len() < rows::most(w) {
         return list_counted(w, out);
     }
-    Listed::Long(rows::put_schedule(w, out))
+    Ok(rows::put_schedule(w, out))
 }
 
 // The listing of the sheet in the work area, planned there.
-fn list_planned(w: &mut [u32], out: &mut [u8]) -> Listed
+fn list_planned(w: &mut [u32], out: &mut [u8]) -> Result<usize, Refusal>
     requires loaded { Loaded w.old }
     requires levelled { Levelled (sheet_in w.old) w.old }
     requires single { Single (sheet_in w.old) }
@@ -72,18 +72,18 @@ fn list_planned(w: &mut [u32], out: &mut [u8]) -> Listed
     ensures { FitIs (planned_lines (sheet_in w.old)) out.old out.new result }
 {
     match turns::schedule(w) {
-        Planned::Refused(t) => list_refusal(11, t, out),
-        Planned::Done => list_schedule(w, out),
+        Err(refusal) => list_refusal(refusal, out),
+        Ok(()) => list_schedule(w, out),
     }
 }
 
 // The listing of any bytes as a sheet. The work area is scratch, and keeps nothing that a caller may count on.
-pub fn list(sheet: &[u8], work: &mut [u32], out: &mut [u8]) -> Listed
+pub fn list(sheet: &[u8], work: &mut [u32], out: &mut [u8]) -> Result<usize, Refusal>
     requires { fixed ≤ length work.old }
     ensures { ListIs sheet.now work.old work.new out.old out.new result }
 {
     match open::read(sheet, work) {
-        Reading::Refused(r, at) => list_refusal(numbers::wide(r), at, out),
-        Reading::Read => list_planned(work, out),
+        Err(refusal) => list_refusal(refusal, out),
+        Ok(()) => list_planned(work, out),
     }
 }

@@ -24,13 +24,10 @@ fn runs_of(w: &[u32]) -> Runs
     ensures { Marked (schedule_in w.now) (task_count (sheet_in w.now)) result }
 {
     let n = tables::tasks(w);
-    let at = [0u32; 16];
-    let mut r = Runs { at: at };
-    let mut t: usize = 0;
-    while t < n {
+    let mut r = Runs { at: [0; 16] };
+    for t in 0..n {
         let k = schedule::place(w, t);
         r.at[k] = 1;
-        t += 1;
     }
     r
 }
@@ -44,10 +41,8 @@ fn running(w: &[u32]) -> usize
     let runs = runs_of(w);
     let n = tables::processors(w);
     let mut found: usize = 0;
-    let mut k: usize = 0;
-    while k < n {
-        found += workspace::wide(runs.at[k]);
-        k += 1;
+    for k in 0..n {
+        found += runs.at[k] as usize;
     }
     found
 }
@@ -81,10 +76,8 @@ pub fn needed(w: &[u32]) -> usize
 {
     let tasks = tables::tasks(w);
     let mut n = plan_length(w);
-    let mut t: usize = 0;
-    while t < tasks {
+    for t in 0..tasks {
         n += task_length(w, t);
-        t += 1;
     }
     n
 }
@@ -134,10 +127,8 @@ fn put_tasks(w: &[u32], out: &mut [u8], at: usize) -> usize
 {
     let n = tables::tasks(w);
     let mut end = at;
-    let mut t: usize = 0;
-    while t < n {
+    for t in 0..n {
         end = put_task(w, t, out, end);
-        t += 1;
     }
     end
 }

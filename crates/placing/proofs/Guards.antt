@@ -27,8 +27,8 @@ use Rattle.arrivals.specs.Layout.{arrivals_from, senders_from}
 use Rattle.arrivals.specs.Kept.{counted_by, into_from, known, Kept}
 use Rattle.arrivals.proofs.Walks.{kept-arrived}
 use Rattle.workspace.specs.Found.{found_of}
-use Rattle.workspace.specs.declared.total.Found.{Found}
-use Rattle.workspace.specs.declared.total.Found.TheVariants.{At, Nothing}
+use Rattle.workspace.specs.Found.{Found}
+use Rattle.std.specs.Prelude.{Some, None}
 use Rattle.readiness.proofs.Counts.{arrival-kept}
 use Rattle.placing.specs.Guards.{delays_for, Rival, BarsFor, Bars, JoinBarsFor, JoinBars}
 
@@ -292,11 +292,11 @@ priority-by s σ t ea ev = ap₂ ◌+◌ ea ev
 
 -- for whose sake the guard applies, by the first partly ready task
 module _ (s : Sheet) (σ : Schedule) (t : ℕ) {g : Found} (first : found_of g ≡ first_partly_ready s σ) where
-  pub rival-none : g ≡ Nothing → Rival s σ t none
+  pub rival-none : g ≡ None → Rival s σ t none
   unfolding barred
   rival-none e = record { is = λ k. sym (ap (barred_for s σ t k) (sym first ∙ ap found_of e)) }
 
-  module _ {u : ℕ} (e : g ≡ At u) {p q : ℕ} (ep : p ≡ ready_priority s σ t) (eq : q ≡ priority s σ u) where
+  module _ {u : ℕ} (e : g ≡ Some u) {p q : ℕ} (ep : p ≡ ready_priority s σ t) (eq : q ≡ priority s σ u) where
     barred-at : (k : ℕ) → barred s σ t k ≡ both (ltb p q) (delays s σ t u k)
     unfolding barred
     barred-at k = ap (barred_for s σ t k) (sym first ∙ ap found_of e) ∙ rw (← ep, ← eq)
@@ -309,20 +309,20 @@ module _ (s : Sheet) (σ : Schedule) (t : ℕ) {g : Found} (first : found_of g �
 
 -- the guard of a turn, by the task for whose sake it applies
 module _ (s : Sheet) (σ : Schedule) (t : ℕ) {g : Found} (rival : Rival s σ t (found_of g)) where
-  nobody : g ≡ Nothing → (k : ℕ) → barred s σ t k ≡ false
+  nobody : g ≡ None → (k : ℕ) → barred s σ t k ≡ false
   nobody e k = sym (rival.is k) ∙ ap (λ (x : Found). delays_for s σ t k (found_of x)) e
 
-  somebody : {u : ℕ} → g ≡ At u → (k : ℕ) → delays s σ t u k ≡ barred s σ t k
+  somebody : {u : ℕ} → g ≡ Some u → (k : ℕ) → delays s σ t u k ≡ barred s σ t k
   somebody e k = sym (ap (λ (x : Found). delays_for s σ t k (found_of x)) e) ∙ rival.is k
 
-  pub guard_none : g ≡ Nothing → Bars s σ t 16
+  pub guard_none : g ≡ None → Bars s σ t 16
   guard_none e = record { is = λ k l. ne_eqb k 16 (omega arith) ∙ sym (nobody e k) }
 
-  pub guard-some : {u bars : ℕ} → g ≡ At u → BarsFor s σ t u bars → Bars s σ t bars
+  pub guard-some : {u bars : ℕ} → g ≡ Some u → BarsFor s σ t u bars → Bars s σ t bars
   guard-some e b = record { is = λ k l. b.is k l ∙ somebody e k }
 
-  pub join-guard-none : g ≡ Nothing → JoinBars s σ t 16
+  pub join-guard-none : g ≡ None → JoinBars s σ t 16
   join-guard-none e = record { is = λ k l h. ne_eqb k 16 (omega arith) ∙ sym (nobody e k) }
 
-  pub join-guard-some : {u bars : ℕ} → g ≡ At u → JoinBarsFor s σ t u bars → JoinBars s σ t bars
+  pub join-guard-some : {u bars : ℕ} → g ≡ Some u → JoinBarsFor s σ t u bars → JoinBars s σ t bars
   join-guard-some e b = record { is = λ k l h. b.is k l h ∙ somebody e k }

@@ -1,8 +1,6 @@
 -- The lowest member of a set is its count of trailing zeros.
 use Prim.Native.Nat.{ℕ, zero, suc, ◌+◌, ◌*◌, ◌/◌, ◌%◌, ◌^◌, ◌≤◌, ◌<◌}
 use native.Mathlib.Omega.{arith}
-use native.Mathlib.Nat.{one-mul, mod-eq_of_lt}
-use lib.Pow.{pow-lt}
 use native.Mathlib.Decide.{dec_lt}
 use mathlib.Core.Path.{◌≡◌, refl, sym, ap, ◌∙◌}
 use mathlib.Core.Bool.{Bool, true, false}
@@ -74,7 +72,3 @@ pub top-member : (n a s : ℕ) → s < 2 ^ n → a < 2 → member (a * 2 ^ n + s
 unfolding member
 top-member zero a s h l = let e : (a * 1 + s) % 2 ≡ a = omega arith in ap (λ (x : ℕ). eqb x 1) e
 top-member (suc n) a s h l = ap (λ (x : ℕ). member x n) (block_half a n s) ∙ top-member n a (s / 2) (omega arith) l
-
--- a shift makes the set of one
-pub one_shifted : (k : ℕ) → k < 16 → (1 * 2 ^ k) % 2 ^ 16 ≡ 2 ^ k
-one_shifted k h = rw one-mul (mod-eq_of_lt (pow-lt h))

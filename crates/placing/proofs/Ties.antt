@@ -1,21 +1,20 @@
 -- The lowest of those that have the least value is the one that `least` gives.
-use Prim.Native.Nat.{ℕ, zero, suc, ◌+◌, ◌-◌, ◌*◌, ◌%◌, ◌^◌, ◌≤◌, ◌<◌}
+use Prim.Native.Nat.{ℕ, zero, suc, ◌+◌, ◌-◌, ◌*◌, ◌^◌, ◌≤◌, ◌<◌}
 use native.Mathlib.Omega.{arith}
 use native.Mathlib.Numerals.{add-one}
-use native.Mathlib.Nat.{one-mul, add-zero}
-use native.Mathlib.Decide.{ℕ_discrete, dec_lt}
+use native.Mathlib.Nat.{one-mul}
 use mathlib.Core.Path.{◌≡◌, refl, sym, ap, ap₂, subst, ◌∙◌}
 use mathlib.Core.Bool.{Bool, true, false}
 use mathlib.Core.Option.{Option, none, some}
 use lib.Dec.{eqb, ltb}
 use lib.Bits.{bit_or, or_shifted_r}
 use lib.Count
-use borrow.Author.Tests.{eqb-true, eqb-false, eq-eqb, ne_eqb, lt-ltb, le-ltb}
+use borrow.Author.Tests.{eqb-true, eqb-false}
 use Rattle.folds.specs.Folds.{pick, either, keep, first, prefer, leading, least}
 use Rattle.folds.proofs.Laws.{first_cong, first_found}
 use Rattle.placing.specs.Sets.{member, tie_of}
 use Rattle.placing.specs.declared.Tied.{Tied}
-use Rattle.placing.proofs.Sets.{nobody, member-past, low-member, top-member, lowest-is, lowest-none, one_shifted}
+use Rattle.placing.proofs.Sets.{nobody, member-past, low-member, top-member, lowest-is, lowest-none}
 
 pub record Ties (n : ℕ) (p : ℕ → Bool) (f : ℕ → ℕ) (t : Tied) : Type 0 where
   pub below : t.set < 2 ^ n
@@ -147,18 +146,3 @@ pub ties-end : {k n : ℕ} {p : ℕ → Bool} {f : ℕ → ℕ} {t : Tied} → T
 ties-end {k} {n} {p} {f} {t} g e h =
     let z : k + (16 - k) ≡ 16 = omega arith in
     ap (λ (m : ℕ). first m (member t.set)) (sym z) ∙ first_past k (16 - k) t.set g.below ∙ g.same ∙ ap (λ (m : ℕ). least m p f) e
-
--- the ways in which `tie` ends
-
-module _ (t : Tied) (k : ℕ) (h : k < 16) (b : Bool) (e : b ≡ true) (v : ℕ) where
-  pub tie-empty : t.set ≡ 0 → record { least = v; set = (1 * 2 ^ k) % 2 ^ 16 } ≡ tie_of t k b v
-  tie-empty q = simp (e, eq-eqb t.set 0 q, one_shifted k h)
-
-  pub tie-lower : (t.set ≡ 0 → ⊥) → v < t.least → record { least = v; set = (1 * 2 ^ k) % 2 ^ 16 } ≡ tie_of t k b v
-  tie-lower q l = simp (e, ne_eqb t.set 0 q, lt-ltb v t.least l, one_shifted k h)
-
-  pub tie-equal : (t.set ≡ 0 → ⊥) → t.least ≤ v → v ≡ t.least → record { least = v; set = bit_or t.set ((1 * 2 ^ k) % 2 ^ 16) } ≡ tie_of t k b v
-  tie-equal q l s = simp (e, ne_eqb t.set 0 q, le-ltb v t.least l, eq-eqb v t.least s, one_shifted k h)
-
-  pub tie-higher : (t.set ≡ 0 → ⊥) → t.least ≤ v → (v ≡ t.least → ⊥) → t ≡ tie_of t k b v
-  tie-higher q l s = simp (e, ne_eqb t.set 0 q, le-ltb v t.least l, ne_eqb v t.least s)

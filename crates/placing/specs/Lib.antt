@@ -3,3 +3,4 @@ pub mod Choosing
 pub mod Sets
 pub mod Ranks
 pub mod Guards
+pub mod Turn

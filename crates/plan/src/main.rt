@@ -2,65 +2,32 @@
 // (crates/listing_writer/proofs/Settled.antt). Where a read fails, nothing is listed; a read or a write that fails is the error that `main` returns.
 #![tactic(auto)]
 
-ghost use Rattle.std.specs.Prelude.{◌≡◌, ◌≤◌, ◌-◌, length, take, drop};
-ghost use Rattle.plan.specs.Pieces.{GotIs, InputIs, GotBytes, InputBytes};
+ghost use Rattle.std.specs.Prelude.{◌≤◌, ◌<◌, length, take, IfOk};
+ghost use Rattle.std.specs.Io.KnownBytes.{Consumes, IsAtEnd};
 
 use std::io;
 use std::io::Read;
 
-// What a read brought.
-#[derive(Clone, Copy)]
-enum Got {
-    More(usize),
-    End,
-    Failed(io::Error),
-}
-
-// How much input there was, up to what the buffer holds.
-#[derive(Clone, Copy)]
-enum Input {
-    Bytes(usize),
-    Failed(io::Error),
-}
-
-// One read, behind the first `at` bytes, which stay.
-fn read_some<R: Read>(input: &mut R, buf: &mut [u8], at: usize) -> Got
-    requires { at ≤ length buf.old }
-    ensures count { GotIs (length buf.old - at) result }
-    ensures front { take at buf.new ≡ take at buf.old }
-    ensures bytes { GotBytes (R.remaining input.old) (R.remaining input.new) (drop at buf.new) result }
+// Reads until the input ends or the buffer is full, however many pieces it comes in, and answers how many bytes that were: the first that the
+// input had, and all of them where the buffer is not full.
+fn read_all<R: Read>(input: &mut R, buf: &mut [u8]) -> io::Result<usize>
+    ensures within { IfOk result (λ n. n ≤ length buf.new) }
+    ensures bytes { IfOk result (λ n. Consumes (R.remaining input.old) (R.remaining input.new) (take n buf.new)) }
+    ensures end { IfOk result (λ n. n < length buf.new → IsAtEnd (R.remaining input.new)) }
 {
-    match input.read(&mut buf[at..]) {
-        Err(e) => Got::Failed(e),
-        Ok(0) => Got::End,
-        Ok(n) => Got::More(n),
-    }
-}
-
-// Reads until the input ends or the buffer is full, however many pieces it comes in.
-fn read_all<R: Read>(input: &mut R, buf: &mut [u8]) -> Input
-    ensures count { InputIs (length buf.old) result }
-    ensures bytes { InputBytes (R.remaining input.old) (R.remaining input.new) buf.new result }
-{
-    let mut at: usize = 0;
+    let mut at = 0;
     while at < buf.len() {
-        match read_some(input, buf, at) {
-            Got::Failed(e) => {
-                return Input::Failed(e);
-            }
-            Got::End => {
-                return Input::Bytes(at);
-            }
-            Got::More(n) => {
-                at += n;
-            }
+        let n = input.read(&mut buf[at..])?;
+        if n == 0 {
+            break;
         }
+        at += n;
     }
-    Input::Bytes(at)
+    Ok(at)
 }
 
 // Prints the listing of these bytes.
-fn print(rt: &impl Print, sheet: &[u8]) -> io::Result<()> {
+fn print_listing(rt: &impl Print, sheet: &[u8]) -> io::Result<()> {
     let mut out = [0u8; 21551];
     let n = console::put_listing(sheet, &mut out);
     rt.write_all(&out[..n])
@@ -68,8 +35,6 @@ fn print(rt: &impl Print, sheet: &[u8]) -> io::Result<()> {
 
 fn main(rt: HostRuntime) -> io::Result<()> {
     let mut sheet = [0u8; 8512];
-    match read_all(&mut rt.stdin(), &mut sheet) {
-        Input::Failed(e) => Err(e),
-        Input::Bytes(n) => print(&rt, &sheet[..n]),
-    }
+    let n = read_all(&mut rt.stdin(), &mut sheet)?;
+    print_listing(&rt, &sheet[..n])
 }

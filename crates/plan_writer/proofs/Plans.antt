@@ -11,8 +11,6 @@ use Rattle.folds.specs.Answers.{Answer, value, refused, and_then, fitting}
 use Rattle.folds.proofs.Laws.{sum-front}
 use Rattle.sheet.specs.Sheet.{Sheet, task_count}
 use Rattle.sheet.specs.Tables.{sheet_in}
-use Rattle.sheet_reader.specs.declared.Reading.{Reading}
-use Rattle.sheet_reader.specs.declared.Reading.TheVariants as readings
 use Rattle.adjacency.specs.Chains.{Chained}
 use Rattle.adjacency.specs.declared.End.TheVariants.{Source, Target}
 use Rattle.graph.specs.Graph.{read_sheet}
@@ -20,8 +18,9 @@ use Rattle.levelling.specs.Opened.{OpenIs}
 use Rattle.levelling.proofs.Opens.{open-refusal, open-value}
 use Rattle.graph.proofs.Proper.{Proper, proper}
 use Rattle.bundle.specs.Writing.{bundle_bytes}
-use Rattle.bundle_writer.specs.declared.writer.Judged.{Judged}
-use Rattle.bundle_writer.specs.declared.writer.Judged.TheVariants.{Refused}
+use Rattle.std.specs.Prelude.{⊤, Result, Ok, Err}
+use Rattle.refusals.specs.Refusals.{WriteIs}
+use Rattle.refusals.specs.declared.Refusal.{Refusal}
 use Rattle.planner.specs.Schedule.{Schedule, empty, place_of}
 use Rattle.planner.specs.Placing.{barred}
 use Rattle.planner.specs.Planner.{planned, bundle_of, plan}
@@ -29,7 +28,7 @@ use Rattle.planner.proofs.Schedules.{Built, built, placing, tally, Plan, Complet
 use Rattle.schedule.specs.Layout.{schedule_in}
 use Rattle.turns.specs.Turns.{Afterwards}
 use Rattle.plan_writer.specs.Scheduled.{Scheduled}
-use Rattle.plan_writer.specs.Written.{bundle_for, plan_for, WriteIs, PlanIs}
+use Rattle.plan_writer.specs.Written.{bundle_for, plan_for, PlanIs}
 use Rattle.plan_writer.proofs.Writes.{write-refused}
 
 -- the planner's answer is the plan, where the output has room for it
@@ -89,22 +88,22 @@ scheduled {w₀} {w} p a q =
       once = λ t h. task-once (sheet_in w₀) p (schedule_in w) q t (rw a.sheet at h);
     }
 
-module _ (b : List ℕ) {work mid : List ℕ} {o : Reading} (h : OpenIs (read_sheet b) work mid o) where
-  pub plan-refused : (out : List ℕ) (r at : ℕ) → o ≡ readings.Refused r at → PlanIs (plan_for (length out) b) work mid out out (Refused r at)
-  plan-refused out r at e =
+module _ (b : List ℕ) {work mid : List ℕ} {o : Result ⊤ Refusal} (h : OpenIs (read_sheet b) work mid o) where
+  pub plan-refused : (out : List ℕ) (r : Refusal) → o ≡ Err r → PlanIs (plan_for (length out) b) work mid out out (Err r)
+  plan-refused out r e =
       record {
-        is = write-refused out (ap (λ (a : Answer Sheet). and_then a (λ s. and_then (planned s) (bundle_for (length out) s))) (open-refusal h r at e));
+        is = write-refused out (ap (λ (a : Answer Sheet). and_then a (λ s. and_then (planned s) (bundle_for (length out) s))) (open-refusal h r e));
         long = h.long;
       }
 
-  module _ (e : o ≡ readings.Read) where
+  module _ (e : o ≡ Ok tt) where
     module _ {last : List ℕ} (a : Afterwards mid last) where
       -- the answer goes by the sheet in the tables
       here : (n : ℕ) → plan_for n b ≡ and_then (planned (sheet_in mid)) (bundle_for n (sheet_in mid))
       here n = ap (λ (x : Answer Sheet). and_then x (λ s. and_then (planned s) (bundle_for n s))) (open-value h e)
 
-      pub plan-none : (out : List ℕ) (t : ℕ) → refused 11 t ≡ planned (sheet_in mid) → PlanIs (plan_for (length out) b) work last out out (Refused 11 t)
-      plan-none out t q =
+      pub plan-none : (out : List ℕ) (r : Refusal) → refused r.number r.place ≡ planned (sheet_in mid) → PlanIs (plan_for (length out) b) work last out out (Err r)
+      plan-none out r q =
           record {
             is = write-refused out (here (length out) ∙ ap (λ (x : Answer Schedule). and_then x (bundle_for (length out) (sheet_in mid))) (sym q));
             long = a.long ∙ h.long;
@@ -114,7 +113,7 @@ module _ (b : List ℕ) {work mid : List ℕ} {o : Reading} (h : OpenIs (read_sh
         pub plan-scheduled : Scheduled last
         plan-scheduled = scheduled (proper b (sheet_in mid) (open-value h e)) a (sym q)
 
-        pub plan-done : (out out' : List ℕ) {r : Judged} → WriteIs (bundle_for (length out) (sheet_in last) (schedule_in last)) out out' r → PlanIs (plan_for (length out) b) work last out out' r
+        pub plan-done : (out out' : List ℕ) {r : Result ℕ Refusal} → WriteIs (bundle_for (length out) (sheet_in last) (schedule_in last)) out out' r → PlanIs (plan_for (length out) b) work last out out' r
         plan-done out out' {r} d =
             let z : plan_for (length out) b ≡ bundle_for (length out) (sheet_in last) (schedule_in last) =
             here (length out) ∙ ap (λ (x : Answer Schedule). and_then x (bundle_for (length out) (sheet_in mid))) (sym q)

@@ -1,11 +1,12 @@
 -- What writing a bundle promises: how the answer is told, and what stands in the lent memory afterwards.
 use Rattle.std.specs.Prelude.{ℕ, ◌≡◌, List, length}
-use Rattle.folds.specs.Answers.{Answer, and_then, fitting, written}
+use Rattle.folds.specs.Answers.{Answer, and_then, fitting}
 use Rattle.sheet.specs.Sheet.{Sheet}
 use Rattle.graph.specs.Graph.{read_sheet}
 use Rattle.bundle.specs.Writing.{bundle_bytes}
-use Rattle.bundle_writer.specs.Writes.{written_of}
-use Rattle.bundle_writer.specs.declared.writer.Judged.{Judged}
+use Rattle.std.specs.Prelude.{Result}
+use Rattle.refusals.specs.Refusals.{WriteIs}
+use Rattle.refusals.specs.declared.Refusal.{Refusal}
 use Rattle.planner.specs.Schedule.{Schedule}
 use Rattle.planner.specs.Planner.{planned, bundle_of}
 
@@ -17,11 +18,7 @@ bundle_for lent s σ = fitting lent (bundle_bytes (bundle_of s σ))
 abbrev pub plan_for : ℕ → List ℕ → Answer (List ℕ)
 plan_for lent b = and_then (read_sheet b) (λ s. and_then (planned s) (bundle_for lent s))
 
-pub record WriteIs (a : Answer (List ℕ)) (old last : List ℕ) (r : Judged) : Type 0 where
-  pub answer : r ≡ written_of a
-  pub left : last ≡ written old a
-
 -- the work area keeps its length
-pub record PlanIs (a : Answer (List ℕ)) (work work' old last : List ℕ) (r : Judged) : Type 0 where
+pub record PlanIs (a : Answer (List ℕ)) (work work' old last : List ℕ) (r : Result ℕ Refusal) : Type 0 where
   pub is : WriteIs a old last r
   pub long : length work' ≡ length work

@@ -8,7 +8,8 @@ ghost use Rattle.planner.specs.Schedule.{stands};
 ghost use Rattle.schedule.specs.Layout.{schedule_in};
 ghost use Rattle.plan_writer.specs.Bytes.{far_by};
 ghost use Rattle.plan_writer.specs.Scheduled.{Scheduled};
-ghost use Rattle.plan_writer.specs.Written.{bundle_for, WriteIs};
+ghost use Rattle.refusals.specs.Refusals.{WriteIs};
+ghost use Rattle.plan_writer.specs.Written.{bundle_for};
 
 mod measuring;
 mod queues;
@@ -16,7 +17,7 @@ pub mod whole;
 mod writing;
 
 use adjacency::End;
-use bundle_writer::writer::Judged;
+use refusals::Refusal;
 use sheet::tables;
 
 // The task at the other end of link l.
@@ -41,14 +42,17 @@ fn is_away(w: &[u32], e: End, k: usize, l: usize) -> bool
 }
 
 // The bundle of the schedule in the area, at the front of `out`; 12 with the length needed, and `out` as it was, where it is too long.
-pub fn write(w: &[u32], out: &mut [u8]) -> Judged
+pub fn write(w: &[u32], out: &mut [u8]) -> Result<usize, Refusal>
     requires { Scheduled w.now }
     ensures { WriteIs (bundle_for (length out.old) (sheet_in w.now) (schedule_in w.now)) out.old out.new result }
 {
     let need = measuring::of_bundle(w);
     if out.len() < need {
-        return Judged::Refused(12, need);
+        return Err(Refusal {
+            number: 12,
+            place: need,
+        });
     }
     writing::put_bundle(w, out);
-    Judged::Long(need)
+    Ok(need)
 }

@@ -29,10 +29,8 @@ fn of_messages(w: &[u32]) -> usize
 {
     let m = tables::links(w);
     let mut n: usize = 0;
-    let mut l: usize = 0;
-    while l < m {
+    for l in 0..m {
         n += of_message(w, l);
-        l += 1;
     }
     n
 }

@@ -13,7 +13,7 @@ fn queue_one(w: &[u32], queues: &mut [u32], i: usize)
 {
     let k = schedule::place(w, schedule::turn(w, i));
     queues[16 + i] = queues[k];
-    queues[k] = workspace::narrow(i);
+    queues[k] = i as u32;
 }
 
 // All turns go into the queues, the last first.
@@ -22,9 +22,7 @@ pub fn queue_all(w: &[u32], queues: &mut [u32])
     requires queues_value { queues.old ≡ replicate 272 (length (schedule_in w.now).order) }
     ensures { Queued (schedule_in w.now) 0 queues.new }
 {
-    let mut i = schedule::placed(w);
-    while 0 < i {
-        i -= 1;
+    for i in (0..schedule::placed(w)).rev() {
         queue_one(w, queues, i);
     }
 }

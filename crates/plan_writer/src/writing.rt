@@ -15,6 +15,7 @@ ghost use Rattle.plan_writer.specs.Queues.{Queued};
 ghost use Rattle.plan_writer.specs.Scheduled.{Scheduled};
 
 use adjacency::End;
+use bundle::{CLAIM_BYTE, OPEN_BYTE, RECEIVE_BYTE, RUN_BYTE, SEND_BYTE};
 use sheet::tables;
 
 // The command byte of a message.
@@ -22,8 +23,8 @@ fn code(e: End) -> u8
     ensures { result ≡ code_of e }
 {
     match e {
-        End::Source => 0x53,
-        End::Target => 0x56,
+        End::Source => SEND_BYTE as u8,
+        End::Target => RECEIVE_BYTE as u8,
     }
 }
 
@@ -87,7 +88,7 @@ fn put_block(w: &[u32], out: &mut [u8], at: usize, k: usize, t: usize) -> usize
     ensures { Laid out.old at (block_bytes (sheet_in w.now) (schedule_in w.now) k t) out.new result }
 {
     let received = put_messages(w, out, at, End::Target, k, t);
-    let ran = put_pair(out, received, 0x52, t);
+    let ran = put_pair(out, received, RUN_BYTE as u8, t);
     put_messages(w, out, ran, End::Source, k, t)
 }
 
@@ -115,7 +116,7 @@ fn put_programme(w: &[u32], queues: &[u32], out: &mut [u8], k: usize) -> usize
     requires k_in_bounds { length (open_bytes (sheet_in w.now) (schedule_in w.now) k) + 3 ≤ length out.old }
     ensures { Laid out.old 0 (open_bytes (sheet_in w.now) (schedule_in w.now) k) out.new result }
 {
-    let at = put_pair(out, 0, 0x50, k);
+    let at = put_pair(out, 0, OPEN_BYTE as u8, k);
     put_blocks(w, queues, out, at, k)
 }
 
@@ -128,10 +129,8 @@ fn put_each(w: &[u32], queues: &[u32], out: &mut [u8]) -> usize
 {
     let p = schedule::opened(w);
     let mut at: usize = 0;
-    let mut k: usize = 0;
-    while k < p {
+    for k in 0..p {
         at += put_programme(w, queues, &mut out[at..], k);
-        k += 1;
     }
     at
 }
@@ -142,7 +141,7 @@ fn put_programmes(w: &[u32], out: &mut [u8]) -> usize
     requires w_in_bounds { length (gather (schedule_in w.now).opened (open_bytes (sheet_in w.now) (schedule_in w.now))) + 3 ≤ length out.old }
     ensures { Laid out.old 0 (gather (schedule_in w.now).opened (open_bytes (sheet_in w.now) (schedule_in w.now))) out.new result }
 {
-    let none = workspace::narrow(schedule::placed(w));
+    let none = schedule::placed(w) as u32;
     let mut queues = [none; 272];
     crate::queues::queue_all(w, &mut queues);
     put_each(w, &queues, out)
@@ -152,8 +151,8 @@ fn put_claim(out: &mut [u8], at: usize, claim: usize)
     requires { (at + 5 ≤ length out.old) × (claim < 4294967296) }
     ensures { out.new ≡ stored out.old at (claim_bytes claim) }
 {
-    out[at] = 0x5A;
-    numbers::put32(out, at + 1, workspace::narrow(claim));
+    out[at] = CLAIM_BYTE as u8;
+    numbers::put32(out, at + 1, claim as u32);
 }
 
 // The whole bundle at the front of `out`.

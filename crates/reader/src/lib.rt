@@ -1,5 +1,4 @@
-// A reader: lent bytes and an offset, from which numbers of 8, 16 and 32 bits are read. The borrow checker covers no function
-// over such a struct, so those are thin, and `number_at` does the work on the slice and the offset.
+// A reader: lent bytes and an offset, from which numbers of 8, 16 and 32 bits are read.
 #![tactic(auto)]
 
 ghost use Rattle.std.specs.Prelude.{◌≡◌, ◌+◌, ◌≤◌, ◌<◌, length, get_or};
@@ -26,26 +25,28 @@ fn number_at(bytes: &[u8], at: usize, width: usize) -> u32
     numbers::get32(bytes, at)
 }
 
-pub fn new<'a>(bytes: &'a [u8], at: usize) -> Reader<'a>
-    ensures { (result.bytes ≡ bytes.entry) × (result.at ≡ at) }
-{
-    Reader { bytes, at }
+impl<'a> Reader<'a> {
+    pub fn new(bytes: &'a [u8], at: usize) -> Reader<'a>
+        ensures { (result.bytes ≡ bytes.entry) × (result.at ≡ at) }
+    {
+        Reader { bytes, at }
+    }
+
+    // The number in `width` bytes at the reader's offset.
+    pub fn number(self, width: usize) -> u32
+        requires { Whole self.bytes.now self.at width }
+        ensures { result ≡ number_at width self.entry.bytes.now self.entry.at }
+    {
+        number_at(self.bytes, self.at, width)
+    }
 }
 
-// The number in `width` bytes at the reader's offset.
-pub fn number<'a>(r: Reader<'a>, width: usize) -> u32
-    requires { Whole r.bytes.now r.at width }
-    ensures { result ≡ number_at width r.entry.bytes.now r.entry.at }
-{
-    number_at(r.bytes, r.at, width)
-}
-
-// The same from a slice and an offset: a caller of this one is covered.
+// The same from a slice and an offset.
 pub fn get(bytes: &[u8], at: usize, width: usize) -> u32
     requires { Whole bytes.now at width }
     ensures { result ≡ number_at width bytes.now at }
 {
-    number(new(bytes, at), width)
+    Reader::new(bytes, at).number(width)
 }
 
 pub fn get8(bytes: &[u8], at: usize) -> usize

@@ -22,8 +22,8 @@ use Rattle.planner.specs.Schedule.{Schedule}
 use Rattle.planner.specs.Placing.{ready, partly_ready, priority, ready_priority, ahead_by, first_ready, first_partly_ready}
 use Rattle.planner.proofs.Choosing.{leading-some}
 use Rattle.workspace.specs.Found.{found_of, Below}
-use Rattle.workspace.specs.declared.total.Found.{Found}
-use Rattle.workspace.specs.declared.total.Found.TheVariants.{At, Nothing}
+use Rattle.workspace.specs.Found.{Found}
+use Rattle.std.specs.Prelude.{Some, None}
 use Rattle.readiness.specs.Keyed.{key_of, ready_key, partly_key, task_of, Keyed}
 
 module _ (s : Sheet) (ranged : Ranged s) where
@@ -89,8 +89,8 @@ module _ {s : Sheet} {σ : Schedule} {q : List ℕ} (ranged : Ranged s) (k : Key
   zero-add u = ap (λ (x : ℕ). get_or q x 0) (omega arith)
 
   below : (r : Found) (p : ℕ → Bool) (f : ℕ → ℕ) → found_of r ≡ leading (task_count s) p (ahead_by s f) → Below (task_count s) r
-  below (At i) p f e = (leading-some (task_count s) p (ahead_by s f) i (sym e)).0
-  below Nothing p f e = tt
+  below (Some i) p f e = (leading-some (task_count s) p (ahead_by s f) i (sym e)).0
+  below None p f e = tt
 
   pub first-ready-is : (r : Found) {g : ℕ} → found_of r ≡ task_of g → g ≡ greatest 16 (key_by q 512) → (found_of r ≡ first_ready s σ) × Below (task_count s) r
   unfolding first_ready ready_key

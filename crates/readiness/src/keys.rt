@@ -1,14 +1,7 @@
 // A table of 512 keys, and behind them the greatest of each block of sixteen, so that the greatest of half the table takes sixteen steps.
-ghost use Rattle.std.specs.Prelude.{◌≡◌, ◌+◌, ◌<◌, ◌≤◌, max, length, get_or};
+ghost use Rattle.std.specs.Prelude.{◌≡◌, ◌+◌, ◌<◌, ◌≤◌, length, get_or};
 ghost use Rattle.folds.specs.Folds.{greatest};
 ghost use Rattle.readiness.specs.Keys.{key_by, Blocked, Changed};
-
-// The greater of two keys.
-fn greater(a: u64, b: u64) -> u64
-    ensures { result ≡ max a b }
-{
-    if a < b { b } else { a }
-}
 
 // The greatest of the sixteen from `at` on, as the greatest of four quarters, so that none waits for another.
 pub fn greatest_of(q: &[u64], at: usize) -> u64
@@ -19,15 +12,13 @@ pub fn greatest_of(q: &[u64], at: usize) -> u64
     let mut b: u64 = 0;
     let mut c: u64 = 0;
     let mut d: u64 = 0;
-    let mut i: usize = 0;
-    while i < 4 {
-        a = greater(a, q[at + i]);
-        b = greater(b, q[at + 4 + i]);
-        c = greater(c, q[at + 8 + i]);
-        d = greater(d, q[at + 12 + i]);
-        i += 1;
+    for i in 0..4 {
+        a = a.max(q[at + i]);
+        b = b.max(q[at + 4 + i]);
+        c = c.max(q[at + 8 + i]);
+        d = d.max(q[at + 12 + i]);
     }
-    greater(greater(a, b), greater(c, d))
+    a.max(b).max(c.max(d))
 }
 
 // Key i becomes x. Its block is searched anew only where its greatest may have left it.
@@ -42,9 +33,7 @@ pub fn put(q: &mut [u64], i: usize, x: u64)
     q[i] = x;
     if most <= x {
         q[512 + b] = x;
-        return;
-    }
-    if old == most {
+    } else if old == most {
         q[512 + b] = greatest_of(q, 16 * b);
     }
 }
@@ -58,5 +47,5 @@ pub fn raise(q: &mut [u64], i: usize, x: u64)
     let b = i / 16;
     let most = q[512 + b];
     q[i] = x;
-    q[512 + b] = greater(most, x);
+    q[512 + b] = most.max(x);
 }

@@ -24,7 +24,6 @@ ghost use Rattle.readiness.specs.Keyed.{key_of, task_of, Renewed, Waiting, Keyed
 
 use adjacency::End;
 use sheet::tables;
-use workspace::total::Found;
 
 fn is_placed(w: &[u32], t: usize) -> bool
     requires loaded { Loaded w.now }
@@ -46,23 +45,16 @@ fn is_ready(w: &[u32], kept: &[u32], t: usize) -> bool
     requires { Arrived w.now kept.now t }
     ensures { result ≡ ready (sheet_in w.now) (schedule_in w.now) t }
 {
-    if is_placed(w, t) {
-        false
-    } else {
-        workspace::word(kept, arrivals::SEEN + t) == workspace::word(kept, t)
-    }
+    !is_placed(w, t) && workspace::word(kept, arrivals::SEEN + t) == workspace::word(kept, t)
 }
 
 fn is_partly_ready(w: &[u32], kept: &[u32], t: usize) -> bool
     requires { Arrived w.now kept.now t }
     ensures { result ≡ partly_ready (sheet_in w.now) (schedule_in w.now) t }
 {
-    if is_placed(w, t) {
-        return false;
-    }
     let x = workspace::word(kept, arrivals::SEEN + t);
     let n = workspace::word(kept, t);
-    if 0 < x { x < n } else { false }
+    !is_placed(w, t) && 0 < x && x < n
 }
 
 pub fn priority_of(w: &[u32], kept: &[u32], t: usize) -> usize
@@ -81,9 +73,10 @@ pub fn ready_arrival(w: &[u32], kept: &[u32], t: usize) -> usize
 {
     let unpacking = tables::unpacking(w);
     if unpacking == 0 {
-        return arrival_of(w, kept, t);
+        arrival_of(w, kept, t)
+    } else {
+        arrivals::fresh_start(w, t, unpacking)
     }
-    arrivals::fresh_start(w, t, unpacking)
 }
 
 // The key of t by its arrival.
@@ -171,25 +164,23 @@ pub fn begin(w: &[u32], kept: &[u32], q: &mut [u64])
     ensures { Keyed (sheet_in w.now) (schedule_in w.now) q.new }
 {
     let n = tables::tasks(w);
-    let mut t: usize = 0;
-    while t < n {
+    for t in 0..n {
         renew_task(w, kept, q, t);
-        t += 1;
     }
 }
 
 // The task of a key.
-fn task_of(key: u64) -> Found
+fn task_of(key: u64) -> Option<usize>
     ensures { found_of result ≡ task_of key }
 {
     if key == 0 {
-        return Found::Nothing;
+        return None;
     }
-    Found::At(255 - (key % 256) as usize)
+    Some(255 - (key % 256) as usize)
 }
 
 // The first ready task of the schedule in w, by the keys.
-pub fn first_ready(w: &[u32], kept: &[u32], q: &[u64]) -> Found
+pub fn first_ready(w: &[u32], kept: &[u32], q: &[u64]) -> Option<usize>
     requires kept { Kept w.now kept.now }
     requires keyed { Keyed (sheet_in w.now) (schedule_in w.now) q.now }
     ensures { (found_of result ≡ first_ready (sheet_in w.now) (schedule_in w.now)) × Below (task_count (sheet_in w.now)) result }
@@ -198,7 +189,7 @@ pub fn first_ready(w: &[u32], kept: &[u32], q: &[u64]) -> Found
 }
 
 // The first partly ready task of the schedule in w, by the keys.
-pub fn first_partly(w: &[u32], kept: &[u32], q: &[u64]) -> Found
+pub fn first_partly(w: &[u32], kept: &[u32], q: &[u64]) -> Option<usize>
     requires kept { Kept w.now kept.now }
     requires keyed { Keyed (sheet_in w.now) (schedule_in w.now) q.now }
     ensures { (found_of result ≡ first_partly_ready (sheet_in w.now) (schedule_in w.now)) × Below (task_count (sheet_in w.now)) result }

@@ -4,13 +4,13 @@ use native.Mathlib.Omega.{arith}
 use native.Mathlib.Decide.{dec_lt}
 use mathlib.Core.Bool.{Bool, true, false, not, true≢false}
 use mathlib.Core.Path.{◌≡◌, refl, sym, ap, ap₂, ◌∙◌, subst}
-use mathlib.Core.Logic.{◌⊎◌, inl, inr, ⊎_elim}
+use mathlib.Core.Logic.{inl, inr, ⊎_elim}
 use mathlib.Core.List.{List, [], ◌++◌, append_assoc, append-nil}
 use lib.ListN.{length, get_or}
-use lib.Dec.{eqb, ltb}
-use borrow.Author.Tests.{eqb-true, ne_eqb, lt-ltb, le-ltb, ltb-true}
+use lib.Dec.{ltb}
+use borrow.Author.Tests.{ne_eqb, lt-ltb, le-ltb, ltb-true}
 use Rattle.folds.specs.Folds.{pick, either, both, gather}
-use Rattle.folds.proofs.Tests.{either-part, both-parts, both_false}
+use Rattle.folds.proofs.Tests.{either-part, both-parts}
 use Rattle.admission.specs.Notes.{slots_at, releases_at}
 use Rattle.releasing.specs.Inserting.{Lay, due_bytes, due_from, behind_bytes}
 use Rattle.releasing.specs.Queues.{queues, things, Declared, queue_of, First, over, next, Queued, Queues, BehindIs}

@@ -4,7 +4,7 @@ use native.Mathlib.Omega.{arith}
 use native.Mathlib.Decide.{dec_lt}
 use mathlib.Core.Bool.{Bool, true, false, not, false≢true, true≢false}
 use mathlib.Core.Path.{◌≡◌, refl, sym, ap, ◌∙◌, subst}
-use mathlib.Core.List.{List, ◌++◌}
+use mathlib.Core.List.{List}
 use lib.ListN.{length, drop, length-append, length-drop}
 use lib.Dec.{eqb}
 use borrow.Author.Tests.{eqb-true}
@@ -15,8 +15,9 @@ use Rattle.numbers.specs.Number.{Bytes}
 use Rattle.numbers.proofs.Puts.{kept, fits_not, fits-well}
 use Rattle.sheet.specs.Sheet.{Sheet, task_count, link_count}
 use Rattle.sheet.specs.Tables.{sheet_in}
-use Rattle.sheet_reader.specs.declared.Reading.{Reading}
-use Rattle.sheet_reader.specs.declared.Reading.TheVariants as readings
+use Rattle.std.specs.Prelude.{⊤, Result, Ok, Err}
+use Rattle.refusals.specs.Refusals.{refusal, written_of, WriteIs}
+use Rattle.refusals.specs.declared.Refusal.{Refusal}
 use Rattle.graph.specs.Graph.{read_sheet}
 use Rattle.levelling.specs.Opened.{OpenIs}
 use Rattle.levelling.proofs.Opens.{open-refusal, open-value}
@@ -27,7 +28,7 @@ use Rattle.bundle.proofs.Rounds.{read-formed, bytes-again}
 use Rattle.admission.specs.Counting.{whole}
 use Rattle.admission.specs.Releases.{frees}
 use Rattle.admission.specs.Messages.{Published}
-use Rattle.admission.specs.Fields.{Known, Seen}
+use Rattle.admission.specs.Fields.{Seen}
 use Rattle.admission.specs.Views.{ViewIs, Shown}
 use Rattle.admission.specs.Notes.{releases_at, discards_at, slots_end, rank, NotesIs}
 use Rattle.admission.specs.Lasts.{LastsIs}
@@ -38,32 +39,29 @@ use Rattle.admission.proofs.Few.{short-of-read}
 use Rattle.admission.proofs.Keeping.{lasts-self, given-apart}
 use Rattle.stepping_machine.specs.Layout as lay
 use Rattle.checker.specs.Checker.{checked}
-use Rattle.checker.specs.Verdicts.{verdict_of, checked_bytes, JudgementIs}
-use Rattle.checker.specs.declared.Verdict.{Verdict}
-use Rattle.checker.specs.declared.Verdict.TheVariants as verdicts
+use Rattle.checker.specs.Verdicts.{checked_bytes, JudgementIs}
+use Rattle.checker.proofs.Verdicts.{good-value, refused-value}
 use Rattle.checker.proofs.Accepted.{passes}
 use Rattle.releasing.specs.Releasing.{releasing, passed}
 use Rattle.releasing.specs.Inserting.{Lay, part, with_releases, Bare, Marked, FreesIs}
 use Rattle.releasing.specs.Queues.{Queued, Above, AllIs, InsertIs}
-use Rattle.releasing.specs.Passing.{passed_bytes, pass, written_of, WriteIs, ReleasedIs, AcceptedIs, PassIs, ReleaseIs}
-use Rattle.releasing.specs.declared.Written.{Written}
-use Rattle.releasing.specs.declared.Written.TheVariants.{Long, Refused}
+use Rattle.releasing.specs.Passing.{passed_bytes, pass, ReleasedIs, AcceptedIs, PassIs, ReleaseIs}
 use Rattle.releasing.proofs.Lays.{lay-as, lay-front, part-rest}
 use Rattle.releasing.proofs.Marks.{marked}
 
 -- what was lent is too short, or not
-write-short : (old v : List ℕ) (n : ℕ) → n ≡ length v → length old < n → WriteIs (fitting (length old) v) old old (Refused 12 n)
+write-short : (old v : List ℕ) (n : ℕ) → n ≡ length v → length old < n → WriteIs (fitting (length old) v) old old (Err (refusal 12 n))
 write-short old v n e l =
     let f = fits_not (length old) v (omega arith) in
-    record { answer = ap (Refused 12) e ∙ sym (ap written_of f); left = kept old 12 (length v) ∙ sym (ap (written old) f) }
+    record { answer = ap (λ (i : ℕ). Err (refusal 12 i)) e ∙ sym (ap written_of f); left = kept old 12 (length v) ∙ sym (ap (written old) f) }
 
-write-fits : {old last : List ℕ} {r : ℕ} (v : List ℕ) (n : ℕ) → n ≡ length v → n ≤ length old → Lay old 0 v last r → WriteIs (fitting (length old) v) old last (Long n)
+write-fits : {old last : List ℕ} {r : ℕ} (v : List ℕ) (n : ℕ) → n ≡ length v → n ≤ length old → Lay old 0 v last r → WriteIs (fitting (length old) v) old last (Ok n)
 write-fits {old} v n e l g =
     let f = fits-well (length old) v (omega arith) in
-    record { answer = ap Long e ∙ sym (ap written_of f); left = lay-front g (omega arith) ∙ sym (ap (written old) f) }
+    record { answer = ap Ok e ∙ sym (ap written_of f); left = lay-front g (omega arith) ∙ sym (ap (written old) f) }
 
 -- what was lent keeps its length
-write-long : {old last : List ℕ} {r : Written} (v : List ℕ) → WriteIs (fitting (length old) v) old last r → length last ≡ length old
+write-long : {old last : List ℕ} {r : Result ℕ Refusal} (v : List ℕ) → WriteIs (fitting (length old) v) old last r → length last ≡ length old
 unfolding written
 write-long {old} {last} v g = ap length g.left ∙ by (dec_lt (length old) (length v))
   where
@@ -72,21 +70,21 @@ write-long {old} {last} v g = ap length g.left ∙ by (dec_lt (length old) (leng
     by (no l) = ap (λ (a : Answer (List ℕ)). length (written old a)) (fits-well (length old) v (omega arith)) ∙ omega (arith, length-append v (drop (length v) old), length-drop (length v) old)
 
 -- the bundle as it is
-pub same-short : (bundle old : List ℕ) → length old < length bundle → WriteIs (fitting (length old) bundle) old old (Refused 12 (length bundle))
+pub same-short : (bundle old : List ℕ) → length old < length bundle → WriteIs (fitting (length old) bundle) old old (Err (refusal 12 (length bundle)))
 same-short bundle old l = write-short old bundle (length bundle) refl l
 
-pub same-fits : {old last : List ℕ} (bundle : List ℕ) (r : ℕ) → length bundle ≤ length old → Lay old 0 (part bundle 0 (length bundle)) last r → WriteIs (fitting (length old) bundle) old last (Long r)
+pub same-fits : {old last : List ℕ} (bundle : List ℕ) (r : ℕ) → length bundle ≤ length old → Lay old 0 (part bundle 0 (length bundle)) last r → WriteIs (fitting (length old) bundle) old last (Ok r)
 same-fits bundle r l g =
     let h = lay-as (part-rest bundle 0 (omega arith)) g in
     write-fits bundle r (omega (arith, h.next)) (omega (arith, h.next)) h
 
 -- with its releases, which were measured
 module _ {bundle w own own' old : List ℕ} {need : ℕ} (g : InsertIs bundle w own own' need) where
-  pub released-short : length old < need → ReleasedIs bundle w old old (Refused 12 need)
+  pub released-short : length old < need → ReleasedIs bundle w old old (Err (refusal 12 need))
   released-short l =
       record { long = refl; is = λ s b h k q. let x = (g.is s b h k q).next in write-short old (bundle_bytes (with_releases s b)) need (omega arith) l }
 
-  pub released-fits : {last : List ℕ} {r : ℕ} → InsertIs bundle w old last r → need ≤ length old → ReleasedIs bundle w old last (Long need)
+  pub released-fits : {last : List ℕ} {r : ℕ} → InsertIs bundle w old last r → need ≤ length old → ReleasedIs bundle w old last (Ok need)
   released-fits f l =
       record {
         long = f.long;
@@ -123,7 +121,7 @@ no-release b e = eqb-true (whole b frees) 0 (by (eqb (whole b frees) 0) e)
 pub frees-told : {bundle : List ℕ} {r u : Bool} → FreesIs bundle r → r ≡ u → FreesIs bundle u
 frees-told {bundle} g e = subst (FreesIs bundle) e g
 
-pub accepted-same : {sheet bundle w old last : List ℕ} {v : View} {r : Written} → FreesIs bundle true → Bytes bundle → WriteIs (fitting (length old) bundle) old last r
+pub accepted-same : {sheet bundle w old last : List ℕ} {v : View} {r : Result ℕ Refusal} → FreesIs bundle true → Bytes bundle → WriteIs (fitting (length old) bundle) old last r
     → AcceptedIs sheet bundle w w v old last r
 unfolding releasing
 accepted-same {sheet} {bundle} {w} {old} {last} {v} {r} f bytes g =
@@ -144,7 +142,7 @@ marked-above {s} {b} g h =
       messages = λ l m k i y. ap (λ (u : ℕ). eqb u (4096 * suc k + rank b k i)) (g.high (discards_at + l) (omega arith)) ∙ h.messages l m k i y;
     }
 
-pub accepted-released : {sheet bundle w u x y old last : List ℕ} {v : View} {r : Written} {met : ℕ} → FreesIs bundle false → Bytes bundle → slots_end ≤ length w → NotesIs bundle w u v.tasks v.links met
+pub accepted-released : {sheet bundle w u x y old last : List ℕ} {v : View} {r : Result ℕ Refusal} {met : ℕ} → FreesIs bundle false → Bytes bundle → slots_end ≤ length w → NotesIs bundle w u v.tasks v.links met
     → LastsIs sheet u x v → AllIs x y v.tasks v.links → ReleasedIs bundle y old last r → AcceptedIs sheet bundle w y v old last r
 unfolding releasing
 accepted-released {sheet} {bundle} {w} {u} {x} {y} {old} {last} {v} {r} {met} f bytes long notes lasts all g =
@@ -191,28 +189,20 @@ passed-by s bundle = by (read_bundle s bundle)
     by (value b) = inner (checked s b)
     by (refused n at) = refl
 
-refused-value : (a : Answer Bundle) (r at : ℕ) → verdicts.Refused r at ≡ verdict_of a → a ≡ refused r at
-refused-value (value b) r at e = let z : ◌≡◌ {A = ℕ} 0 1 = cc in absurd (omega arith)
-refused-value (refused n q) r at e = cc
-
-good-value : (a : Answer Bundle) → verdicts.Good ≡ verdict_of a → (b : Bundle) × (a ≡ value b)
-good-value (value b) e = (b, refl)
-good-value (refused n at) e = let z : ◌≡◌ {A = ℕ} 0 1 = cc in absurd (omega arith)
-
-pub pass-refused : {sheet bundle w u old : List ℕ} {v : View} {o : Verdict} (r at : ℕ) → JudgementIs sheet bundle w u v o → o ≡ verdicts.Refused r at → PassIs sheet bundle w u v old old (Refused r at)
-pass-refused {sheet} {bundle} {old = old} r at g e =
+pub pass-refused : {sheet bundle w u old : List ℕ} {v : View} {o : Result ⊤ Refusal} (r : Refusal) → JudgementIs sheet bundle w u v o → o ≡ Err r → PassIs sheet bundle w u v old old (Err r)
+pass-refused {sheet} {bundle} {old = old} r g e =
     record {
       area = g.long;
       long = refl;
       is =
           λ s k.
-          let a : passed_bytes s bundle ≡ refused r at =
-          passed-by s bundle ∙ ap (λ (x : Answer Bundle). and_then x (λ b. value (bundle_bytes (releasing s b)))) (refused-value (checked_bytes s bundle) r at (sym e ∙ g.is s k))
+          let a : passed_bytes s bundle ≡ refused r.number r.place =
+          passed-by s bundle ∙ ap (λ (x : Answer Bundle). and_then x (λ b. value (bundle_bytes (releasing s b)))) (refused-value (checked_bytes s bundle) r (sym e ∙ g.is s k))
           in
-          rw a (record { answer = refl; left = kept old r at });
+          rw a (record { answer = refl; left = kept old r.number r.place });
     }
 
-pub pass-good : {sheet bundle w u x old last : List ℕ} {v : View} {o : Verdict} {r : Written} → JudgementIs sheet bundle w u v o → o ≡ verdicts.Good → AcceptedIs sheet bundle u x v old last r
+pub pass-good : {sheet bundle w u x old last : List ℕ} {v : View} {o : Result ⊤ Refusal} {r : Result ℕ Refusal} → JudgementIs sheet bundle w u v o → o ≡ Ok tt → AcceptedIs sheet bundle u x v old last r
     → PassIs sheet bundle w x v old last r
 pass-good {sheet} {bundle} g e h =
     record {
@@ -228,7 +218,7 @@ pass-good {sheet} {bundle} g e h =
     }
 
 -- an accepted bundle is short
-pub good-short : {sheet bundle w u : List ℕ} {v : View} {o : Verdict} → Seen sheet v → Bytes bundle → JudgementIs sheet bundle w u v o → o ≡ verdicts.Good → length bundle < 4294967296
+pub good-short : {sheet bundle w u : List ℕ} {v : View} {o : Result ⊤ Refusal} → Seen sheet v → Bytes bundle → JudgementIs sheet bundle w u v o → o ≡ Ok tt → length bundle < 4294967296
 good-short {sheet} {bundle} seen bytes g e =
     let s = seen.board in
     let k = seen.known in
@@ -237,16 +227,16 @@ good-short {sheet} {bundle} seen bytes g e =
     short-of-read s bundle a.0 k.ranged.few_tasks k.ranged.few_links (few-programmes s bundle a.0 r.0 k.ranged.few_processors) bytes r.0 r.1
 
 -- 1 to 10, and by the sheet that was read
-module _ (sheet bundle work mid : List ℕ) {o : Reading} (h : OpenIs (read_sheet sheet) work mid o) where
-  pub sheet-refused : (old : List ℕ) (r e : ℕ) → o ≡ readings.Refused r e → ReleaseIs sheet bundle work mid old old (Refused r e)
+module _ (sheet bundle work mid : List ℕ) {o : Result ⊤ Refusal} (h : OpenIs (read_sheet sheet) work mid o) where
+  pub sheet-refused : (old : List ℕ) (r : Refusal) → o ≡ Err r → ReleaseIs sheet bundle work mid old old (Err r)
   unfolding pass
-  sheet-refused old r e q =
+  sheet-refused old r q =
       record {
         area = h.long;
-        is = rw (open-refusal h r e q) (record { answer = refl; left = kept old r e });
+        is = rw (open-refusal h r q) (record { answer = refl; left = kept old r.number r.place });
       }
 
-  pub sheet-read : (last after old out : List ℕ) (v : View) (r : Written) → o ≡ readings.Read → Shown sheet mid → ViewIs mid v
+  pub sheet-read : (last after old out : List ℕ) (v : View) (r : Result ℕ Refusal) → o ≡ Ok tt → Shown sheet mid → ViewIs mid v
       → PassIs sheet bundle (mid_of lay.board (length mid - lay.board) mid) last v old out r → length after ≡ length mid → ReleaseIs sheet bundle work after old out r
   unfolding pass
   sheet-read last after old out v r q y z g e =

@@ -1,27 +1,25 @@
 -- The search for a release in a bundle's bytes.
-use Prim.Native.Nat.{ℕ, zero, suc, ◌+◌, ◌-◌, ◌≤◌, ◌<◌}
+use Prim.Native.Nat.{ℕ, suc, ◌+◌, ◌-◌, ◌≤◌, ◌<◌}
 use native.Mathlib.Omega.{arith}
 use native.Mathlib.Decide.{ℕ_discrete}
 use mathlib.Core.Bool.{true, false, not}
-use mathlib.Core.Option.{some}
 use mathlib.Core.Path.{◌≡◌, refl, sym, ap, ◌∙◌}
-use mathlib.Core.List.{List, []}
-use lib.ListN.{length, get_or, take, drop, get_elem?, drop_of_length-le}
-use lib.Dec.{eqb}
+use mathlib.Core.List.{List}
+use lib.ListN.{length, get_or, take, drop, drop_of_length-le}
 use borrow.Author.Tests.{eq-eqb, ne_eqb}
 use Rattle.folds.specs.Folds.{bit, sum}
 use Rattle.folds.specs.Answers.{value}
 use Rattle.folds.proofs.Laws.{term-le-sum}
 use Rattle.numbers.specs.Number.{Bytes}
 use Rattle.sheet.specs.Sheet.{Sheet, task_count, link_count}
-use Rattle.bundle.specs.Bundle.{Command, Bundle, programme_count, programme_of}
+use Rattle.bundle.specs.Bundle.{Bundle, programme_count, programme_of}
 use Rattle.bundle.specs.Sizes.{short_size, claim_size}
 use Rattle.bundle.specs.Format.{read_bundle}
 use Rattle.bundle.specs.Kinds.{is_message, size_by}
 use Rattle.bundle.specs.Lies.{size_of}
 use Rattle.bundle.proofs.Lying.{stands-sized}
 use Rattle.admission.specs.Counting.{weigh, whole_of, whole}
-use Rattle.admission.specs.Releases.{is_release, frees}
+use Rattle.admission.specs.Releases.{frees}
 use Rattle.admission.proofs.Weights.{command-below, weigh-split, weigh-take, weigh-drop}
 use Rattle.admission.proofs.Rows.{rows}
 use Rattle.admission.proofs.Noted.{stands-slot, stands-release}

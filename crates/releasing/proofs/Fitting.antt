@@ -1,15 +1,14 @@
 -- The passed bundle can be written: its releases are declared, and it has no more programmes.
-use Prim.Native.Nat.{ℕ, suc, ◌<◌}
+use Prim.Native.Nat.{ℕ, suc}
 use native.Mathlib.Omega.{arith}
 use mathlib.Core.Bool.{Bool, true, false}
-use mathlib.Core.Path.{◌≡◌}
-use mathlib.Core.List.{List, [], ◌∷◌, ◌++◌, map}
-use lib.ListN.{length, length-map}
+use mathlib.Core.List.{List, [], ◌∷◌, map}
+use lib.ListN.{length-map}
 use lib.Dec.{eqb}
 use Rattle.folds.specs.Folds.{pick, gather}
 use Rattle.sheet.specs.Sheet.{Sheet, task_count, link_count}
 use Rattle.bundle.specs.Bundle.{Command, release, discard, Bundle}
-use Rattle.bundle.specs.Fits.{Known, Each, Formed, Fits}
+use Rattle.bundle.specs.Fits.{Known, Each, Fits}
 use Rattle.bundle.proofs.Parts.{each_append}
 use Rattle.admission.specs.Counting.{whole}
 use Rattle.admission.specs.Releases.{frees}

@@ -1,32 +1,29 @@
 -- What is kept for the releases of a bundle that has none tells behind which command each belongs.
-use Prim.Native.Nat.{ℕ, zero, suc, ◌+◌, ◌*◌, ◌/◌, ◌≤◌, ◌<◌}
+use Prim.Native.Nat.{ℕ, zero, suc, ◌+◌, ◌*◌, ◌≤◌, ◌<◌}
 use native.Mathlib.Omega.{arith}
 use native.Mathlib.Decide.{ℕ_discrete, dec_lt}
 use mathlib.Core.Bool.{true, false, true≢false}
 use mathlib.Core.Option.{Option, none, some}
 use mathlib.Core.Path.{◌≡◌, refl, sym, ap, ◌∙◌, subst}
-use mathlib.Core.Logic.{◌≢◌, ◌⊎◌, inl, inr, ⊎_elim}
+use mathlib.Core.Logic.{◌≢◌, ⊎_elim}
 use mathlib.Core.List.{List, [], ◌∷◌}
-use lib.ListN.{length, get_or, take, drop, get_elem?}
-use lib.Dec.{eqb, ltb}
-use borrow.Author.Tests.{eqb-true, eq-eqb, ne_eqb, lt-ltb, ltb-true}
-use Rattle.folds.specs.Folds.{first}
-use Rattle.folds.specs.Answers.{value}
+use lib.ListN.{length, take, drop, get_elem?}
+use lib.Dec.{eqb}
+use borrow.Author.Tests.{eq-eqb, ne_eqb, lt-ltb, ltb-true}
 use Rattle.folds.proofs.Tests.{not_some}
 use Rattle.folds.proofs.Laws.{none_first, term-le-sum}
-use Rattle.sheet.specs.Sheet.{Sheet, task_count, link_count}
+use Rattle.sheet.specs.Sheet.{Sheet, link_count}
 use Rattle.bundle.specs.Bundle.{Command, run, send, receive, release, discard, Bundle, programme_count, programme_of}
-use Rattle.bundle.specs.Format.{read_bundle}
 use Rattle.bundle.specs.Fits.{Each}
 use Rattle.bundle.specs.Fits as fits
 use Rattle.admission.specs.Counting.{weigh, whole_of, whole, is}
-use Rattle.admission.specs.Releases.{is_release, frees, gets, uses, held, right}
+use Rattle.admission.specs.Releases.{is_release, gets, uses, held, right}
 use Rattle.admission.specs.Messages.{at26, at_message}
-use Rattle.admission.specs.Notes.{Notable, releases_at, discards_at, rank}
+use Rattle.admission.specs.Notes.{Notable, rank}
 use Rattle.admission.specs.Lasts.{message_of, Lasts}
 use Rattle.admission.specs.Rules.{Given}
 use Rattle.admission.specs.declared.view.View.{View}
-use Rattle.admission.proofs.Weights.{programme-or, command-below, weigh-split, weigh-take, is-refl}
+use Rattle.admission.proofs.Weights.{programme-or, weigh-split, is-refl}
 use Rattle.admission.proofs.Messages.{run-once}
 use Rattle.admission.proofs.Splits.{message-once}
 use Rattle.admission.proofs.Walking.{each-elem}

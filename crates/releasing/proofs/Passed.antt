@@ -1,18 +1,18 @@
 -- The pass: an accepted bundle comes out accepted, with the same claim and no more store in use at any moment.
-use Prim.Native.Nat.{ℕ, zero, suc, ◌+◌, ◌≤◌, ◌<◌}
+use Prim.Native.Nat.{ℕ, suc, ◌≤◌, ◌<◌}
 use native.Mathlib.Omega.{arith}
 use mathlib.Core.Bool.{Bool, true, false, not}
-use mathlib.Core.Option.{Option, none, some}
-use mathlib.Core.Path.{◌≡◌, refl, sym, ap, ap₂, ◌∙◌, subst}
-use mathlib.Core.Logic.{◌⊎◌, inl, inr, ⊎_elim}
+use mathlib.Core.Option.{none}
+use mathlib.Core.Path.{◌≡◌, refl, sym, ap, ap₂, ◌∙◌}
+use mathlib.Core.Logic.{⊎_elim}
 use mathlib.Core.List.{List, [], ◌∷◌, ◌++◌, map}
 use lib.ListN.{get_or, take}
 use lib.Dec.{eqb}
-use borrow.Author.Tests.{eqb-true, eq-eqb, ne_eqb}
-use Rattle.folds.specs.Folds.{pick, bit, both, first}
-use Rattle.folds.specs.Answers.{Answer, value, refused, and_then}
+use borrow.Author.Tests.{eqb-true, ne_eqb}
+use Rattle.folds.specs.Folds.{pick, bit}
+use Rattle.folds.specs.Answers.{value, refused}
 use Rattle.folds.proofs.Laws.{term-le-sum}
-use Rattle.sheet.specs.Sheet.{Sheet, task_count, link_count, source_of, target_of}
+use Rattle.sheet.specs.Sheet.{Sheet, task_count, source_of, target_of}
 use Rattle.bundle.specs.Bundle.{Command, run, send, receive, Bundle, programme_count, programme_of}
 use Rattle.admission.specs.Counting.{weigh, whole_of, whole, is, in_use}
 use Rattle.admission.specs.Releases.{is_release, frees}
@@ -21,7 +21,7 @@ use Rattle.admission.specs.Unsplit.{inside_ok, across_ok, link_ok}
 use Rattle.admission.proofs.Weights.{programme-or, weigh-append}
 use Rattle.admission.proofs.Splits.{link-right, right-links}
 use Rattle.admission.proofs.Rights.{right-all}
-use Rattle.machine.specs.Machine.{State, processor_of}
+use Rattle.machine.specs.Machine.{processor_of}
 use Rattle.machine.specs.Runs.{fresh_run, run_of}
 use Rattle.machine.proofs.Steps.{Sound, sound-step}
 use Rattle.machine.proofs.Runs.{keeps, fresh-sound}
@@ -30,7 +30,7 @@ use Rattle.checker.proofs.Accepted.{Passes, accepted, passes}
 use Rattle.releasing.specs.Releasing.{releases_at, rest_with, released, releasing, passed}
 use Rattle.bundle.specs.Fits.{Each}
 use Rattle.releasing.proofs.Programme.{Plain, block-releases, own, own-blind, is-blind, released-before, released-right, place, released-use}
-use Rattle.releasing.proofs.Running.{first_cong, released-rest, with, count-with, programme-with, whole_with, home-with, beside-leads, beside-fresh, beside-left, beside-latest}
+use Rattle.releasing.proofs.Running.{first_cong, released-rest, with, programme-with, whole_with, home-with, beside-leads, beside-fresh, beside-left, beside-latest}
 
 -- no release anywhere
 plain-list : (q : List Command) → weigh frees q ≡ 0 → Each Plain q

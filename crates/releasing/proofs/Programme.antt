@@ -1,25 +1,25 @@
 -- One programme with its releases: what stands where, and that each release is right and could stand nowhere earlier.
-use Prim.Native.Nat.{ℕ, zero, suc, ◌+◌, ◌-◌, ◌≤◌, ◌<◌}
+use Prim.Native.Nat.{ℕ, zero, suc, ◌+◌, ◌≤◌, ◌<◌}
 use native.Mathlib.Omega.{arith}
 use native.Mathlib.Decide.{dec_lt}
 use mathlib.Core.Bool.{Bool, true, false, not, false≢true, true≢false}
 use mathlib.Core.Option.{Option, none, some}
-use mathlib.Core.Path.{◌≡◌, refl, sym, ap, ap₂, ◌∙◌, subst}
-use mathlib.Core.Logic.{◌≢◌, ◌⊎◌, inl, inr, ⊎_elim}
-use mathlib.Core.List.{List, [], ◌∷◌, ◌++◌, append_assoc, append-nil}
+use mathlib.Core.Path.{◌≡◌, refl, sym, ap, ◌∙◌, subst}
+use mathlib.Core.Logic.{◌≢◌, ◌⊎◌, inl, inr}
+use mathlib.Core.List.{List, [], ◌∷◌, ◌++◌}
 use lib.ListN.{length, take, drop, get_elem?}
 use lib.Seq.{take_all}
 use lib.Dec.{eqb, ltb}
 use borrow.Author.Tests.{eqb-true, eq-eqb, ne_eqb, ltb-true, lt-ltb, le-ltb}
-use Rattle.folds.specs.Folds.{pick, bit, both, sum, first, gather}
+use Rattle.folds.specs.Folds.{pick, bit, sum, gather}
 use Rattle.folds.proofs.Tests.{both-parts, parts-both, not_some, equal-or}
 use Rattle.folds.proofs.Laws.{sum-only, sum_zeros, first_some, first-none, first-lowest, first_found}
 use Rattle.sheet.specs.Sheet.{Sheet, task_count, link_count}
 use Rattle.bundle.specs.Bundle.{Command, run, send, receive, release, discard}
-use Rattle.admission.specs.Counting.{weigh, same, is, need, gives, in_use}
+use Rattle.admission.specs.Counting.{weigh, is, need, gives, in_use}
 use Rattle.admission.specs.Releases.{is_release, gets, uses_result, uses_message, uses, held, right}
 use Rattle.admission.specs.Messages.{before}
-use Rattle.admission.proofs.Weights.{weigh-split, weigh-drop, weigh-take, weigh-append, weigh-gather, is-refl, not_same}
+use Rattle.admission.proofs.Weights.{weigh-split, weigh-drop, weigh-append, weigh-gather, is-refl}
 use Rattle.admission.proofs.Before.{before-skip}
 use Rattle.admission.proofs.Rights.{plain-release, release-plain, Right, balance}
 use Rattle.admission.proofs.Walking.{each-elem}

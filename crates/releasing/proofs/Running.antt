@@ -1,16 +1,16 @@
 -- A bundle with its releases does what it did without them: the same commands, at the same times.
-use Prim.Native.Nat.{ℕ, zero, suc, ◌+◌, ◌≤◌, ◌<◌, max}
+use Prim.Native.Nat.{ℕ, zero, suc, ◌+◌}
 use native.Mathlib.Omega.{arith}
 use mathlib.Core.Bool.{Bool, true, false, false≢true, true≢false}
 use mathlib.Core.Option.{Option, none, some}
 use mathlib.Core.Path.{◌≡◌, refl, sym, ap, ap₂, ◌∙◌, subst}
-use mathlib.Core.Logic.{◌≢◌, ◌⊎◌, inl, inr, ⊎_elim}
+use mathlib.Core.Logic.{◌≢◌, ⊎_elim}
 use mathlib.Core.List.{List, [], ◌∷◌, ◌++◌, map}
-use lib.ListN.{length, take, drop, get_or, get_elem?, length-set, length-replicate, length-map, get_or-map}
+use lib.ListN.{length, drop, get_or, get_elem?, length-set, length-replicate, length-map, get_or-map}
 use lib.Dec.{ltb}
 use borrow.Author.Tests.{ne_eqb}
-use Rattle.folds.specs.Folds.{pick, both, sum, greatest, first, keep, gather, or_value}
-use Rattle.folds.proofs.Tests.{not_some, equal-or, both-parts}
+use Rattle.folds.specs.Folds.{pick, first, gather, or_value}
+use Rattle.folds.proofs.Tests.{equal-or}
 use Rattle.folds.proofs.Laws.{sum-cong, greatest-cong, sum_zeros, first_some}
 use Rattle.sheet.specs.Sheet.{Sheet, task_count, link_count, target_of}
 use Rattle.bundle.specs.Bundle.{Command, run, send, receive, release, discard, Bundle, programme_count, programme_of}
@@ -18,7 +18,7 @@ use Rattle.admission.specs.Counting.{weigh, whole_of, whole, each, is}
 use Rattle.admission.specs.Releases.{is_release, held, right}
 use Rattle.admission.specs.Messages.{holds, home}
 use Rattle.admission.proofs.Walking.{drop-next, drop_at, each-elem}
-use Rattle.machine.specs.Machine.{State, Processor, fresh_processor, fresh_state, processor_of, stamp_of, next, waits, travels, stated, takes, after, posted, moved, step}
+use Rattle.machine.specs.Machine.{State, Processor, fresh_state, processor_of, stamp_of, next, waits, travels, stated, takes, after, posted, moved}
 use Rattle.machine.specs.Runs.{left_of, left, clock_of, latest}
 use Rattle.machine.proofs.Steps.{step_move, move_step, other, self}
 use Rattle.machine.proofs.Runs.{Leads, here, on, leads-on, ended, fresh-processor}

@@ -1,5 +1,5 @@
 -- How the pass writes: a command's bytes, and behind them the releases that are due there. What was lent may be too short; bytes behind its end are not kept, and count all the same.
-use Rattle.std.specs.Prelude.{ℕ, suc, ◌+◌, ◌*◌, ◌-◌, ◌<◌, ◌≤◌, ◌≡◌, Bool, not, List, [], ◌∷◌, ◌++◌, map, length, get_or, take, drop, eqb, ltb}
+use Rattle.std.specs.Prelude.{ℕ, suc, ◌+◌, ◌*◌, ◌-◌, ◌<◌, ◌≤◌, ◌≡◌, Bool, not, List, [], ◌++◌, map, length, get_or, take, drop, eqb, ltb}
 use Rattle.std.proofs.Math.Option.{none}
 use Rattle.std.proofs.lemmas.List.Edits.{sets}
 use Rattle.folds.specs.Folds.{pick, gather}

@@ -1,5 +1,5 @@
 -- The pass that gives back store: each release at its earliest right position, results before messages, both in rising number.
-use Rattle.std.specs.Prelude.{ℕ, zero, suc, Bool, false, List, [], ◌∷◌, ◌++◌, map, length, take, drop, eqb}
+use Rattle.std.specs.Prelude.{ℕ, suc, Bool, false, List, [], ◌∷◌, ◌++◌, map, length, take, drop, eqb}
 use Rattle.std.proofs.Math.Option.{Option, none, some}
 use Rattle.folds.specs.Folds.{pick, first, gather}
 use Rattle.folds.specs.Answers.{Answer, value, and_then}

@@ -15,9 +15,10 @@ fn put_if_due(w: &[u32], out: &mut [u8], at: usize, note: usize, x: usize) -> us
     ensures { Lay out.old at (due_bytes w.now note x) out.new result × (result ≤ at + 3) }
 {
     if workspace::total::word(w, RELEASES + x) == note {
-        return put_release(out, at, x);
+        put_release(out, at, x)
+    } else {
+        at
     }
-    at
 }
 
 // Behind the command with this note, by its queue.
@@ -40,14 +41,14 @@ pub fn insert(bundle: &[u8], w: &[u32], out: &mut [u8]) -> usize
     requires { Queues w.now × (length bundle.now < 4294967296) }
     ensures { InsertIs bundle.now w.now out.old out.new result }
 {
-    let end = numbers::minus(bundle.len(), CLAIM_SIZE);
-    let mut to = copy(bundle, 0, numbers::smaller(end, SHORT_SIZE), out, 0);
+    let end = bundle.len().saturating_sub(CLAIM_SIZE);
+    let mut to = copy(bundle, 0, end.min(SHORT_SIZE), out, 0);
     let mut at: usize = SHORT_SIZE;
     let mut k: usize = 0;
     let mut r: usize = 0;
     while at < end {
-        let c = numbers::get8(bundle, at);
-        let size = size_of(c as u16);
+        let c = bundle[at];
+        let size = size_of(u16::from(c));
         to = copy(bundle, at, at + size, out, to);
         at += size;
         if c == 0x50 {
@@ -64,14 +65,14 @@ pub fn insert(bundle: &[u8], w: &[u32], out: &mut [u8]) -> usize
 pub fn has_release(bundle: &[u8]) -> bool
     ensures { FreesIs bundle.now result }
 {
-    let end = numbers::minus(bundle.len(), CLAIM_SIZE);
+    let end = bundle.len().saturating_sub(CLAIM_SIZE);
     let mut at: usize = SHORT_SIZE;
     while at < end {
-        let c = numbers::get8(bundle, at);
+        let c = bundle[at];
         if c < 0x50 {
             return true;
         }
-        at += size_of(c as u16);
+        at += size_of(u16::from(c));
     }
     false
 }

@@ -16,11 +16,9 @@ pub fn copy(bundle: &[u8], from: usize, to: usize, out: &mut [u8], start: usize)
     requires { (from ≤ to) × (to ≤ length bundle.now) × (start < 1152921504606846976) }
     ensures { Lay out.old start (part bundle.now from to) out.new result }
 {
-    let mut i = from;
     let mut at = start;
-    while i < to {
+    for i in from..to {
         put(out, at, bundle[i]);
-        i += 1;
         at += 1;
     }
     at
@@ -34,11 +32,12 @@ pub fn put_release(out: &mut [u8], at: usize, x: usize) -> usize
     if x < 256 {
         put(out, at, 0x46);
         put(out, at + 1, x as u8);
-        return at + 2;
+        at + 2
+    } else {
+        let l = x - 256;
+        put(out, at, 0x47);
+        put(out, at + 1, (l % 256) as u8);
+        put(out, at + 2, (l / 256 % 256) as u8);
+        at + 3
     }
-    let l = x - 256;
-    put(out, at, 0x47);
-    put(out, at + 1, (l % 256) as u8);
-    put(out, at + 2, (l / 256 % 256) as u8);
-    at + 3
 }

@@ -5,10 +5,3 @@ pub mod laying; // laying.rt: bytes laid over what was lent, as far as it reache
 pub mod queueing; // queueing.rt: the releases in queues, by the commands that they belong behind
 pub mod inserting; // inserting.rt: a bundle's commands, and behind each the releases that are due there
 pub mod passes; // passes.rt: the pass of any bytes
-
-// How many bytes were written, or a refusal's number and place.
-#[derive(Clone, Copy)]
-pub enum Written {
-    Long(usize),
-    Refused(u8, usize),
-}

@@ -26,9 +26,7 @@ fn queue_things(w: &mut [u32], a: usize, e: usize)
     requires { (a ≤ e) × (e ≤ 1280) × (slots_end ≤ length w.old) }
     ensures { QueuesIs w.old w.new a e }
 {
-    let mut x = e;
-    while a < x {
-        x -= 1;
+    for x in (a..e).rev() {
         queue_thing(w, x);
     }
 }

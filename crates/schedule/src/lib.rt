@@ -28,7 +28,7 @@ pub fn start(w: &[u32], t: usize) -> usize
     requires t_bound { t < task_count (sheet_in w.now) }
     ensures { (result ≡ start_of (schedule_in w.now) t) × (result < 4294967296) }
 {
-    numbers::minus(finish(w, t), tables::work(w, t))
+    finish(w, t).saturating_sub(tables::work(w, t))
 }
 
 pub fn finish(w: &[u32], t: usize) -> usize
@@ -79,7 +79,7 @@ fn put_place(w: &mut [u32], t: usize, k: usize)
     ensures { w.new ≡ place_words w.old t k }
 {
     let x = workspace::word(w, PLACES + t);
-    w[PLACES + t] = workspace::narrow(k + 65536 * (x / 65536));
+    w[PLACES + t] = (k + 65536 * (x / 65536)) as u32;
 }
 
 // t is the task of turn n.
@@ -88,7 +88,7 @@ fn put_turn(w: &mut [u32], n: usize, t: usize)
     ensures { w.new ≡ turn_words w.old n t }
 {
     let x = workspace::word(w, PLACES + n);
-    w[PLACES + n] = workspace::narrow(x % 65536 + 65536 * t);
+    w[PLACES + n] = (x % 65536 + 65536 * t) as u32;
 }
 
 // t on k until it finishes, as the task after the n that are placed; so many processors are open now.
@@ -99,9 +99,9 @@ pub fn put(w: &mut [u32], t: usize, k: usize, finish: usize, n: usize, opened: u
 {
     put_place(w, t, k);
     put_turn(w, n, t);
-    w[FINISHES + t] = workspace::narrow(finish);
-    w[PLACED] = workspace::narrow(n + 1);
-    w[OPENED] = workspace::narrow(opened);
+    w[FINISHES + t] = finish as u32;
+    w[PLACED] = (n + 1) as u32;
+    w[OPENED] = opened as u32;
 }
 
 // The claim: the latest finish.
@@ -111,10 +111,8 @@ pub fn claim(w: &[u32]) -> usize
 {
     let n = tables::tasks(w);
     let mut last: usize = 0;
-    let mut t: usize = 0;
-    while t < n {
-        last = numbers::later(last, finish(w, t));
-        t += 1;
+    for t in 0..n {
+        last = last.max(finish(w, t));
     }
     last
 }

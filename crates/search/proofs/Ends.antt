@@ -1,34 +1,31 @@
 -- From the walk to the bytes that are written.
+use Rattle.std.specs.Prelude.{⊤, Result, Ok, Err, Some, None}
+use Rattle.std.specs.Prelude.{Option as Maybe}
+use Rattle.refusals.specs.Refusals.{refusal}
+use Rattle.refusals.specs.declared.Refusal.{Refusal}
 use Prim.Native.Nat.{ℕ, ◌+◌, ◌-◌, ◌≤◌, ◌<◌}
 use native.Mathlib.Omega.{arith}
-use native.Mathlib.Numerals.{add-one}
-use mathlib.Core.Bool.{Bool, true, false, true≢false}
+use mathlib.Core.Bool.{Bool, true, false}
 use mathlib.Core.Option.{Option, none, some}
 use mathlib.Core.Path.{◌≡◌, refl, sym, ap, ◌∙◌, subst}
 use mathlib.Core.Logic.{inl, inr}
-use mathlib.Core.List.{List, [], ◌∷◌}
-use lib.ListN.{length, take, set, get_or, length-take}
-use lib.Seq.{take-suc}
+use mathlib.Core.List.{List, ◌++◌, []}
+use lib.ListN.{length, take, drop, length-take}
 use lib.Dec.{ltb}
 use borrow.Author.Tests.{lt-ltb, le-ltb}
 use Rattle.folds.specs.Folds.{pick, either}
 use Rattle.folds.specs.Answers.{Answer, value, refused, and_then, fitting, written}
 use Rattle.folds.proofs.Tests.{part-either}
 use Rattle.numbers.specs.Number.{Bytes, stored}
-use Rattle.numbers.proofs.Laws.{stored_one, stored-then, stored-none}
 use Rattle.numbers.proofs.Puts.{kept, front, fits_not, fits-well}
 use Rattle.sheet.specs.Sheet.{Sheet, task_count}
 use Rattle.sheet.specs.Tables.{sheet_in}
-use Rattle.sheet_reader.specs.declared.Reading.{Reading}
-use Rattle.sheet_reader.specs.declared.Reading.TheVariants as readings
 use Rattle.graph.specs.Graph.{read_sheet}
 use Rattle.graph.proofs.Proper.{proper, proper-sized}
 use Rattle.levelling.specs.Opened.{OpenIs}
 use Rattle.levelling.proofs.Opens.{open-refusal, open-value}
 use Rattle.bundle.specs.Bundle.{Bundle}
-use Rattle.bundle_writer.specs.Writes.{written_of}
-use Rattle.bundle_writer.specs.declared.writer.Judged.{Judged}
-use Rattle.bundle_writer.specs.declared.writer.Judged.TheVariants.{Long, Refused}
+use Rattle.refusals.specs.Refusals.{written_of}
 use Rattle.admission.specs.Views.{ViewIs, Shown}
 use Rattle.admission.specs.declared.view.View.{View}
 use Rattle.admission.proofs.Areas.{known_in}
@@ -67,72 +64,66 @@ begins-empty sheet v =
       work = λ s k. refl;
     }
 
-pub none_right : (v : View) (b : Best) → b.found ≡ false → Right v b
-none_right v b e = record { coded = λ f. absurd (true≢false (sym f ∙ e)) }
+pub none_right : (v : View) → Right v None
+none_right v = record { coded = λ b q. absurd cc }
 
 looked-in : (s : Sheet) (x : List (List ℕ)) → In x (looked s) → In x (candidates s)
 unfolding looked looked_from candidates
 looked-in s x i = pruned-in s.processors (task_count s) (may_open s) (may_join s) (task_count s) [] x i
 
-pub best-done : (sheet : List ℕ) (v : View) (b r : Best) → b.found ≡ false → FoldIs sheet v (λ s. looked_from s v.tasks (begun empty_one)) b r → BestIs sheet v r
+pub best-done : (sheet : List ℕ) (v : View) (r : Maybe Best) → FoldIs sheet v (λ s. looked_from s v.tasks (begun empty_one)) None r → BestIs sheet v r
 unfolding arranged looked
-best-done sheet v b r e f =
+best-done sheet v r f =
     record {
       right = f.right;
       is =
           λ s k.
           let n : v.tasks ≡ task_count s = sym k.known.tasks in
           subst (KeepsOf s v r) (ap (λ (i : ℕ). best_from s (looked_from s i []) none) n ∙ best-looked s (proper sheet s k.read) (proper-sized sheet s k.bytes k.read) k.flat)
-          (f.is s k (λ x i. looked-in s x (subst (λ (m : ℕ). In x (looked_from s m [])) n i)) none e);
+          (f.is s k (λ x i. looked-in s x (subst (λ (m : ℕ). In x (looked_from s m [])) n i)) none tt);
     }
 
 -- bytes copied to the front
-module _ (from old : List ℕ) where
-  pub copied_none : old ≡ stored old 0 (take 0 from)
-  copied_none = stored-none old
-
-  pub copied_more : (i : ℕ) (out : List ℕ) → i < length from → i < length out → length out ≡ length old → out ≡ stored old 0 (take i from) → set out i (get_or from i 0) ≡ stored old 0 (take (i + 1) from)
-  copied_more i out h l e f =
-      stored-then old out (set out i (get_or from i 0)) 0 i (take i from) (get_or from i 0 ∷ []) f (stored_one out i (get_or from i 0) l) (omega (arith, length-take i from)) (omega arith) ∙
-      ap (stored old 0) (sym (ap (λ (n : ℕ). take n from) (add-one i) ∙ take-suc from i 0 h))
+pub copied : (from old part : List ℕ) (n : ℕ) → n ≤ length from → part ≡ take n from → part ++ drop n old ≡ stored old 0 (take n from)
+unfolding stored
+copied from old part n l e =
+    let long : n ≡ 0 + length (take n from) = omega (arith, length-take n from) in
+    rw e (ap (λ (k : ℕ). take n from ++ drop k old) long)
 
 -- what is written, by what is kept
-module _ (sheet : List ℕ) (v : View) (old : List ℕ) (r : Best) (h : BestIs sheet v r) where
-  pub search-none : (n : ℕ) → n ≡ v.tasks - 1 → r.found ≡ false → SearchIs sheet v old old (Refused 11 n)
-  unfolding written_of
+module _ (sheet : List ℕ) (v : View) (old : List ℕ) (o : Maybe Best) (h : BestIs sheet v o) where
+  pub search-none : (n : ℕ) → n ≡ v.tasks - 1 → o ≡ None → SearchIs sheet v old old (Err (refusal 11 n))
   search-none n e f = record { answer = λ s k. ap written_of (by s k); left = λ s k. kept old 11 n ∙ ap (written old) (by s k) }
     where
-      go : (s : Sheet) → Sought s sheet v → (o : Option Bundle) → KeepsOf s v r o → refused 11 n ≡ and_then (best_or11 s o) (fitting (length old))
+      go : (s : Sheet) → Sought s sheet v → (q : Option Bundle) → KeepsOf s v o q → refused 11 n ≡ and_then (best_or11 s q) (fitting (length old))
       go s k none g = ap (refused 11) (e ∙ ap (λ (i : ℕ). i - 1) (sym k.known.tasks))
-      go s k (some x) g = absurd (true≢false (sym g.found ∙ f))
+      go s k (some x) g = absurd (subst (λ (y : Maybe Best). KeepsOf s v y (some x)) f g)
 
       by : (s : Sheet) → Sought s sheet v → refused 11 n ≡ and_then (best_or11 s (best s)) (fitting (length old))
       by s k = go s k (best s) (h.is s k)
 
   -- the bundle that was found, in the buffer
-  module _ (f : r.found ≡ true) (was buf : List ℕ) (n : ℕ) (b : BundleIs sheet v was buf r.code v.tasks r.claim n) where
+  module _ (r : Best) (f : o ≡ Some r) (was buf : List ℕ) (n : ℕ) (b : BundleIs sheet v was buf r.code v.tasks r.claim n) where
     long : length (take n buf) ≡ n
     long = omega (arith, length-take n buf, b.few)
 
     found : (s : Sheet) → Sought s sheet v → and_then (best_or11 s (best s)) (fitting (length old)) ≡ fitting (length old) (take n buf)
     found s k = go (best s) (h.is s k)
       where
-        go : (o : Option Bundle) → KeepsOf s v r o → and_then (best_or11 s o) (fitting (length old)) ≡ fitting (length old) (take n buf)
-        go none g = absurd (true≢false (sym f ∙ g))
-        go (some x) g = ap (fitting (length old)) (sym (kept-bytes s k g b))
+        go : (q : Option Bundle) → KeepsOf s v o q → and_then (best_or11 s q) (fitting (length old)) ≡ fitting (length old) (take n buf)
+        go none g = absurd (subst (λ (y : Maybe Best). KeepsOf s v y none) f g)
+        go (some x) g = ap (fitting (length old)) (sym (kept-bytes s k (subst (λ (y : Maybe Best). KeepsOf s v y (some x)) f g) b))
 
-    pub search-short : length old < n → SearchIs sheet v old old (Refused 12 n)
-    unfolding written_of
+    pub search-short : length old < n → SearchIs sheet v old old (Err (refusal 12 n))
     search-short l = record { answer = λ s k. ap written_of (by s k); left = λ s k. kept old 12 n ∙ ap (written old) (by s k) }
       where
         by : (s : Sheet) → Sought s sheet v → refused 12 n ≡ and_then (best_or11 s (best s)) (fitting (length old))
         by s k = sym (found s k ∙ fits_not (length old) (take n buf) (omega (arith, long)) ∙ ap (refused 12) long)
 
-    pub search-done : (last : List ℕ) → n ≤ length old → last ≡ stored old 0 (take n buf) → SearchIs sheet v old last (Long n)
-    unfolding written_of
+    pub search-done : (last : List ℕ) → n ≤ length old → last ≡ stored old 0 (take n buf) → SearchIs sheet v old last (Ok n)
     search-done last l e =
         record {
-          answer = λ s k. sym (ap written_of (by s k) ∙ ap Long long);
+          answer = λ s k. sym (ap written_of (by s k) ∙ ap Ok long);
           left = λ s k. e ∙ front old (take n buf) ∙ ap (written old) (sym (by s k));
         }
       where
@@ -140,17 +131,17 @@ module _ (sheet : List ℕ) (v : View) (old : List ℕ) (r : Best) (h : BestIs s
         by s k = found s k ∙ fits-well (length old) (take n buf) (omega (arith, long))
 
 -- of the bytes of a sheet
-module _ (sheet : List ℕ) {work mid : List ℕ} {o : Reading} (h : OpenIs (read_sheet sheet) work mid o) (old : List ℕ) where
-  pub sheet-refused : (n at : ℕ) → o ≡ readings.Refused n at → LeastIs sheet work mid old old (Refused n at)
-  unfolding least_bundle written_of
-  sheet-refused n at q =
-      let e : refused n at ≡ and_then (least_bundle sheet) (fitting (length old)) = sym (ap (λ (x : Answer Sheet). and_then (and_then x least_time) (fitting (length old))) (open-refusal h n at q)) in
-      record { answer = ap written_of e; left = kept old n at ∙ ap (written old) e; long = h.long }
+module _ (sheet : List ℕ) {work mid : List ℕ} {o : Result ⊤ Refusal} (h : OpenIs (read_sheet sheet) work mid o) (old : List ℕ) where
+  pub sheet-refused : (r : Refusal) → o ≡ Err r → LeastIs sheet work mid old old (Err r)
+  unfolding least_bundle
+  sheet-refused r q =
+      let e : refused r.number r.place ≡ and_then (least_bundle sheet) (fitting (length old)) = sym (ap (λ (x : Answer Sheet). and_then (and_then x least_time) (fitting (length old))) (open-refusal h r q)) in
+      record { answer = ap written_of e; left = kept old r.number r.place ∙ ap (written old) e; long = h.long }
 
-  module _ (q : o ≡ readings.Read) {v : View} (shown : Shown sheet mid) (seen : ViewIs mid v) (bytes : Bytes sheet) where
+  module _ (q : o ≡ Ok tt) {v : View} (shown : Shown sheet mid) (seen : ViewIs mid v) (bytes : Bytes sheet) where
     -- "38 for a seventh task or a sheet with `48`, place the task count"
-    refused-38 : either (ltb most (task_count (sheet_in mid))) (sheet_in mid).cube ≡ true → LeastIs sheet work mid old old (Refused 38 v.tasks)
-    unfolding least_bundle least_time written_of
+    refused-38 : either (ltb most (task_count (sheet_in mid))) (sheet_in mid).cube ≡ true → LeastIs sheet work mid old old (Err (refusal 38 v.tasks))
+    unfolding least_bundle least_time
     refused-38 l =
         let s = sheet_in mid in
         let t : v.tasks ≡ task_count s = seen.tasks in
@@ -160,18 +151,18 @@ module _ (sheet : List ℕ) {work mid : List ℕ} {o : Reading} (h : OpenIs (rea
         in
         record { answer = ap written_of e; left = kept old 38 v.tasks ∙ ap (written old) e; long = h.long }
 
-    pub many-refused : most < v.tasks → LeastIs sheet work mid old old (Refused 38 v.tasks)
+    pub many-refused : most < v.tasks → LeastIs sheet work mid old old (Err (refusal 38 v.tasks))
     many-refused l = refused-38 (part-either (ltb most (task_count (sheet_in mid))) (sheet_in mid).cube (inl (lt-ltb most (task_count (sheet_in mid)) (omega (arith, seen.tasks)))))
 
-    pub cube-refused : v.cube ≡ true → LeastIs sheet work mid old old (Refused 38 v.tasks)
+    pub cube-refused : v.cube ≡ true → LeastIs sheet work mid old old (Err (refusal 38 v.tasks))
     cube-refused c = refused-38 (part-either (ltb most (task_count (sheet_in mid))) (sheet_in mid).cube (inr (sym seen.cube ∙ c)))
 
     pub small-view : v.tasks ≤ most → Small v
     small-view l =
         let t : v.tasks ≡ task_count (sheet_in mid) = seen.tasks in
-        record { bounded = seen.bounded; tasks = l; links = omega (arith, seen.links, few_links (sheet_in mid) (proper sheet (sheet_in mid) (open-value h q)) (omega (arith, t))) }
+        record { tasks = l; links = omega (arith, seen.links, few_links (sheet_in mid) (proper sheet (sheet_in mid) (open-value h q)) (omega (arith, t))) }
 
-    pub searched : v.tasks ≤ most → v.cube ≡ false → (after last : List ℕ) (r : Judged) → length after ≡ length mid → SearchIs sheet v old last r → LeastIs sheet work after old last r
+    pub searched : v.tasks ≤ most → v.cube ≡ false → (after last : List ℕ) (r : Result ℕ Refusal) → length after ≡ length mid → SearchIs sheet v old last r → LeastIs sheet work after old last r
     unfolding least_bundle least_time
     searched l c after last r long g =
         let s = sheet_in mid in

@@ -1,4 +1,6 @@
 -- Parts of the walk: what each makes of the best, and how they follow on each other.
+use Rattle.std.specs.Prelude.{Some, None}
+use Rattle.std.specs.Prelude.{Option as Maybe}
 use Prim.Native.Nat.{ℕ, zero, suc, ◌+◌, ◌-◌, ◌<◌}
 use native.Mathlib.Omega.{arith}
 use mathlib.Core.Bool.{Bool, true, false, true≢false}
@@ -6,10 +8,8 @@ use mathlib.Core.Option.{Option, none, some}
 use mathlib.Core.Path.{◌≡◌, sym, ap, ap₂, ◌∙◌, subst}
 use mathlib.Core.List.{List, [], ◌∷◌, ◌++◌}
 use lib.ListN.{length}
-use lib.Dec.{ltb}
 use borrow.Author.Tests.{ltb-true}
 use Rattle.folds.specs.Folds.{gather}
-use Rattle.folds.proofs.Tests.{both-parts}
 use Rattle.folds.proofs.Loops.{gather-one, gather-zero}
 use Rattle.sheet.specs.Sheet.{Sheet, task_count}
 use Rattle.bundle.specs.Bundle.{Bundle}
@@ -32,7 +32,7 @@ Lists = Sheet → List (List (List ℕ))
 
 module _ {sheet : List ℕ} {v : View} where
   -- the same candidates, of every sheet that is sought
-  by-list : {b r : Best} {cs ds : Lists} → ((s : Sheet) → Sought s sheet v → cs s ≡ ds s) → FoldIs sheet v cs b r → FoldIs sheet v ds b r
+  by-list : {b r : Maybe Best} {cs ds : Lists} → ((s : Sheet) → Sought s sheet v → cs s ≡ ds s) → FoldIs sheet v cs b r → FoldIs sheet v ds b r
   by-list {b} {r} {cs} {ds} e f =
       record {
         right = f.right;
@@ -42,11 +42,11 @@ module _ {sheet : List ℕ} {v : View} where
       }
 
   -- no candidates, or none that is better
-  fold-none : {b : Best} {cs : Lists} → Right v b → ((s : Sheet) → Sought s sheet v → cs s ≡ []) → FoldIs sheet v cs b b
+  fold-none : {b : Maybe Best} {cs : Lists} → Right v b → ((s : Sheet) → Sought s sheet v → cs s ≡ []) → FoldIs sheet v cs b b
   unfolding best_from
   fold-none {b} right e = by-list (λ s k. sym (e s k)) (record { right = right; is = λ s k sub o h. h })
 
-  fold-then : {a b c : Best} (cs ds : Lists) → FoldIs sheet v cs a b → FoldIs sheet v ds b c → FoldIs sheet v (λ s. cs s ++ ds s) a c
+  fold-then : {a b c : Maybe Best} (cs ds : Lists) → FoldIs sheet v cs a b → FoldIs sheet v ds b c → FoldIs sheet v (λ s. cs s ++ ds s) a c
   fold-then {a} {b} {c} cs ds f g =
       record {
         right = g.right;
@@ -67,7 +67,7 @@ leaf-coded {v = v} {b = b} g e q =
     let n : b.tasks ≡ v.tasks = omega arith in
     (subst (λ (i : ℕ). Coded i b.code) n g.coded, g.programmes ∙ ap (λ (i : ℕ). opens_of i b.code) n)
 
-pub leaf-done : (sheet : List ℕ) (v : View) (b : Begun) (best r : Best) (left : ℕ) → left ≡ 0 → b.tasks + left ≡ v.tasks → FoldIs sheet v (λ s. arranged v.tasks b.code ∷ []) best r
+pub leaf-done : (sheet : List ℕ) (v : View) (b : Begun) (best r : Maybe Best) (left : ℕ) → left ≡ 0 → b.tasks + left ≡ v.tasks → FoldIs sheet v (λ s. arranged v.tasks b.code ∷ []) best r
     → FoldIs sheet v (λ s. looked_from s left (begun b)) best r
 unfolding looked_from pruned
 leaf-done sheet v b best r left e q f =
@@ -82,29 +82,29 @@ one_more s zero a h = absurd (omega arith)
 one_more s (suc m) a h = let e : suc m - 1 ≡ m = omega arith in rw e
 
 -- the loop over the next task
-module _ (sheet : List ℕ) (v : View) (b : Begun) (best : Best) (left : ℕ) where
-  abbrev pub Turned : ℕ → Best → Type 0
+module _ (sheet : List ℕ) (v : View) (b : Begun) (best : Maybe Best) (left : ℕ) where
+  abbrev pub Turned : ℕ → Maybe Best → Type 0
   Turned t k = FoldIs sheet v (λ s. gather t (looked_at s (left - 1) (begun b))) best k
 
   pub none-turned : Right v best → Turned 0 best
   none-turned right = fold-none right (λ s k. gather-zero (looked_at s (left - 1) (begun b)))
 
-  pub more-turned : (t : ℕ) (k r : Best) → Turned t k → FoldIs sheet v (λ s. looked_at s (left - 1) (begun b) t) k r → Turned (t + 1) r
+  pub more-turned : (t : ℕ) (k r : Maybe Best) → Turned t k → FoldIs sheet v (λ s. looked_at s (left - 1) (begun b) t) k r → Turned (t + 1) r
   more-turned t k r f g =
       by-list (λ s k. sym (gather-one t (looked_at s (left - 1) (begun b))))
       (fold-then (λ s. gather t (looked_at s (left - 1) (begun b))) (λ s. looked_at s (left - 1) (begun b) t) f g)
 
-  pub all-turned : (t : ℕ) (k : Best) → 0 < left → t ≡ v.tasks → Turned t k → FoldIs sheet v (λ s. looked_from s left (begun b)) best k
+  pub all-turned : (t : ℕ) (k : Maybe Best) → 0 < left → t ≡ v.tasks → Turned t k → FoldIs sheet v (λ s. looked_from s left (begun b)) best k
   all-turned t k h e f =
       by-list (λ s k. ap (λ (n : ℕ). gather n (looked_at s (left - 1) (begun b))) (e ∙ sym k.known.tasks) ∙ one_more s left (begun b) h) f
 
 -- one branch
-module _ (sheet : List ℕ) (v : View) (b : Begun) (t left : ℕ) (best : Best) (g : Begins sheet v b) where
+module _ (sheet : List ℕ) (v : View) (b : Begun) (t left : ℕ) (best : Maybe Best) (g : Begins sheet v b) where
   pub used-done : {x : Bool} → Right v best → x ≡ among t (tasks_of b.tasks b.code) → x ≡ true → FoldIs sheet v (λ s. looked_at s left (begun b) t) best best
   unfolding looked_at pruned_at
   used-done right e f = fold-none right (λ s k. rw (coded-among b.tasks b.code t g.coded ∙ sym e ∙ f))
 
-  pub free-done : {x : Bool} (k r : Best) → x ≡ among t (tasks_of b.tasks b.code) → x ≡ false → FoldIs sheet v (λ s. opened_from s left (begun b) t) best k
+  pub free-done : {x : Bool} (k r : Maybe Best) → x ≡ among t (tasks_of b.tasks b.code) → x ≡ false → FoldIs sheet v (λ s. opened_from s left (begun b) t) best k
       → FoldIs sheet v (λ s. joined_from s left (begun b) t) k r → FoldIs sheet v (λ s. looked_at s left (begun b) t) best r
   unfolding looked_at pruned_at opened_from joined_from
   free-done k r e f p q =
@@ -115,7 +115,7 @@ module _ (sheet : List ℕ) (v : View) (b : Begun) (t left : ℕ) (best : Best) 
   unfolding opened_from
   opening-skip right f e = fold-none right (λ s k. rw (sym (f.is s k.known) ∙ e))
 
-  pub opening-done : {x : Bool} (a : Begun) (r : Best) → t < 8 → TestIs opens_right sheet v b t x → x ≡ true → OpenedIs sheet v b t a → FoldIs sheet v (λ s. looked_from s left (begun a)) best r
+  pub opening-done : {x : Bool} (a : Begun) (r : Maybe Best) → t < 8 → TestIs opens_right sheet v b t x → x ≡ true → OpenedIs sheet v b t a → FoldIs sheet v (λ s. looked_from s left (begun a)) best r
       → FoldIs sheet v (λ s. opened_from s left (begun b) t) best r
   unfolding opened_from
   opening-done a r l f e o p =
@@ -134,7 +134,7 @@ module _ (sheet : List ℕ) (v : View) (b : Begun) (t left : ℕ) (best : Best) 
   unfolding joined_from
   joining-skip right f e = fold-none right (λ s k. rw (sym (f.is s k.known) ∙ e))
 
-  pub joining-done : {x : Bool} (a : Begun) (r : Best) → t < 8 → TestIs joins_right sheet v b t x → x ≡ true → JoinedIs sheet v b t a → FoldIs sheet v (λ s. looked_from s left (begun a)) best r
+  pub joining-done : {x : Bool} (a : Begun) (r : Maybe Best) → t < 8 → TestIs joins_right sheet v b t x → x ≡ true → JoinedIs sheet v b t a → FoldIs sheet v (λ s. looked_from s left (begun a)) best r
       → FoldIs sheet v (λ s. joined_from s left (begun b) t) best r
   unfolding joined_from
   joining-done a r l f e o p =
@@ -148,17 +148,21 @@ coded-some zero c h l = absurd (omega arith)
 coded-some (suc n) c h l = h.1
 
 -- what was found claims less than the last programme works
-pub late-done : (sheet : List ℕ) (v : View) (a : Begun) (left : ℕ) (best : Best) {x : Bool} → Right v best → Begins sheet v a → 0 < a.tasks → LateIs best a.work x → x ≡ true
+pub late-done : (sheet : List ℕ) (v : View) (a : Begun) (left : ℕ) (best : Maybe Best) {x : Bool} → Right v best → Begins sheet v a → LateIs best a.work x → x ≡ true
     → FoldIs sheet v (λ s. looked_from s left (begun a)) best best
-late-done sheet v a left best right g h l e =
+late-done sheet v a left None right g l e = absurd (true≢false (sym e ∙ l.is))
+late-done sheet v a left (Some best) right g l e =
     record { right = right; is = λ s k sub o. go s k o }
   where
-    parts : (best.found ≡ true) × (ltb best.claim a.work ≡ true)
-    parts = both-parts best.found (ltb best.claim a.work) (sym l.is ∙ e)
+    less : best.claim < a.work
+    less = ltb-true best.claim a.work (sym l.is ∙ e)
 
-    go : (s : Sheet) → Sought s sheet v → (o : Option Bundle) → KeepsOf s v best o → KeepsOf s v best (best_from s (looked_from s left (begun a)) o)
-    go s k none f = absurd (true≢false (sym parts.0 ∙ f))
+    busy : 0 < a.tasks
+    busy = omega (arith, g.short, less)
+
+    go : (s : Sheet) → Sought s sheet v → (o : Option Bundle) → KeepsOf s v (Some best) o → KeepsOf s v (Some best) (best_from s (looked_from s left (begun a)) o)
+    go s k none f = absurd f
     go s k (some y) f =
-        subst (KeepsOf s v best)
-        (sym (late s left (begun a) y (omega (arith, coded-length a.tasks a.code g.coded, coded-some a.tasks a.code g.coded h))
-        (omega (arith, ltb-true best.claim a.work parts.1, f.claim, g.work s k.known)))) f
+        subst (KeepsOf s v (Some best))
+        (sym (late s left (begun a) y (omega (arith, coded-length a.tasks a.code g.coded, coded-some a.tasks a.code g.coded busy))
+        (omega (arith, less, f.claim, g.work s k.known)))) f

@@ -5,12 +5,14 @@ use mathlib.Core.Bool.{Bool, true, false, not}
 use mathlib.Core.Path.{◌≡◌, refl, sym, ap, ◌∙◌, subst}
 use mathlib.Core.Logic.{◌≢◌}
 use mathlib.Core.List.{List, [], ◌∷◌, ◌++◌, append_assoc, append-nil}
-use lib.ListN.{length, take, set, get_or, length-set, length-append}
+use lib.ListN.{length, take, drop, set, get_or, length-append, length-take}
 use lib.Dec.{eqb}
 use borrow.Author.Tests.{eq-eqb, ne_eqb}
 use Rattle.folds.specs.Folds.{pick, both, gather}
 use Rattle.folds.proofs.Loops.{gather-one, gather-zero}
-use Rattle.numbers.specs.Number.{number_bytes}
+use Rattle.numbers.specs.Number.{number_bytes, stored}
+use Rattle.numbers.proofs.Laws.{length-stored, stored_one, stored-two, stored-then}
+use lib.Seq.{take_at}
 use Rattle.sheet.specs.Sheet.{Sheet, link_count, source_of, target_of}
 use Rattle.bundle.specs.Bundle.{Command, run, send, receive}
 use Rattle.bundle.specs.Writing.{command_bytes, programme_bytes}
@@ -23,15 +25,6 @@ use Rattle.least.specs.Written.{among, brings_in, takes_in, receive_in, send_in,
 use Rattle.least.proofs.Normal.{blocks_in-append}
 use Rattle.search.specs.Codes.{tasks_of, order_of}
 use Rattle.search.specs.Laying.{most_links, Front, other_end, code_of, message_in, EndIs, MessageIs, MessagesIs, BlockIs, TasksIs}
-
--- a byte put at an offset
-take-set : (b : List ℕ) (i x : ℕ) → i < length b → take (i + 1) (set b i x) ≡ take i b ++ x ∷ []
-take-set [] i x h = absurd (omega arith)
-take-set (y ∷ b) zero x h = refl
-take-set (y ∷ b) (suc i) x h = let e : suc i + 1 ≡ suc (i + 1) = omega arith in rw e (ap {B = List ℕ} (λ r. y ∷ r) (take-set b i x (omega arith)))
-
-pub front-byte : (b : List ℕ) (i x : ℕ) → i < length b → Front b i (x ∷ []) (set b i x) (i + 1)
-front-byte b i x h = record { long = length-set b i x; front = take-set b i x h; next = refl }
 
 pub front-none : (b : List ℕ) (i : ℕ) → Front b i [] b i
 front-none b i = record { long = refl; front = sym (append-nil (take i b)); next = omega arith }
@@ -47,17 +40,27 @@ front-then {a} {b} {c} {i} {j} {k} x y f g =
 pub front-as : {a b : List ℕ} {i j : ℕ} {x y : List ℕ} → x ≡ y → Front a i x b j → Front a i y b j
 front-as {a} {b} {i} {j} e f = subst (λ (z : List ℕ). Front a i z b j) e f
 
-pub pair-done : {a b c : List ℕ} {at i r : ℕ} {k x : ℕ} → Front a at (k ∷ []) b i → Front b i (x ∷ []) c r → Front a at (k ∷ x ∷ []) c r
-pair-done f g = front-then (_ ∷ []) (_ ∷ []) f g
+-- bytes stored at an offset
+front-stored : (b last v : List ℕ) (i r : ℕ) → last ≡ stored b i v → r ≡ i + length v → r ≤ length b → Front b i v last r
+unfolding stored
+front-stored b last v i r e n h =
+    let put : Front b i v (stored b i v) (i + length v) =
+    record {
+      long = length-stored b i v (omega arith);
+      front = take_at (take i b ++ v) (drop (i + length v) b) (i + length v) (omega (arith, length-append (take i b) v, length-take i b));
+      next = refl;
+    }
+    in
+    rw (e, n) put
 
-small-number : (l : ℕ) → l < 256 → number_bytes 2 l ≡ l ∷ 0 ∷ []
-small-number l h =
-    let a : l % 256 ≡ l = omega arith in
-    let b : l / 256 ≡ 0 = omega arith in
-    rw (a, b)
+-- a command: its byte and one more, or its byte and a number
+pub pair-done : (b : List ℕ) (at k x : ℕ) → at + 2 ≤ length b → Front b at (k ∷ x ∷ []) (set (set b at k) (at + 1) x) (at + 2)
+pair-done b at k x h = front-stored b _ (k ∷ x ∷ []) at (at + 2) (stored-two b at k x h) refl h
 
-pub command-done : {a b c : List ℕ} {at i r : ℕ} (k l : ℕ) → l < 256 → Front a at (k ∷ l ∷ []) b i → Front b i (0 ∷ []) c r → Front a at (k ∷ number_bytes 2 l) c r
-command-done k l h f g = front-as (ap {B = List ℕ} (λ (z : List ℕ). k ∷ z) (sym (small-number l h))) (front-then (k ∷ l ∷ []) (0 ∷ []) f g)
+pub command-done : (b last : List ℕ) (at w k n r : ℕ) → last ≡ stored (set b at k) (at + 1) (number_bytes w n) → r ≡ at + 1 + length (number_bytes w n) → r ≤ length b
+    → Front b at (k ∷ number_bytes w n) last r
+command-done b last at w k n r e l h =
+    front-stored b last (k ∷ number_bytes w n) at r (stored-then b _ last at (at + 1) (k ∷ []) (number_bytes w n) (stored_one b at k (omega arith)) e refl (omega arith)) (omega arith) h
 
 pub programme_bytes-append : (p q : List Command) → programme_bytes (p ++ q) ≡ programme_bytes p ++ programme_bytes q
 programme_bytes-append [] q = refl

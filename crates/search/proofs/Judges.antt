@@ -1,16 +1,17 @@
 -- The checker's answer to the bundle of a candidate with the claim 0.
-use Prim.Native.Nat.{ℕ, zero, suc, ◌-◌, ◌<◌}
+use Rattle.std.specs.Prelude.{⊤, Result, Ok, Err, Some, None}
+use Rattle.refusals.specs.declared.Refusal.{Refusal}
+use Rattle.checker.proofs.Verdicts.{refused-value}
+use Prim.Native.Nat.{ℕ, zero, suc, ◌<◌}
 use native.Mathlib.Omega.{arith}
 use mathlib.Core.Bool.{Bool, true, false}
 use mathlib.Core.Path.{◌≡◌, refl, sym, ap, ◌∙◌}
 use mathlib.Core.Logic.{⊎_elim}
 use mathlib.Core.List.{List, [], ◌∷◌}
 use lib.ListN.{length, take}
-use lib.Dec.{ltb, eqb}
-use borrow.Author.Tests.{eqb-true, eq-eqb, ne_eqb}
+use lib.Dec.{ltb}
 use Rattle.folds.specs.Folds.{pick}
 use Rattle.folds.specs.Answers.{Answer, value, refused}
-use Rattle.folds.proofs.Tests.{equal-or}
 use Rattle.sheet.specs.Sheet.{Sheet, task_count}
 use Rattle.graph.proofs.Proper.{Proper, proper}
 use Rattle.bundle.specs.Bundle.{Bundle}
@@ -20,8 +21,6 @@ use Rattle.bundle.proofs.Backs.{read_back}
 use Rattle.admission.specs.declared.view.View.{View}
 use Rattle.checker.specs.Checker.{checked}
 use Rattle.checker.specs.Verdicts.{verdict_of, checked_bytes, JudgementIs}
-use Rattle.checker.specs.declared.Verdict.{Verdict}
-use Rattle.checker.specs.declared.Verdict.TheVariants.{Good, Refused}
 use Rattle.least.specs.Least.{In, opens, among_all, extended, completions, candidates, unclaimed, bundle_in}
 use Rattle.least.proofs.Arranging.{all_known, length-in}
 use Rattle.least.proofs.Best.{in_parts, gathered, good, Works}
@@ -64,7 +63,7 @@ module _ (s : Sheet) (proper : Proper s) (a : List (List ℕ)) (i : In a (candid
   answered = rw (read_back s (unclaimed s a) (omega (arith, proper.form.links)) bare-fits)
 
 -- what the code makes of the checker's answer
-module _ (sheet old buf w last bundle : List ℕ) (v : View) (code n : ℕ) (x : Verdict) (b : BundleIs sheet v old buf code v.tasks 0 n) (cut : bundle ≡ take n buf)
+module _ (sheet old buf w last bundle : List ℕ) (v : View) (code n : ℕ) (x : Result ⊤ Refusal) (b : BundleIs sheet v old buf code v.tasks 0 n) (cut : bundle ≡ take n buf)
     (j : JudgementIs sheet bundle w last v x) where
   abbrev a : List (List ℕ)
   a = arranged v.tasks code
@@ -74,36 +73,37 @@ module _ (sheet old buf w last bundle : List ℕ) (v : View) (code n : ℕ) (x :
       j.is s k.known ∙ ap (λ (y : List ℕ). verdict_of (checked_bytes s y)) (cut ∙ b.is s k.known) ∙ ap verdict_of (answered s (proper sheet s k.read) a i)
 
   module _ (s : Sheet) (e : x ≡ verdict_of (checked s (unclaimed s a))) where
-    as-good : x ≡ Good → Works s a × ((bundle_in s a).claim ≡ 0)
+    as-good : x ≡ Ok tt → Works s a × ((bundle_in s a).claim ≡ 0)
     as-good f = go (checked s (unclaimed s a)) refl (sym e ∙ f)
       where
-        go : (y : Answer Bundle) → checked s (unclaimed s a) ≡ y → verdict_of y ≡ Good → Works s a × ((bundle_in s a).claim ≡ 0)
+        go : (y : Answer Bundle) → checked s (unclaimed s a) ≡ y → verdict_of y ≡ Ok tt → Works s a × ((bundle_in s a).claim ≡ 0)
         go (value c) q g = leaf-good s a c q
-        go (refused m at) q g = let z : ◌≡◌ {A = ℕ} 0 1 = cc in absurd (omega arith)
+        go (refused m at) q g = absurd cc
 
-    as-refused : (m at : ℕ) → x ≡ Refused m at → checked s (unclaimed s a) ≡ refused m at
-    as-refused m at f = go (checked s (unclaimed s a)) refl (sym e ∙ f)
-      where
-        go : (y : Answer Bundle) → checked s (unclaimed s a) ≡ y → verdict_of y ≡ Refused m at → checked s (unclaimed s a) ≡ refused m at
-        go (value c) q g = let z : ◌≡◌ {A = ℕ} 0 1 = cc in absurd (omega arith)
-        go (refused m' at') q g = q ∙ (cc)
+    as-refused : (r : Refusal) → x ≡ Err r → checked s (unclaimed s a) ≡ refused r.number r.place
+    as-refused r f = refused-value (checked s (unclaimed s a)) r (sym f ∙ e)
 
-  pub good-done : x ≡ Good → JudgeIs sheet v code (record { accepted = true; claim = 0 })
+  pub good-done : x ≡ Ok tt → JudgeIs sheet v code (Some 0)
   good-done f =
       record {
         accepts = λ s k i. sym (as-good s (said s k i) f).0;
-        claims = λ s k i q. sym (as-good s (said s k i) f).1;
+        claims = λ s k i c q. let z : 0 ≡ c = cc in sym z ∙ sym (as-good s (said s k i) f).1;
       }
 
-  pub refused-done : (m at : ℕ) → x ≡ Refused m at → JudgeIs sheet v code (record { accepted = eqb m 30; claim = at })
-  refused-done m at f =
+  -- refused for the claim alone, or for something else
+  pub claim-done : (r : Refusal) → x ≡ Err r → r.number ≡ 30 → JudgeIs sheet v code (Some r.place)
+  claim-done r f z =
       record {
-        accepts =
-            λ s k i.
-            let q = as-refused s (said s k i) m at f in
-            ⊎_elim (λ (z : m ≡ 30). eq-eqb m 30 z ∙ sym (leaf-30 s a at (q ∙ ap (λ (y : ℕ). refused y at) z)).0) (λ d. ne_eqb m 30 d ∙ sym (leaf-no s a m at q d)) (equal-or m 30);
+        accepts = λ s k i. sym (leaf-30 s a r.place (as-refused s (said s k i) r f ∙ ap (λ (y : ℕ). refused y r.place) z)).0;
         claims =
-            λ s k i t.
-            let q = as-refused s (said s k i) m at f in
-            sym (leaf-30 s a at (q ∙ ap (λ (y : ℕ). refused y at) (eqb-true m 30 t))).1;
+            λ s k i c q.
+            let p : r.place ≡ c = cc in
+            sym p ∙ sym (leaf-30 s a r.place (as-refused s (said s k i) r f ∙ ap (λ (y : ℕ). refused y r.place) z)).1;
+      }
+
+  pub refused-done : (r : Refusal) → x ≡ Err r → (r.number ≡ 30 → ⊥) → JudgeIs sheet v code None
+  refused-done r f d =
+      record {
+        accepts = λ s k i. sym (leaf-no s a r.number r.place (as-refused s (said s k i) r f) d);
+        claims = λ s k i c q. absurd cc;
       }

@@ -3,11 +3,11 @@ use Prim.Native.Nat.{ℕ, ◌+◌, ◌-◌, ◌/◌, ◌%◌, ◌≤◌, ◌<◌
 use native.Mathlib.Omega.{arith}
 use mathlib.Core.Path.{◌≡◌, refl, sym, ap, ap₂, ◌∙◌, subst}
 use mathlib.Core.List.{List, [], ◌∷◌, ◌++◌, append-nil}
-use lib.ListN.{length}
+use lib.ListN.{length, set}
 use Rattle.sheet.specs.Sheet.{Sheet, link_count, source_of, target_of}
 use Rattle.bundle.specs.Bundle.{Command, run}
 use Rattle.bundle.specs.Writing.{programme_bytes, programmes_bytes, bundle_bytes}
-use Rattle.numbers.specs.Number.{number_bytes}
+use Rattle.numbers.specs.Number.{number_bytes, stored}
 use Rattle.admission.specs.declared.view.View.{View}
 use Rattle.least.specs.Written.{among, brings_in, takes_in, receive_in, send_in, block_in, blocks_in, programme_in, programmes_in}
 use Rattle.least.specs.Least.{most}
@@ -19,7 +19,7 @@ use Rattle.search.specs.Codes.{arranged, tasks_of, opens_of, Coded, order_of, fr
 use Rattle.search.specs.Laying.{room, Front, TasksIs, ProgrammesIs, BundleIs}
 use Rattle.search.specs.declared.codes.Last.{Last}
 use Rattle.search.proofs.Digits.{coded-length, last-le, last_some, split, order-among}
-use Rattle.search.proofs.Fronts.{front-none, front-then, front-as}
+use Rattle.search.proofs.Fronts.{front-none, front-then, front-as, command-done}
 
 -- blocks depend on which tasks are in their programme, not on their order
 blocks-among : (s : Sheet) (ts us xs : List ℕ) → ((u : ℕ) → among u ts ≡ among u us) → blocks_in s ts xs ≡ blocks_in s us xs
@@ -75,26 +75,26 @@ module _ (code len : ℕ) {p : Last} (some : 0 < len) (coded : Coded len code) (
             (front-as (ap programme_bytes (blocks-among s (tasks_of m code) (order_of m code) (order_of m code) (order-among m code))) (t.is s k))));
       }
 
--- the four bytes of a claim
-claim-bytes : (c : ℕ) → number_bytes 4 c ≡ c % 256 ∷ c / 256 % 256 ∷ c / 65536 % 256 ∷ c / 16777216 % 256 ∷ []
+-- the four bytes of a claim are those of its lowest 32 bits
+claim-bytes : (c : ℕ) → number_bytes 4 (c % 4294967296) ≡ number_bytes 4 c
 claim-bytes c =
-    let a : c / 256 / 256 ≡ c / 65536 = omega arith in
-    let b : c / 65536 / 256 ≡ c / 16777216 = omega arith in
-    rw (a, b)
+    let p : c % 4294967296 % 256 ≡ c % 256 = omega arith in
+    let q : c % 4294967296 / 256 % 256 ≡ c / 256 % 256 = omega arith in
+    let r : c % 4294967296 / 256 / 256 % 256 ≡ c / 256 / 256 % 256 = omega arith in
+    let s : c % 4294967296 / 256 / 256 / 256 % 256 ≡ c / 256 / 256 / 256 % 256 = omega arith in
+    rw (p, q, r, s)
 
-pub bundle-done : (sheet : List ℕ) (v : View) (old a b c d : List ℕ) (code len claim i j k r count : ℕ) → room ≤ length old → len ≤ most
-    → ProgrammesIs sheet v old a code len i count → Front a i (0x5A ∷ claim % 256 ∷ []) b j → Front b j (claim / 256 % 256 ∷ claim / 65536 % 256 ∷ []) c k
-    → Front c k (claim / 16777216 % 256 ∷ []) d r → BundleIs sheet v old d code len claim r
+pub bundle-done : (sheet : List ℕ) (v : View) (old a last : List ℕ) (code len claim i count : ℕ) → room ≤ length old → len ≤ most → ProgrammesIs sheet v old a code len i count
+    → last ≡ stored (set a i 0x5A) (i + 1) (number_bytes 4 (claim % 4294967296)) → BundleIs sheet v old last code len claim (i + 5)
 unfolding bundle_bytes
-bundle-done sheet v old a b c d code len claim i j k r count h l p q u w =
+bundle-done sheet v old a last code len claim i count h l p e =
+    let fits : i + 5 ≤ length a = omega (arith, p.long, p.few) in
+    let q = command-done a last i 4 0x5A (claim % 4294967296) (i + 5) e (omega arith) fits in
     record {
-      long = w.long ∙ u.long ∙ q.long ∙ p.long;
-      few = omega (arith, w.long, u.long, q.long, p.long, p.few, q.next, u.next, w.next);
+      long = q.long ∙ p.long;
+      few = omega (arith, q.long, fits);
       is =
           λ s f.
           let X = programmes_bytes 0 (programmes_in s (arranged len code)) in
-          (front-then X (0x5A ∷ number_bytes 4 claim) (p.is s f)
-          (front-as (ap {B = List ℕ} (λ (z : List ℕ). 0x5A ∷ z) (sym (claim-bytes claim)))
-          (front-then (0x5A ∷ claim % 256 ∷ claim / 256 % 256 ∷ claim / 65536 % 256 ∷ []) (claim / 16777216 % 256 ∷ [])
-          (front-then (0x5A ∷ claim % 256 ∷ []) (claim / 256 % 256 ∷ claim / 65536 % 256 ∷ []) q u) w))).front;
+          (front-then X (0x5A ∷ number_bytes 4 claim) (p.is s f) (front-as (ap {B = List ℕ} (λ (z : List ℕ). 0x5A ∷ z) (claim-bytes claim)) q)).front;
     }

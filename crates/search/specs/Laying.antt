@@ -7,7 +7,7 @@ use Rattle.bundle.specs.Writing.{programme_bytes, programmes_bytes, bundle_bytes
 use Rattle.adjacency.specs.Chains.{end_by}
 use Rattle.adjacency.specs.declared.End.{End}
 use Rattle.adjacency.specs.declared.End.TheVariants.{Source, Target}
-use Rattle.admission.specs.Fields.{Bounded, Known}
+use Rattle.admission.specs.Fields.{Known}
 use Rattle.admission.specs.declared.view.View.{View}
 use Rattle.least.specs.Written.{receive_in, send_in, block_in, blocks_in, programmes_in}
 use Rattle.least.specs.Least.{most}
@@ -30,7 +30,6 @@ room = most * programme_room + 5
 
 -- the view of a small sheet
 pub record Small (v : View) : Type 0 where
-  pub bounded : Bounded v
   pub tasks : v.tasks ≤ most
   pub links : v.links ≤ most_links
 

@@ -1,5 +1,6 @@
 -- What is carried along the search of an arrangement that is begun, and the tests by which a branch is left out.
-use Rattle.std.specs.Prelude.{ℕ, ◌+◌, ◌*◌, ◌^◌, ◌≤◌, ◌<◌, Bool, ◌≡◌, List, [], ◌∷◌, length, ltb}
+use Rattle.std.specs.Prelude.{ℕ, ◌+◌, ◌*◌, ◌^◌, ◌≤◌, ◌<◌, Bool, false, ◌≡◌, List, [], ◌∷◌, length, ltb, Some, None}
+use Rattle.std.specs.Prelude.{Option as Maybe}
 use Rattle.folds.specs.Folds.{pick, both, any}
 use Rattle.sheet.specs.Sheet.{Sheet, link_count, work_of, store_of}
 use Rattle.admission.specs.Fields.{Known, Seen}
@@ -92,5 +93,9 @@ unfoldable pub joined_from : Sheet → ℕ → List (List ℕ) → ℕ → List 
 joined_from s m a t = pick (joins_right s a t) (looked_from s m (joins a t)) []
 
 -- what is kept claims less than so much work takes
-pub record LateIs (best : Best) (work : ℕ) (r : Bool) : Type 0 where
-  pub is : r ≡ both best.found (ltb best.claim work)
+abbrev pub is_late : Maybe Best → ℕ → Bool
+is_late None work = false
+is_late (Some b) work = ltb b.claim work
+
+pub record LateIs (best : Maybe Best) (work : ℕ) (r : Bool) : Type 0 where
+  pub is : r ≡ is_late best work

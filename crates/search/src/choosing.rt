@@ -9,30 +9,29 @@ ghost use Rattle.search.specs.Keeping.{Right, OrderIs, ChoiceIs, FoldIs};
 use crate::judging::judge;
 use crate::writing::put_bundle;
 use admission::view::View;
-use better::order::{Order, by_bytes, by_number, then_by};
+use std::cmp::Ordering;
 
-// The best arrangement so far, if one was accepted, with its claim and how many programmes it has.
+// The best of the arrangements that were accepted so far, with its claim and how many programmes it has.
 #[derive(Clone, Copy)]
 pub struct Best {
-    pub found: bool,
     pub claim: usize,
     pub programmes: usize,
     pub code: usize,
 }
 
 // C-12's order of two that were found. Their bundles are written only where claims and programmes tell nothing.
-fn order_of(sheet: &[u8], buf: &mut [u8], other: &mut [u8], v: View, a: Best, b: Best) -> Order
+fn order_of(sheet: &[u8], buf: &mut [u8], other: &mut [u8], v: View, a: Best, b: Best) -> Ordering
     requires { Small v × (room ≤ length buf.old) × (room ≤ length other.old) × Coded v.tasks a.code × Coded v.tasks b.code }
     ensures { OrderIs sheet.now v a b result }
 {
-    let programmes = by_number(a.programmes, b.programmes);
-    match then_by(by_number(a.claim, b.claim), programmes) {
-        Order::Less => Order::Less,
-        Order::Greater => Order::Greater,
-        Order::Equal => {
+    let programmes = a.programmes.cmp(&b.programmes);
+    match a.claim.cmp(&b.claim).then(programmes) {
+        Ordering::Less => Ordering::Less,
+        Ordering::Greater => Ordering::Greater,
+        Ordering::Equal => {
             let n = put_bundle(sheet, buf, v, a.code, v.tasks, a.claim);
             let m = put_bundle(sheet, other, v, b.code, v.tasks, b.claim);
-            by_bytes(&buf[..n], &other[..m])
+            buf[..n].cmp(&other[..m])
         }
     }
 }
@@ -42,10 +41,10 @@ fn preferred(sheet: &[u8], buf: &mut [u8], other: &mut [u8], v: View, a: Best, b
     requires { Small v × (room ≤ length buf.old) × (room ≤ length other.old) × Coded v.tasks a.code × Coded v.tasks b.code }
     ensures { ChoiceIs sheet.now v a b result }
 {
-    match order_of(sheet, buf, other, v, a, b) {
-        Order::Less => a,
-        Order::Equal => a,
-        Order::Greater => b,
+    if order_of(sheet, buf, other, v, a, b).is_le() {
+        a
+    } else {
+        b
     }
 }
 
@@ -58,24 +57,22 @@ pub fn consider(
     v: View,
     code: usize,
     programmes: usize,
-    best: Best,
-) -> Best
+    best: Option<Best>,
+) -> Option<Best>
     requires seen { Seen sheet.now v × Small v × (extent ≤ length w.old) × (room ≤ length buf.old) × (room ≤ length other.old) }
     requires coded { Coded v.tasks code × (programmes ≡ opens_of v.tasks code) × Right v best }
     ensures { FoldIs sheet.now v (λ s. arranged v.tasks code ∷ []) best result }
 {
-    let j = judge(sheet, w, buf, v, code);
-    if !j.accepted {
+    let Some(claim) = judge(sheet, w, buf, v, code) else {
         return best;
-    }
+    };
     let next = Best {
-        found: true,
-        claim: j.claim,
+        claim,
         programmes,
         code,
     };
-    if best.found {
-        return preferred(sheet, buf, other, v, best, next);
+    match best {
+        None => Some(next),
+        Some(b) => Some(preferred(sheet, buf, other, v, b, next)),
     }
-    next
 }

@@ -13,13 +13,11 @@ pub fn stands(code: usize, len: usize, t: usize) -> bool
     ensures { result ≡ among t (tasks_of len code) }
 {
     let mut c = code;
-    let mut i = len;
-    while 0 < i {
+    for _ in 0..len {
         if t == c % MARK {
             return true;
         }
-        c = c / BASE;
-        i -= 1;
+        c /= BASE;
     }
     false
 }
@@ -50,6 +48,6 @@ pub fn last_programme(code: usize, len: usize) -> Last
     let p = last_programme(code / BASE, len - 1);
     Last {
         tasks: p.tasks + 1,
-        front: p.front,
+        ..p
     }
 }

@@ -8,29 +8,22 @@ ghost use Rattle.search.specs.Judging.{JudgeIs};
 
 use crate::writing::put_bundle;
 use admission::view::View;
-use checker::Verdict;
 use checker::whole::judgement;
 
-// Whether it is accepted, and with which claim.
-#[derive(Clone, Copy)]
-pub struct Judgement {
-    pub accepted: bool,
-    pub claim: usize,
-}
-
-pub fn judge(sheet: &[u8], w: &mut [u32], buf: &mut [u8], v: View, code: usize) -> Judgement
+// Its claim, if it is accepted.
+pub fn judge(sheet: &[u8], w: &mut [u32], buf: &mut [u8], v: View, code: usize) -> Option<usize>
     requires { Seen sheet.now v × Small v × (extent ≤ length w.old) × (room ≤ length buf.old) × Coded v.tasks code }
     ensures { JudgeIs sheet.now v code result }
 {
     let n = put_bundle(sheet, buf, v, code, v.tasks, 0);
     match judgement(sheet, &buf[..n], w, v) {
-        Verdict::Good => Judgement {
-            accepted: true,
-            claim: 0,
-        },
-        Verdict::Refused(r, at) => Judgement {
-            accepted: r == 30,
-            claim: at,
-        },
+        Ok(()) => Some(0),
+        Err(refusal) => {
+            if refusal.number == 30 {
+                Some(refusal.place)
+            } else {
+                None
+            }
+        }
     }
 }

@@ -10,13 +10,13 @@ use crate::walking::{Begun, joined, may_join, may_open, opened};
 use admission::view::View;
 
 // Whether what was found claims less than so much work takes.
-fn is_late(best: Best, work: usize) -> bool
+fn is_late(best: Option<Best>, work: usize) -> bool
     ensures { LateIs best work result }
 {
-    best.found && best.claim < work
+    best.is_some_and(|b| b.claim < work)
 }
 
-// All that `left` more tasks can make of b.
+// All that `left` more tasks can make of b: nothing, where its last programme takes too long already.
 #[cycle(branch_joining_opening_walk)]
 pub fn walk(
     sheet: &[u8],
@@ -26,19 +26,20 @@ pub fn walk(
     v: View,
     left: usize,
     b: Begun,
-    best: Best,
-) -> Best
+    best: Option<Best>,
+) -> Option<Best>
     requires { Ready sheet.now w.old buf.old other.old v × Begins sheet.now v b × (b.tasks + left ≡ v.tasks) × Right v best }
     ensures { FoldIs sheet.now v (λ s. looked_from s left (begun b)) best result }
 {
+    if is_late(best, b.work) {
+        return best;
+    }
     if left == 0 {
         return consider(sheet, w, buf, other, v, b.code, b.programmes, best);
     }
     let mut k = best;
-    let mut t: usize = 0;
-    while t < v.tasks {
+    for t in 0..v.tasks {
         k = branch(sheet, w, buf, other, v, left - 1, b, t, k);
-        t += 1;
     }
     k
 }
@@ -54,8 +55,8 @@ fn branch(
     left: usize,
     b: Begun,
     t: usize,
-    best: Best,
-) -> Best
+    best: Option<Best>,
+) -> Option<Best>
     requires { Ready sheet.now w.old buf.old other.old v × Begins sheet.now v b × (b.tasks + left + 1 ≡ v.tasks) × (t < v.tasks) × Right v best }
     ensures { FoldIs sheet.now v (λ s. looked_at s left (begun b) t) best result }
 {
@@ -77,19 +78,17 @@ fn opening(
     left: usize,
     b: Begun,
     t: usize,
-    best: Best,
-) -> Best
+    best: Option<Best>,
+) -> Option<Best>
     requires { Ready sheet.now w.old buf.old other.old v × Begins sheet.now v b × (b.tasks + left + 1 ≡ v.tasks) × (t < v.tasks) × Right v best }
     ensures { FoldIs sheet.now v (λ s. opened_from s left (begun b) t) best result }
 {
     let a = opened(sheet, v, b, t);
-    if !may_open(sheet, v, b, t, a) {
-        return best;
+    if may_open(sheet, v, b, t, a) {
+        walk(sheet, w, buf, other, v, left, a, best)
+    } else {
+        best
     }
-    if is_late(best, a.work) {
-        return best;
-    }
-    walk(sheet, w, buf, other, v, left, a, best)
 }
 
 // t joins the last programme.
@@ -103,8 +102,8 @@ fn joining(
     left: usize,
     b: Begun,
     t: usize,
-    best: Best,
-) -> Best
+    best: Option<Best>,
+) -> Option<Best>
     requires { Ready sheet.now w.old buf.old other.old v × Begins sheet.now v b × (b.tasks + left + 1 ≡ v.tasks) × (t < v.tasks) × Right v best }
     ensures { FoldIs sheet.now v (λ s. joined_from s left (begun b) t) best result }
 {
@@ -112,11 +111,9 @@ fn joining(
         return best;
     }
     let a = joined(sheet, v, b, t);
-    if !may_join(sheet, v, b, t, a) {
-        return best;
+    if may_join(sheet, v, b, t, a) {
+        walk(sheet, w, buf, other, v, left, a, best)
+    } else {
+        best
     }
-    if is_late(best, a.work) {
-        return best;
-    }
-    walk(sheet, w, buf, other, v, left, a, best)
 }

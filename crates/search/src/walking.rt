@@ -34,14 +34,14 @@ fn store_of(sheet: &[u8], v: View, t: usize) -> usize
     requires { Seen sheet.now v × (t < v.tasks) }
     ensures { LoadIs store_of sheet.now v t result }
 {
-    get16(sheet, v.store_at(t)) as usize
+    usize::from(get16(sheet, v.store_at(t)))
 }
 
 fn work_of(sheet: &[u8], v: View, t: usize) -> usize
     requires { Seen sheet.now v × (t < v.tasks) }
     ensures { LoadIs work_of sheet.now v t result }
 {
-    get16(sheet, v.work_at(t)) as usize
+    usize::from(get16(sheet, v.work_at(t)))
 }
 
 // A number for the first command of a programme that t opens, in the order of the bytes: for its run, or for the receive of the first link to it.
@@ -49,12 +49,10 @@ fn key(sheet: &[u8], v: View, t: usize) -> usize
     requires { Small v × (t < receives) }
     ensures { KeyIs sheet.now v t result }
 {
-    let mut l: usize = 0;
-    while l < v.links {
+    for l in 0..v.links {
         if end_of(sheet, v, End::Target, l) == t {
             return RECEIVES + l;
         }
-        l += 1;
     }
     t
 }
@@ -76,12 +74,10 @@ fn feeds(sheet: &[u8], v: View, code: usize, own: usize, t: usize) -> bool
     requires { Small v }
     ensures { FeedsIs sheet.now v code own t result }
 {
-    let mut l: usize = 0;
-    while l < v.links {
+    for l in 0..v.links {
         if feeds_by(sheet, v, code, own, t, l) {
             return true;
         }
-        l += 1;
     }
     false
 }
@@ -110,11 +106,10 @@ pub fn joined(sheet: &[u8], v: View, b: Begun, t: usize) -> Begun
     Begun {
         code: b.code * codes::BASE + t,
         tasks: b.tasks + 1,
-        programmes: b.programmes,
         own: b.own + 1,
-        floor: b.floor,
         store: b.store + store_of(sheet, v, t),
         work: b.work + work_of(sheet, v, t),
+        ..b
     }
 }
 
@@ -123,13 +118,7 @@ pub fn may_open(sheet: &[u8], v: View, b: Begun, t: usize, a: Begun) -> bool
     requires { Small v × Begins sheet.now v b × OpenedIs sheet.now v b t a × (t < v.tasks) }
     ensures { TestIs opens_right sheet.now v b t result }
 {
-    if v.processors <= b.programmes {
-        return false;
-    }
-    if a.floor <= b.floor {
-        return false;
-    }
-    a.store <= v.limit
+    b.programmes < v.processors && b.floor < a.floor && a.store <= v.limit
 }
 
 // Whether what t makes of b in its last programme can be accepted: no link leads from t back into it, and all fit its store.
@@ -137,8 +126,5 @@ pub fn may_join(sheet: &[u8], v: View, b: Begun, t: usize, a: Begun) -> bool
     requires { Small v × Begins sheet.now v b × JoinedIs sheet.now v b t a × (t < v.tasks) × (0 < b.programmes) }
     ensures { TestIs joins_right sheet.now v b t result }
 {
-    if v.limit < a.store {
-        return false;
-    }
-    !feeds(sheet, v, b.code, b.own, t)
+    a.store <= v.limit && !feeds(sheet, v, b.code, b.own, t)
 }

@@ -1,6 +1,5 @@
 // The whole search: a sheet is opened, all arrangements of its tasks are walked over, and the best bundle is written.
-ghost use Rattle.std.specs.Prelude.{◌≡◌, ◌≤◌, length, take};
-ghost use Rattle.numbers.specs.Number.{stored};
+ghost use Rattle.std.specs.Prelude.{◌≤◌, length};
 ghost use Rattle.workspace.specs.Area.{fixed};
 ghost use Rattle.admission.specs.Fields.{Seen};
 ghost use Rattle.stepping_machine.specs.Layout.{extent};
@@ -13,16 +12,15 @@ use crate::walk::walk;
 use crate::walking::Begun;
 use crate::writing::{ROOM, put_bundle};
 use admission::view::View;
-use bundle_writer::writer::Judged;
 use levelling::open;
-use sheet_reader::Reading;
+use refusals::Refusal;
 use stepping_machine::BOARD;
 
 // The most tasks for which the least time is sought.
 pub const MOST: usize = 6;
 
 // The best of all arrangements, from one that has no task yet.
-fn best_of(sheet: &[u8], w: &mut [u32], buf: &mut [u8], other: &mut [u8], v: View) -> Best
+fn best_of(sheet: &[u8], w: &mut [u32], buf: &mut [u8], other: &mut [u8], v: View) -> Option<Best>
     requires { Ready sheet.now w.old buf.old other.old v }
     ensures { BestIs sheet.now v result }
 {
@@ -35,62 +33,45 @@ fn best_of(sheet: &[u8], w: &mut [u32], buf: &mut [u8], other: &mut [u8], v: Vie
         store: 0,
         work: 0,
     };
-    let none = Best {
-        found: false,
-        claim: 0,
-        programmes: 0,
-        code: 0,
-    };
-    walk(sheet, w, buf, other, v, v.tasks, empty, none)
-}
-
-// The first n bytes of `from` at the front of `out`.
-fn copy_front(from: &[u8], n: usize, out: &mut [u8])
-    requires { (n ≤ length from.now) × (n ≤ length out.old) }
-    ensures { out.new ≡ stored out.old 0 (take n from.now) }
-{
-    let mut i: usize = 0;
-    while i < n {
-        out[i] = from[i];
-        i += 1;
-    }
+    walk(sheet, w, buf, other, v, v.tasks, empty, None)
 }
 
 // 11, or 12, or the bytes of the best bundle at the front of `out`.
-fn search(sheet: &[u8], w: &mut [u32], v: View, out: &mut [u8]) -> Judged
+fn search(sheet: &[u8], w: &mut [u32], v: View, out: &mut [u8]) -> Result<usize, Refusal>
     requires { Seen sheet.now v × Small v × (extent ≤ length w.old) }
     ensures { SearchIs sheet.now v out.old out.new result }
 {
     let mut buf = [0u8; ROOM];
     let mut other = [0u8; ROOM];
-    let best = best_of(sheet, w, &mut buf, &mut other, v);
-    if !best.found {
-        return Judged::Refused(11, numbers::minus(v.tasks, 1));
-    }
+    let Some(best) = best_of(sheet, w, &mut buf, &mut other, v) else {
+        return Err(Refusal {
+            number: 11,
+            place: v.tasks.saturating_sub(1),
+        });
+    };
     let n = put_bundle(sheet, &mut buf, v, best.code, v.tasks, best.claim);
     if out.len() < n {
-        return Judged::Refused(12, n);
+        return Err(Refusal {
+            number: 12,
+            place: n,
+        });
     }
-    copy_front(&buf, n, out);
-    Judged::Long(n)
+    out[..n].copy_from_slice(&buf[..n]);
+    Ok(n)
 }
 
 // The bundle of a sheet's least time at the front of `out`, or the first refusal, which changes nothing in `out`.
-pub fn least(sheet: &[u8], work: &mut [u32], out: &mut [u8]) -> Judged
+pub fn least(sheet: &[u8], work: &mut [u32], out: &mut [u8]) -> Result<usize, Refusal>
     requires { fixed ≤ length work.old }
     ensures { LeastIs sheet.now work.old work.new out.old out.new result }
 {
-    match open::read(sheet, work) {
-        Reading::Refused(r, at) => Judged::Refused(r, at),
-        Reading::Read => {
-            let v = admission::view::of_tables(work);
-            if MOST < v.tasks {
-                return Judged::Refused(38, v.tasks);
-            }
-            if v.cube {
-                return Judged::Refused(38, v.tasks);
-            }
-            search(sheet, &mut work[BOARD..], v, out)
-        }
+    open::read(sheet, work)?;
+    let v = View::of_tables(work);
+    if v.cube || MOST < v.tasks {
+        return Err(Refusal {
+            number: 38,
+            place: v.tasks,
+        });
     }
+    search(sheet, &mut work[BOARD..], v, out)
 }

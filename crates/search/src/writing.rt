@@ -1,7 +1,6 @@
 // The bundle of an arrangement, in a buffer.
 ghost use Rattle.std.specs.Prelude.{◌≡◌, [], ◌∷◌, ◌+◌, ◌*◌, ◌≤◌, ◌<◌, length};
 ghost use Rattle.numbers.specs.Number.{number_bytes};
-ghost use Rattle.admission.specs.Fields.{Bounded};
 ghost use Rattle.least.specs.Least.{most};
 ghost use Rattle.search.specs.Codes.{Coded};
 ghost use Rattle.search.specs.Laying.{block_room, programme_room, room, Small, Front, other_end, code_of, EndIs, MessageIs, MessagesIs, BlockIs, TasksIs, ProgrammesIs, BundleIs};
@@ -9,27 +8,22 @@ ghost use Rattle.search.specs.Laying.{block_room, programme_room, room, Small, F
 use crate::codes;
 use adjacency::End;
 use admission::view::View;
+use bundle::{
+    CLAIM_BYTE, CLAIM_SIZE, LONG_SIZE, OPEN_BYTE, RECEIVE_BYTE, RUN_BYTE, SEND_BYTE, SHORT_SIZE,
+};
 use workspace::total::byte;
 
 // Long enough for the bundle of any arrangement of a small sheet.
 pub const ROOM: usize = 1325;
-
-// One byte.
-fn put_byte(buf: &mut [u8], at: usize, x: u8) -> usize
-    requires { at < length buf.old }
-    ensures { Front buf.old at (x ∷ []) buf.new result }
-{
-    buf[at] = x;
-    at + 1
-}
 
 // Two bytes: a command and its operand.
 fn put_pair(buf: &mut [u8], at: usize, command: u8, x: usize) -> usize
     requires { (at + 2 ≤ length buf.old) × (x < 256) }
     ensures { Front buf.old at (command ∷ x ∷ []) buf.new result }
 {
-    let a = put_byte(buf, at, command);
-    put_byte(buf, a, x as u8)
+    buf[at] = command;
+    buf[at + 1] = x as u8;
+    at + SHORT_SIZE
 }
 
 fn other_end(e: End) -> End
@@ -45,14 +39,14 @@ fn code_of(e: End) -> u8
     ensures { result ≡ code_of e }
 {
     match e {
-        End::Source => 0x53,
-        End::Target => 0x56,
+        End::Source => SEND_BYTE as u8,
+        End::Target => RECEIVE_BYTE as u8,
     }
 }
 
 // The task at one end of link l.
 pub fn end_of(sheet: &[u8], v: View, e: End, l: usize) -> usize
-    requires { Bounded v × (l < 65536) }
+    requires { l < 65536 }
     ensures { EndIs sheet.now v e l result }
 {
     match e {
@@ -66,8 +60,9 @@ fn put_command(buf: &mut [u8], at: usize, command: u8, l: usize) -> usize
     requires { (at + 3 ≤ length buf.old) × (l < 256) }
     ensures { Front buf.old at (command ∷ number_bytes 2 l) buf.new result }
 {
-    let a = put_pair(buf, at, command, l);
-    put_byte(buf, a, 0)
+    buf[at] = command;
+    numbers::put16(buf, at + 1, l as u16);
+    at + LONG_SIZE
 }
 
 // The message of link l, if it leads to or from t and its other task is not in the programme of these tasks.
@@ -82,7 +77,7 @@ fn put_message(
     t: usize,
     l: usize,
 ) -> usize
-    requires { Bounded v × (at + 3 ≤ length buf.old) × (l < 256) }
+    requires { (at + 3 ≤ length buf.old) × (l < 256) }
     ensures { MessageIs sheet.now v buf.old buf.new e at part len t l result }
 {
     if end_of(sheet, v, e, l) != t {
@@ -110,10 +105,8 @@ fn put_messages(
     ensures { MessagesIs sheet.now v buf.old buf.new e start part len t result }
 {
     let mut at = start;
-    let mut l: usize = 0;
-    while l < v.links {
+    for l in 0..v.links {
         at = put_message(sheet, buf, at, v, e, part, len, t, l);
-        l += 1;
     }
     at
 }
@@ -132,7 +125,7 @@ fn put_block(
     ensures { BlockIs sheet.now v buf.old buf.new at part len t result }
 {
     let a = put_messages(sheet, buf, at, v, End::Target, part, len, t);
-    let b = put_pair(buf, a, 0x52, t);
+    let b = put_pair(buf, a, RUN_BYTE as u8, t);
     put_messages(sheet, buf, b, v, End::Source, part, len, t)
 }
 
@@ -176,7 +169,7 @@ fn put_programmes(sheet: &[u8], buf: &mut [u8], v: View, code: usize, len: usize
     let m = p.tasks;
     let q = put_programmes(sheet, buf, v, p.front, len - m);
     let k = q.count;
-    let a = put_pair(buf, q.at, 0x50, k);
+    let a = put_pair(buf, q.at, OPEN_BYTE as u8, k);
     let b = put_tasks(sheet, buf, a, v, code, m, code, m);
     Laid {
         at: b,
@@ -197,7 +190,7 @@ pub fn put_bundle(
     ensures { BundleIs sheet.now v buf.old buf.new code len claim result }
 {
     let q = put_programmes(sheet, buf, v, code, len);
-    let a = put_pair(buf, q.at, 0x5A, claim % 256);
-    let b = put_pair(buf, a, (claim / 256 % 256) as u8, claim / 65536 % 256);
-    put_byte(buf, b, (claim / 16777216 % 256) as u8)
+    buf[q.at] = CLAIM_BYTE as u8;
+    numbers::put32(buf, q.at + 1, (claim % 4294967296) as u32);
+    q.at + CLAIM_SIZE
 }

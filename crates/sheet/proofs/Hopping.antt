@@ -5,7 +5,6 @@ use mathlib.Core.Bool.{Bool, true, false}
 use mathlib.Core.Logic.{⊎_elim}
 use native.Mathlib.Omega.{arith}
 use borrow.Author.Tests.{eqb-true, ltb-true, leb-true}
-use lib.Bits.{bit_xor}
 use lib.Count.{ones, ones_in}
 use lib.Dec.{eqb, ltb, leb}
 use native.Mathlib.Nat.{mul_comm, mul-le-mul, le_refl}

@@ -7,12 +7,11 @@ use mathlib.Core.List.{List, [], ◌∷◌}
 use mathlib.Core.Bool.{not}
 use native.Mathlib.Omega.{arith}
 use lib.ListN.{length}
-use lib.Dec.{ltb, eqb}
+use lib.Dec.{ltb}
 use Rattle.folds.specs.Folds.{pick}
 use Rattle.folds.specs.Answers.{value, refused}
 use Rattle.folds.proofs.Firsts.{first_of-between}
 use Rattle.commands.proofs.Reading.{Told, told-value, told-refused, reads-told}
-use Rattle.sheet.specs.Sheet.{task_count}
 use Rattle.sheet.specs.Format.{Kind, width, Progress, fresh, in_turn, full, out_of_range, loose, doubled, fault, ended, sheet_format, read_form}
 
 fault-told : (p : Progress) (k : Kind) (b : List ℕ) (r : ℕ) → fault p k b ≡ some r → (1 ≤ r) × (r ≤ 8)

@@ -6,5 +6,5 @@ ghost use Rattle.sheet.specs.Hops.{hops};
 pub fn hops(j: u8, k: u8) -> u32
     ensures { (result ≡ hops j k) × (result ≤ 8) }
 {
-    u8::count_ones(j ^ k)
+    (j ^ k).count_ones()
 }

@@ -29,7 +29,7 @@ pub fn join(w: &mut [u32], a: usize, b: usize)
 {
     let i = PAIRS + (8 * a + b / 32);
     let j = (b % 32) as u32;
-    w[i] = w[i] + power(j);
+    w[i] += power(j);
 }
 
 // No pair of the first n tasks is joined.

@@ -140,7 +140,7 @@ pub fn put_task(w: &mut [u32], n: usize, work: u16, store: u16)
     ensures { w.new ≡ task_words w.old n work store }
 {
     w[TASKS + n] = work as u32 + 65536 * store as u32;
-    w[TASK_COUNT] = workspace::narrow(n + 1);
+    w[TASK_COUNT] = (n + 1) as u32;
 }
 
 // Link m, behind those before it.
@@ -150,5 +150,5 @@ pub fn put_link(w: &mut [u32], m: usize, source: u16, target: u16, cost: u16, by
 {
     w[LINKS + m] = source as u32 + 256 * target as u32 + 65536 * cost as u32;
     w[SIZES + m] = bytes as u32;
-    w[LINK_COUNT] = workspace::narrow(m + 1);
+    w[LINK_COUNT] = (m + 1) as u32;
 }

@@ -28,8 +28,9 @@ use Rattle.sheet.specs.Tables.{sheet_in, pair_in, Loaded, Filling, LoadedOf, tas
 use Rattle.sheet.specs.Faults.{begun, task_fault, link_fault}
 use Rattle.sheet_reader.specs.Answers.{ReadIs, values_closed}
 use Rattle.sheet_reader.specs.Scanning.{Scanning, read_on}
-use Rattle.sheet_reader.specs.declared.Reading.{Reading}
-use Rattle.sheet_reader.specs.declared.Reading.TheVariants.{Read, Refused}
+use Rattle.std.specs.Prelude.{⊤, Result, Ok, Err}
+use Rattle.refusals.specs.Refusals.{refusal}
+use Rattle.refusals.specs.declared.Refusal.{Refusal}
 use Rattle.sheet.proofs.Rows.{tasks-in, links-in}
 use Rattle.sheet.proofs.Judging.{fault-unpack, wire-clear, fault-task, fault-link, fault-end}
 use Rattle.sheet.proofs.Fronts.{front-none, front-some, front-cube}
@@ -107,7 +108,7 @@ module _ (f : ℕ → Task) (n : ℕ) (X : List ℕ) {a : Answer Sheet} {w₀ w 
   pub task-fits : task_fault i (f i).work ≡ none → i < 256
   task-fits clear = task-few here (verdict-here ∙ ap (verdict sheet_format task) clear)
 
-  pub refuse-task : (r : ℕ) → task_fault i (f i).work ≡ some r → ReadIs a w₀ w (Refused r e)
+  pub refuse-task : (r : ℕ) → task_fault i (f i).work ≡ some r → ReadIs a w₀ w (Err (refusal r e))
   refuse-task r bad = scan-refuse here r (verdict-here ∙ ap (verdict sheet_format task) bad)
 
 -- the same for the links that g gives
@@ -140,7 +141,7 @@ module _ (g : ℕ → Link) (m : ℕ) (X : List ℕ) {a : Answer Sheet} {w₀ w 
         link-single link_here (g j).source (g j).target go_on refl refl f,
       )
 
-  pub refuse-link : (r : ℕ) → link_fault (sheet_in w) (g j).source (g j).target ≡ some r → ReadIs a w₀ w (Refused r e)
+  pub refuse-link : (r : ℕ) → link_fault (sheet_in w) (g j).source (g j).target ≡ some r → ReadIs a w₀ w (Err (refusal r e))
   refuse-link r bad = scan-refuse link_here r (link-verdict ∙ ap (verdict sheet_format link) bad)
 
 -- behind the last link: one that is cut, or the end
@@ -180,14 +181,14 @@ module _ (v : List ℕ) {a : Answer Sheet} {w₀ w : List ℕ} {n j e : ℕ} (s 
   links-over : Scanning a (link_tail v) w₀ w n j e
   links-over = subst (λ (ls : List Link). Scanning a (link_bytes ls ++ link_tail v) w₀ w n j e) (rest-none j (length v / 4) (link_value v) h) s
 
-  pub links-closed : (r : Reading) (start : ℕ) → e ≡ start + link_size * j → r ≡ values_closed (length v) start → ReadIs a w₀ w r
+  pub links-closed : (r : Result ⊤ Refusal) (start : ℕ) → e ≡ start + link_size * j → r ≡ values_closed (length v) start → ReadIs a w₀ w r
   unfolding values_closed
   links-closed r start p q = subst (ReadIs a w₀ w) (sym q) (tail (ℕ_discrete (length v % 4) 0))
     where
       place : e ≡ start + link_size * (length v / 4)
       place = omega arith
 
-      tail : Dec (length v % 4 ≡ 0) → ReadIs a w₀ w (pick (eqb (length v % 4) 0) Read (Refused 1 (start + link_size * (length v / 4))))
+      tail : Dec (length v % 4 ≡ 0) → ReadIs a w₀ w (pick (eqb (length v % 4) 0) (Ok tt) (Err (refusal 1 (start + link_size * (length v / 4)))))
       tail (yes z) =
           let b : eqb (length v % 4) 0 ≡ true = eq-eqb (length v % 4) 0 z in
           rw b (scan-whole (subst (λ (t : Bool). Scanning a (pick t (0x51 ∷ []) (0x45 ∷ [])) w₀ w n j e) b links-over) (at-end (sheet_in w)) refl)
@@ -217,7 +218,7 @@ module _ (v u : List ℕ) {a : Answer Sheet} {w₀ w : List ℕ} {i e : ℕ} (s 
   tasks-over : Scanning a (task_tail v u) w₀ w i 0 e
   tasks-over = subst (λ (ts : List Task). Scanning a (task_bytes ts ++ task_tail v u) w₀ w i 0 e) (rest-none i (length v / 2) (task_value v) h) s
 
-  pub tasks-cut : length v % 2 ≢ 0 → ReadIs a w₀ w (Refused 1 e)
+  pub tasks-cut : length v % 2 ≢ 0 → ReadIs a w₀ w (Err (refusal 1 e))
   tasks-cut z =
       scan-refuse (subst (λ (t : Bool). Scanning a (pick t (link_value_bytes u) (0x54 ∷ [])) w₀ w i 0 e) (ne_eqb (length v % 2) 0 z) tasks-over) 1
       (cut-task (sheet_in w) (links-in w ∙ s.links))
@@ -295,7 +296,7 @@ module _ {p l u : ℕ} {w v : List ℕ} (c : Bool) where
   pub board-unwired : c ≡ false → LoadedOf (made p l u false [] []) w v → LoadedOf (made p l u c [] []) w v
   board-unwired e h = subst (λ (t : Bool). LoadedOf (made p l u t [] []) w v) (sym e) h
 
-pub board-refused : (p l x : ℕ) (c : Bool) (v u w : List ℕ) → (p < 1) ⊎ (16 < p) → ReadIs (read_form (value_bytes p l x c v u)) w w (Refused 6 0)
+pub board-refused : (p l x : ℕ) (c : Bool) (v u w : List ℕ) → (p < 1) ⊎ (16 < p) → ReadIs (read_form (value_bytes p l x c v u)) w w (Err (refusal 6 0))
 unfolding read_form value_bytes
 board-refused p l x c v u w h =
     read-refused _ w w 6 0 refl
@@ -316,5 +317,5 @@ board-read p l x c v u w w' h k small time f =
     (board-on _ p l x c X (starts sheet_format fresh (board_bytes p l x c ++ X)) j small time))
 
 -- an answer known by another name
-pub read_as : {a b : Answer Sheet} {w last : List ℕ} {r : Reading} → a ≡ b → ReadIs b w last r → ReadIs a w last r
+pub read_as : {a b : Answer Sheet} {w last : List ℕ} {r : Result ⊤ Refusal} → a ≡ b → ReadIs b w last r → ReadIs a w last r
 read_as {a} {b} {w} {last} {r} e h = subst (λ (x : Answer Sheet). ReadIs x w last r) (sym e) h

@@ -3,12 +3,12 @@ use Prim.Native.Nat.{ℕ, ◌+◌, ◌*◌, ◌-◌, ◌<◌, ◌≤◌}
 use mathlib.Core.Path.{◌≡◌, refl, sym, ap, ap₂, subst, ◌∙◌}
 use mathlib.Core.Bool.{Bool, true, false, not, true≢false}
 use mathlib.Core.Logic.{◌≢◌}
-use mathlib.Core.Option.{none}
+use mathlib.Core.Option.{Option, some}
 use mathlib.Core.List.{List, [], ◌∷◌, ◌++◌}
 use native.Mathlib.Omega.{arith}
 use native.Mathlib.Nat.{add-zero}
 use native.Mathlib.Decide.{dec_lt}
-use borrow.Author.Tests.{leb-false, leb-true, not-false, eqb-true, eqb-false, eq-eqb, ne_eqb, lt-ltb, le-ltb}
+use borrow.Author.Tests.{leb-false, leb-true, not-false, eqb-true, eqb-false, ne_eqb, lt-ltb, le-ltb}
 use lib.ListN.{length, get_or, drop, length-drop}
 use lib.Seq.{get_or-drop, drop-drop}
 use lib.Dec.{eqb, ltb, leb}
@@ -26,11 +26,13 @@ use Rattle.sheet.specs.Sizes.{board_size, unpacking_size, cube_size, task_size, 
 use Rattle.sheet.specs.Format.{Kind, board, unpack, wire, task, link, end, unwired, kind_of, width, Progress, fresh, closes, fault, with_command, task_from, link_from, ended, joins, sheet_format, read_form}
 use Rattle.sheet.specs.Tables.{sheet_in, pair_in, Loaded, Filling, LoadedOf, Blanked, task_words, link_words, pair_words, unpacking_words, cube_words}
 use Rattle.sheet.specs.Faults.{begun}
-use Rattle.sheet_reader.specs.Answers.{outcome_of, is_unpacking, is_cube, is_task, is_link, reading_of, opening_of, closed_of, ReadIs}
+use Rattle.sheet_reader.specs.Answers.{outcome, outcome_of, is_unpacking, is_cube, is_task, is_link, reading_of, closed_of, ReadIs}
 use Rattle.sheet_reader.specs.Scanning.{Absent, BoardRead, Scanning, Walking, Linking, added_words}
 use Rattle.sheet_reader.specs.declared.bytes.Next.{Next}
-use Rattle.sheet_reader.specs.declared.Reading.{Reading}
-use Rattle.sheet_reader.specs.declared.Reading.TheVariants.{Read, Refused}
+use Rattle.std.specs.Prelude.{⊤, Result, Ok, Err, is_ok}
+use Rattle.refusals.specs.Refusals.{refusal, fault_of, placed}
+use Rattle.refusals.proofs.Results.{fault-by}
+use Rattle.refusals.specs.declared.Refusal.{Refusal}
 use Rattle.sheet.proofs.Rows.{tasks-in, links-in}
 use Rattle.sheet.proofs.Fills.{task-long, task-count, task-away, sheet-task, link-long, link-count, link-away, pair-long, pair-away, unpacking-away, unpacking-long, sheet-unpacking, cube-away, cube-long, sheet-cube}
 use Rattle.sheet.proofs.Joins.{unpacking-loaded, cube-loaded, task-loaded, filling-link, link-sheet, blank-sheet, blank-filling}
@@ -38,11 +40,11 @@ use Rattle.sheet.proofs.Judging.{judge-known, sound-of, wire-clear, wire-turn}
 use Rattle.sheet.proofs.Rounds.{byte_of, first_byte}
 
 -- how an answer ends up as a reading
-pub read-refused : (a : Answer Sheet) (w last : List ℕ) (r e : ℕ) → length last ≡ length w → a ≡ refused r e → ReadIs a w last (Refused r e)
+pub read-refused : (a : Answer Sheet) (w last : List ℕ) (r e : ℕ) → length last ≡ length w → a ≡ refused r e → ReadIs a w last (Err (refusal r e))
 read-refused a w last r e long h =
     record { long = long; answer = sym (ap reading_of h); loaded = λ s q. not-value (sym h ∙ q); held = λ s q. not-value (sym h ∙ q) }
 
-pub read-value : (a : Answer Sheet) (w last : List ℕ) → length last ≡ length w → Loaded last → a ≡ value (sheet_in last) → ReadIs a w last Read
+pub read-value : (a : Answer Sheet) (w last : List ℕ) → length last ≡ length w → Loaded last → a ≡ value (sheet_in last) → ReadIs a w last (Ok tt)
 read-value a w last long l h =
     record {
       long = long;
@@ -98,9 +100,16 @@ module _ (f : Outcome Kind → Bool) (p : Progress) (b : List ℕ) (at : ℕ) {c
           absurd (h (e ∙ sym (get_or-drop at b 0 0 ∙ ap (λ (i : ℕ). get_or b i 0) (add-zero at)) ∙ ap (λ (d : List ℕ). get_or d 0 0) (first_byte p (drop at b) k (only _ q))))
       by false q = q
 
-  -- the first byte is v, and the code found n
-  pub its-byte : (v : ℕ) {r n : Next} → at < length b → c ≡ v → outcome_of r ≡ judge_kind sheet_format p (kind_of v) (drop (at + 1) b) → r ≡ n → f (outcome_of n) ≡ f (judge sheet_format p (drop at b))
-  its-byte v h q found is = ap f (sym (ap outcome_of is) ∙ found ∙ sym (judge-known p b at v h (sym e ∙ q)))
+-- a test of a command of kind k tells what becomes of it
+pub told : (k : Kind) (r : Result ⊤ ℕ) → outcome k r ≡ verdict sheet_format k (fault_of r)
+told k (Ok x) = refl
+told k (Err n) = refl
+
+-- f asks for commands of kind k, whose first byte stands at `at`: it is what nothing refuses there
+pub its-byte : (f : Outcome Kind → Bool) (p : Progress) (b : List ℕ) (at : ℕ) (k : Kind) → ((r : Result ⊤ ℕ) → f (outcome k r) ≡ is_ok r) → kind_of (byte_of k) ≡ some k → at < length b → get_or b at 0 ≡ byte_of k → (r : Result ⊤ ℕ)
+    → outcome k r ≡ judge_kind sheet_format p (some k) (drop (at + 1) b) → is_ok r ≡ f (judge sheet_format p (drop at b))
+its-byte f p b at k tells known h q r found =
+    sym (tells r) ∙ ap f (found ∙ ap (λ (x : Option Kind). judge_kind sheet_format p x (drop (at + 1) b)) (sym known) ∙ sym (judge-known p b at (byte_of k) h q))
 
 -- a cube stands at `at`
 pub cube-by : (s : Sheet) (b : List ℕ) (at : ℕ) → at < length b → get_or b at 0 ≡ 0x48 → is_cube (judge sheet_format (begun s) (drop at b)) ≡ unwired s
@@ -239,17 +248,22 @@ module _ {a : Answer Sheet} {d w₀ w : List ℕ} {n m e : ℕ} (s : Scanning a 
         (link-sheet w m x y c b f s.links few source-small target_small h₁ h₂
         ∙ ap (λ (l : Link). record { processors = (sheet_in w).processors; limit = (sheet_in w).limit; unpacking = (sheet_in w).unpacking; cube = (sheet_in w).cube; tasks = (sheet_in w).tasks; links = (sheet_in w).links ++ l ∷ [] }) (sym from))
 
-  pub scan-refuse : (r : ℕ) → judge sheet_format (begun (sheet_in w)) d ≡ refuse r → ReadIs a w₀ w (Refused r e)
+  pub scan-refuse : (r : ℕ) → judge sheet_format (begun (sheet_in w)) d ≡ refuse r → ReadIs a w₀ w (Err (refusal r e))
   scan-refuse r j = read-refused a w₀ w r e s.long (refuses sheet_format s.going r j)
+
+  pub scan-refused : (t : Result Next ℕ) (r : Refusal) → outcome_of t ≡ judge sheet_format (begun (sheet_in w)) d → Err r ≡ placed e t → ReadIs a w₀ w (Err r)
+  scan-refused t r j h =
+      let f = fault-by e t r h in
+      subst (λ (x : Refusal). ReadIs a w₀ w (Err x)) (sym f.is) (scan-refuse f.number (sym j ∙ ap outcome_of f.found))
 
   -- the end: bytes behind it, or the sheet
   scan-end : judge sheet_format (begun (sheet_in w)) d ≡ go end → a ≡ ended (begun (sheet_in w)) e (drop 1 d)
   scan-end j = ends sheet_format s.going end refl j
 
-  pub scan-tail : judge sheet_format (begun (sheet_in w)) d ≡ go end → 0 < length (drop 1 d) → ReadIs a w₀ w (Refused 4 (e + 1))
+  pub scan-tail : judge sheet_format (begun (sheet_in w)) d ≡ go end → 0 < length (drop 1 d) → ReadIs a w₀ w (Err (refusal 4 (e + 1)))
   scan-tail j h = read-refused a w₀ w 4 (e + 1) s.long (scan-end j ∙ ended-tail (sheet_in w) (drop 1 d) e h)
 
-  pub scan-whole : judge sheet_format (begun (sheet_in w)) d ≡ go end → length (drop 1 d) ≡ 0 → ReadIs a w₀ w Read
+  pub scan-whole : judge sheet_format (begun (sheet_in w)) d ≡ go end → length (drop 1 d) ≡ 0 → ReadIs a w₀ w (Ok tt)
   scan-whole j h = read-value a w₀ w s.long s.loaded (scan-end j ∙ ended-whole (sheet_in w) (drop 1 d) e h)
 
 -- an unpacking time comes only where there was none, and neither it nor a cube comes behind a cube, a task or a link
@@ -364,11 +378,11 @@ module _ {a : Answer Sheet} {b w₀ w : List ℕ} {n m at : ℕ} (s : Walking a 
   behind : length (drop 1 (drop at b)) ≡ length b - (at + 1)
   behind = ap length (drop-drop 1 at b) ∙ length-drop (at + 1) b
 
-  pub walk-closes : (r : Reading) → judge sheet_format (begun (sheet_in w)) (drop at b) ≡ go end → r ≡ closed_of (length b) at → ReadIs a w₀ w r
+  pub walk-closes : (r : Result ⊤ Refusal) → judge sheet_format (begun (sheet_in w)) (drop at b) ≡ go end → r ≡ closed_of (length b) at → ReadIs a w₀ w r
   unfolding closed_of
   walk-closes r j e = subst (ReadIs a w₀ w) (sym e) (tail (dec_lt (at + 1) (length b)))
     where
-      tail : Dec (at + 1 < length b) → ReadIs a w₀ w (pick (ltb (at + 1) (length b)) (Refused 4 (at + 1)) Read)
+      tail : Dec (at + 1 < length b) → ReadIs a w₀ w (pick (ltb (at + 1) (length b)) (Err (refusal 4 (at + 1))) (Ok tt))
       tail (yes h) = rw (lt-ltb (at + 1) (length b) h) (scan-tail s.scanning j (omega (arith, behind)))
       tail (no h) = rw (le-ltb (at + 1) (length b) (omega arith)) (scan-whole s.scanning j (omega (arith, behind)))
 
@@ -452,12 +466,15 @@ scan-board v w p l long f g =
     }
 
 -- the board command: refused, or read
-pub open-refuse : (b w : List ℕ) (r : ℕ) → opening_of r ≡ judge sheet_format fresh b → r ≢ 0 → ReadIs (read_form b) w w (Refused r 0)
+pub open-refuse : (b w : List ℕ) (o : Result ⊤ ℕ) (r : Refusal) → outcome board o ≡ judge sheet_format fresh b → Err r ≡ placed 0 o → ReadIs (read_form b) w w (Err r)
 unfolding read_form
-open-refuse b w r e h = read-refused _ w w r 0 refl (refuses sheet_format (starts sheet_format fresh b) r (sym e ∙ simp (ne_eqb r 0 h)))
+open-refuse b w o r e h =
+    let f = fault-by 0 o r h in
+    subst (λ (x : Refusal). ReadIs (read_form b) w w (Err x)) (sym f.is)
+    (read-refused _ w w f.number 0 refl (refuses sheet_format (starts sheet_format fresh b) f.number (sym e ∙ ap (outcome board) f.found)))
 
-pub open-go : (b : List ℕ) (r : ℕ) → opening_of r ≡ judge sheet_format fresh b → r ≡ 0 → judge sheet_format fresh b ≡ go board
-open-go b r e h = sym e ∙ simp (eq-eqb r 0 h)
+pub open-go : (b : List ℕ) (o : Result ⊤ ℕ) (x : ⊤) → outcome board o ≡ judge sheet_format fresh b → o ≡ Ok x → judge sheet_format fresh b ≡ go board
+open-go b o x e h = sym e ∙ ap (outcome board) h
 
 pub open-room : (b : List ℕ) → judge sheet_format fresh b ≡ go board → (board_size ≤ length b) × (get_or b 1 0 ≤ 16)
 open-room b j =
@@ -480,5 +497,5 @@ walk-starts b w p l j e₁ e₂ v f =
     }
 
 -- reading from words that are as long as those lent
-pub read_through : {a : Answer Sheet} {w mid last : List ℕ} {r : Reading} → ReadIs a mid last r → length mid ≡ length w → ReadIs a w last r
+pub read_through : {a : Answer Sheet} {w mid last : List ℕ} {r : Result ⊤ Refusal} → ReadIs a mid last r → length mid ≡ length w → ReadIs a w last r
 read_through h e = record { long = h.long ∙ e; answer = h.answer; loaded = h.loaded; held = h.held }

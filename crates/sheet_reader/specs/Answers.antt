@@ -1,24 +1,32 @@
 -- The code's answers as the definitions have them.
-use Rattle.std.specs.Prelude.{ℕ, ◌+◌, ◌*◌, ◌/◌, ◌%◌, Bool, true, false, ◌≡◌, List, length, eqb, ltb}
+use Rattle.std.specs.Prelude.{ℕ, ⊤, Result, Ok, Err, ◌+◌, ◌*◌, ◌/◌, ◌%◌, Bool, true, false, ◌≡◌, List, length, eqb, ltb}
 use Rattle.folds.specs.Folds.{pick}
-use Rattle.folds.specs.Answers.{Answer, value, refused}
+use Rattle.folds.specs.Answers.{Answer, value}
 use Rattle.commands.specs.Commands.{Outcome, refuse, go}
 use Rattle.sheet.specs.Sheet.{Sheet}
 use Rattle.sheet.specs.Sizes.{link_size}
 use Rattle.sheet.specs.Format.{Kind, board, unpack, wire, task, link, end}
 use Rattle.sheet.specs.Tables.{sheet_in, Loaded}
 use Rattle.sheet_reader.specs.declared.bytes.Next.{Next}
-use Rattle.sheet_reader.specs.declared.bytes.Next.TheVariants.{Unpacking, Cube, Task, Link, End, No}
-use Rattle.sheet_reader.specs.declared.Reading.{Reading}
-use Rattle.sheet_reader.specs.declared.Reading.TheVariants.{Read, Refused}
+use Rattle.sheet_reader.specs.declared.bytes.Next.TheVariants.{Unpacking, Cube, Task, Link, End}
+use Rattle.refusals.specs.Refusals.{refusal, result_of}
+use Rattle.refusals.specs.declared.Refusal.{Refusal}
 
-abbrev pub outcome_of : Next → Outcome Kind
-outcome_of Unpacking = go unpack
-outcome_of Cube = go wire
-outcome_of Task = go task
-outcome_of Link = go link
-outcome_of End = go end
-outcome_of (No r) = refuse r
+-- a command of kind k is refused, or is the next one
+abbrev pub outcome : Kind → Result ⊤ ℕ → Outcome Kind
+outcome k (Ok x) = go k
+outcome k (Err r) = refuse r
+
+abbrev pub kind : Next → Kind
+kind Unpacking = unpack
+kind Cube = wire
+kind Task = task
+kind Link = link
+kind End = end
+
+abbrev pub outcome_of : Result Next ℕ → Outcome Kind
+outcome_of (Ok n) = go (kind n)
+outcome_of (Err r) = refuse r
 
 -- whether an unpacking time comes, a cube, a task, a link
 abbrev pub is_unpacking : Outcome Kind → Bool
@@ -57,25 +65,20 @@ is_link (go task) = false
 is_link (go link) = true
 is_link (go end) = false
 
--- the board command's fault, or 0
-abbrev pub opening_of : ℕ → Outcome Kind
-opening_of r = pick (eqb r 0) (go board) (refuse r)
-
-abbrev pub reading_of : Answer Sheet → Reading
-reading_of (value s) = Read
-reading_of (refused r e) = Refused r e
+abbrev pub reading_of : Answer Sheet → Result ⊤ Refusal
+reading_of a = result_of (λ s. tt) a
 
 -- reading gave the answer a as r, and left a sheet that was read in the tables
-pub record ReadIs (a : Answer Sheet) (w last : List ℕ) (r : Reading) : Type 0 where
+pub record ReadIs (a : Answer Sheet) (w last : List ℕ) (r : Result ⊤ Refusal) : Type 0 where
   pub long : length last ≡ length w
   pub answer : r ≡ reading_of a
   pub loaded : (s : Sheet) → a ≡ value s → Loaded last
   pub held : (s : Sheet) → a ≡ value s → sheet_in last ≡ s
 
 -- what the end command at offset e of so many bytes closes
-unfoldable pub closed_of : ℕ → ℕ → Reading
-closed_of long e = pick (ltb (e + 1) long) (Refused 4 (e + 1)) Read
+unfoldable pub closed_of : ℕ → ℕ → Result ⊤ Refusal
+closed_of long e = pick (ltb (e + 1) long) (Err (refusal 4 (e + 1))) (Ok tt)
 
 -- what stands behind m values of links, whose commands begin at offset e: a link that is cut, or a sheet
-unfoldable pub values_closed : ℕ → ℕ → Reading
-values_closed m e = pick (eqb (m % 4) 0) Read (Refused 1 (e + link_size * (m / 4)))
+unfoldable pub values_closed : ℕ → ℕ → Result ⊤ Refusal
+values_closed m e = pick (eqb (m % 4) 0) (Ok tt) (Err (refusal 1 (e + link_size * (m / 4))))

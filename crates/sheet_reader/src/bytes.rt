@@ -2,19 +2,23 @@
 ghost use Rattle.std.specs.Prelude.{◌≡◌, false, ◌+◌, ◌*◌, ◌≤◌, ◌<◌, length, get_or, drop};
 ghost use Rattle.std.proofs.Math.Option.{some};
 ghost use Rattle.numbers.specs.Number.{number_at};
-ghost use Rattle.commands.specs.Commands.{numbered, judge, judge_kind};
+ghost use Rattle.commands.specs.Commands.{judge, judge_kind};
+ghost use Rattle.refusals.specs.Refusals.{fault_of};
 ghost use Rattle.workspace.specs.Area.{fixed, link_count_at, task_count_at};
 ghost use Rattle.sheet.specs.Sizes.{board_size, task_size, link_size};
-ghost use Rattle.sheet.specs.Format.{unwired, unpack, wire, task, link, sheet_format, fresh, read_form};
+ghost use Rattle.sheet.specs.Format.{board, unwired, unpack, wire, task, link, sheet_format, fresh, read_form};
 ghost use Rattle.sheet.specs.Tables.{sheet_in, pair_in, Loaded, Filling, task_words};
 ghost use Rattle.sheet.specs.Faults.{begun, task_fault, link_fault};
-ghost use Rattle.sheet_reader.specs.Answers.{outcome_of, is_unpacking, is_cube, is_task, is_link, opening_of, closed_of, ReadIs};
+ghost use Rattle.sheet_reader.specs.Answers.{outcome, outcome_of, is_unpacking, is_cube, is_task, is_link, closed_of, ReadIs};
 ghost use Rattle.sheet_reader.specs.Scanning.{Absent, BoardRead, Walking, Linking, added_words};
 
-use crate::Reading;
-use sheet::{BOARD_SIZE, CUBE_SIZE, LINK_SIZE, TASK_SIZE, UNPACKING_SIZE, pairs, tables};
+use refusals::Refusal;
+use sheet::{
+    BOARD_BYTE, BOARD_SIZE, CUBE_BYTE, CUBE_SIZE, END_BYTE, LINK_BYTE, LINK_SIZE, TASK_BYTE,
+    TASK_SIZE, UNPACKING_BYTE, UNPACKING_SIZE, pairs, tables,
+};
 
-// The next command behind the board command: its kind, or the number that refuses it.
+// The kind of the next command behind the board command.
 #[derive(Clone, Copy)]
 pub enum Next {
     Unpacking,
@@ -22,41 +26,46 @@ pub enum Next {
     Task,
     Link,
     End,
-    No(u8),
 }
 
-// The number that refuses a task of this work behind so many others, or 0.
-pub fn task_fault(tasks: usize, work: u16) -> u8
-    ensures { numbered result ≡ task_fault tasks work }
+// The number that refuses a task of this work behind so many others, if one does.
+pub fn task_fault(tasks: usize, work: u16) -> Result<(), u8>
+    ensures { fault_of result ≡ task_fault tasks work }
 {
     if 256 <= tasks {
-        return 5;
+        return Err(5);
     }
     if work == 0 {
-        return 6;
+        return Err(6);
     }
-    0
+    Ok(())
 }
 
-// The number that refuses a link between these tasks, or 0.
-pub fn link_fault(w: &[u32], tasks: usize, links: usize, source: usize, target: usize) -> u8
+// The number that refuses a link between these tasks, if one does.
+pub fn link_fault(
+    w: &[u32],
+    tasks: usize,
+    links: usize,
+    source: usize,
+    target: usize,
+) -> Result<(), u8>
     requires filling { Filling w.now }
     requires tasks_value { (tasks ≡ get_or w.now task_count_at 0) × (links ≡ get_or w.now link_count_at 0) }
-    ensures { numbered result ≡ link_fault (sheet_in w.now) source target }
+    ensures { fault_of result ≡ link_fault (sheet_in w.now) source target }
 {
     if 1024 <= links {
-        return 5;
+        return Err(5);
     }
     if tasks <= source {
-        return 7;
+        return Err(7);
     }
     if tasks <= target {
-        return 7;
+        return Err(7);
     }
     if pairs::joined(w, source, target) {
-        return 8;
+        return Err(8);
     }
-    0
+    Ok(())
 }
 
 // Whether the board has neither a cube nor a task nor a link behind it.
@@ -74,148 +83,131 @@ fn unwired(w: &[u32], tasks: usize, links: usize) -> bool
     links == 0
 }
 
-// The unpacking time at `at`, which is in turn only directly behind the board.
-fn unpacking_at(bytes: &[u8], at: usize, w: &[u32], tasks: usize, links: usize) -> Next
+// The unpacking time at `at`, which is in turn only directly behind the board: the number that refuses it, if one does.
+fn unpacking_at(bytes: &[u8], at: usize, w: &[u32], tasks: usize, links: usize) -> Result<(), u8>
     requires loaded { Loaded w.now }
     requires tasks_value { (tasks ≡ get_or w.now task_count_at 0) × (links ≡ get_or w.now link_count_at 0) × (at < length bytes.now) }
-    ensures { outcome_of result ≡ judge_kind sheet_format (begun (sheet_in w.now)) (some unpack) (drop (at + 1) bytes.now) }
+    ensures { outcome unpack result ≡ judge_kind sheet_format (begun (sheet_in w.now)) (some unpack) (drop (at + 1) bytes.now) }
 {
     if tables::unpacking(w) != 0 {
-        return Next::No(3);
+        return Err(3);
     }
     if !unwired(w, tasks, links) {
-        return Next::No(3);
+        return Err(3);
     }
     if bytes.len() - at < UNPACKING_SIZE {
-        return Next::No(1);
+        return Err(1);
     }
     if reader::get16(bytes, at + 1) == 0 {
-        return Next::No(6);
+        return Err(6);
     }
-    Next::Unpacking
+    Ok(())
 }
 
 // A cube, which is in turn only behind the board and its unpacking time.
-fn cube_at(bytes: &[u8], at: usize, w: &[u32], tasks: usize, links: usize) -> Next
+fn cube_at(bytes: &[u8], at: usize, w: &[u32], tasks: usize, links: usize) -> Result<(), u8>
     requires loaded { Loaded w.now }
     requires tasks_value { (tasks ≡ get_or w.now task_count_at 0) × (links ≡ get_or w.now link_count_at 0) }
-    ensures { outcome_of result ≡ judge_kind sheet_format (begun (sheet_in w.now)) (some wire) (drop (at + 1) bytes.now) }
+    ensures { outcome wire result ≡ judge_kind sheet_format (begun (sheet_in w.now)) (some wire) (drop (at + 1) bytes.now) }
 {
     if unwired(w, tasks, links) {
-        return Next::Cube;
+        return Ok(());
     }
-    Next::No(3)
+    Err(3)
 }
 
 // The task command at `at`.
-fn task_at(bytes: &[u8], at: usize, w: &[u32], tasks: usize, links: usize) -> Next
+fn task_at(bytes: &[u8], at: usize, w: &[u32], tasks: usize, links: usize) -> Result<(), u8>
     requires loaded { Loaded w.now }
     requires tasks_value { (tasks ≡ get_or w.now task_count_at 0) × (links ≡ get_or w.now link_count_at 0) × (at < length bytes.now) }
-    ensures { outcome_of result ≡ judge_kind sheet_format (begun (sheet_in w.now)) (some task) (drop (at + 1) bytes.now) }
+    ensures { outcome task result ≡ judge_kind sheet_format (begun (sheet_in w.now)) (some task) (drop (at + 1) bytes.now) }
 {
     if links != 0 {
-        return Next::No(3);
+        return Err(3);
     }
     if bytes.len() - at < TASK_SIZE {
-        return Next::No(1);
+        return Err(1);
     }
-    let fault = task_fault(tasks, reader::get16(bytes, at + 1));
-    if fault != 0 {
-        return Next::No(fault);
-    }
-    Next::Task
+    task_fault(tasks, reader::get16(bytes, at + 1))
 }
 
 // The link command at `at`.
-fn link_at(bytes: &[u8], at: usize, w: &[u32], tasks: usize, links: usize) -> Next
+fn link_at(bytes: &[u8], at: usize, w: &[u32], tasks: usize, links: usize) -> Result<(), u8>
     requires filling { Filling w.now }
     requires tasks_value { (tasks ≡ get_or w.now task_count_at 0) × (links ≡ get_or w.now link_count_at 0) × (at < length bytes.now) }
-    ensures { outcome_of result ≡ judge_kind sheet_format (begun (sheet_in w.now)) (some link) (drop (at + 1) bytes.now) }
+    ensures { outcome link result ≡ judge_kind sheet_format (begun (sheet_in w.now)) (some link) (drop (at + 1) bytes.now) }
 {
     if bytes.len() - at < LINK_SIZE {
-        return Next::No(1);
+        return Err(1);
     }
-    let fault = link_fault(
-        w,
-        tasks,
-        links,
-        reader::get8(bytes, at + 1),
-        reader::get8(bytes, at + 2),
-    );
-    if fault != 0 {
-        return Next::No(fault);
-    }
-    Next::Link
+    let source = reader::get8(bytes, at + 1);
+    let target = reader::get8(bytes, at + 2);
+    link_fault(w, tasks, links, source, target)
 }
 
-// The command at `at`, behind the board command.
-fn next_at(bytes: &[u8], at: usize, w: &[u32], tasks: usize, links: usize) -> Next
+// The command at `at`, behind the board command; or the number that refuses it.
+fn next_at(bytes: &[u8], at: usize, w: &[u32], tasks: usize, links: usize) -> Result<Next, u8>
     requires filling { Filling w.now }
     requires tasks_value { (tasks ≡ get_or w.now task_count_at 0) × (links ≡ get_or w.now link_count_at 0) × (at ≤ length bytes.now) }
     ensures { outcome_of result ≡ judge sheet_format (begun (sheet_in w.now)) (drop at bytes.now) }
 {
     if bytes.len() <= at {
-        return Next::No(1);
+        return Err(1);
     }
-    let c = reader::get8(bytes, at);
-    if c == 0x54 {
-        return task_at(bytes, at, w, tasks, links);
+    match bytes[at] {
+        TASK_BYTE => {
+            task_at(bytes, at, w, tasks, links)?;
+            Ok(Next::Task)
+        }
+        LINK_BYTE => {
+            link_at(bytes, at, w, tasks, links)?;
+            Ok(Next::Link)
+        }
+        END_BYTE => Ok(Next::End),
+        UNPACKING_BYTE => {
+            unpacking_at(bytes, at, w, tasks, links)?;
+            Ok(Next::Unpacking)
+        }
+        CUBE_BYTE => {
+            cube_at(bytes, at, w, tasks, links)?;
+            Ok(Next::Cube)
+        }
+        BOARD_BYTE => Err(3),
+        _ => Err(2),
     }
-    if c == 0x45 {
-        return link_at(bytes, at, w, tasks, links);
-    }
-    if c == 0x51 {
-        return Next::End;
-    }
-    if c == 0x55 {
-        return unpacking_at(bytes, at, w, tasks, links);
-    }
-    if c == 0x48 {
-        return cube_at(bytes, at, w, tasks, links);
-    }
-    if c == 0x4D {
-        return Next::No(3);
-    }
-    Next::No(2)
 }
 
-// The board command at the head: 0, or the number that refuses it.
-fn opening(bytes: &[u8]) -> u8
-    ensures { opening_of result ≡ judge sheet_format fresh bytes.now }
+// The board command at the head, by its operands: the number that refuses it, if one does.
+fn board_at(bytes: &[u8]) -> Result<(), u8>
+    requires { 0 < length bytes.now }
+    ensures { outcome board result ≡ judge_kind sheet_format fresh (some board) (drop 1 bytes.now) }
 {
-    if bytes.len() == 0 {
-        return 1;
-    }
-    let c = reader::get8(bytes, 0);
-    if c == 0x54 {
-        return 3;
-    }
-    if c == 0x45 {
-        return 3;
-    }
-    if c == 0x51 {
-        return 3;
-    }
-    if c == 0x55 {
-        return 3;
-    }
-    if c == 0x48 {
-        return 3;
-    }
-    if c != 0x4D {
-        return 2;
-    }
     if bytes.len() < BOARD_SIZE {
-        return 1;
+        return Err(1);
     }
     let processors = reader::get8(bytes, 1);
-    if processors < 1 {
-        return 6;
+    if processors < 1 || 16 < processors {
+        return Err(6);
     }
-    if 16 < processors {
-        return 6;
+    Ok(())
+}
+
+// The command at the head, which has to be a board's: the number that refuses it, if one does.
+fn opening(bytes: &[u8]) -> Result<(), u8>
+    ensures { outcome board result ≡ judge sheet_format fresh bytes.now }
+{
+    if bytes.len() == 0 {
+        return Err(1);
     }
-    0
+    match bytes[0] {
+        BOARD_BYTE => board_at(bytes),
+        TASK_BYTE => Err(3),
+        LINK_BYTE => Err(3),
+        END_BYTE => Err(3),
+        UNPACKING_BYTE => Err(3),
+        CUBE_BYTE => Err(3),
+        _ => Err(2),
+    }
 }
 
 // Puts the task at `at` into the tables.
@@ -246,15 +238,18 @@ fn add_link(bytes: &[u8], at: usize, w: &mut [u32], links: usize)
 }
 
 // What the end command at `at` closes.
-fn closing(bytes: &[u8], at: usize) -> Reading
+fn closing(bytes: &[u8], at: usize) -> Result<(), Refusal>
     requires { at < length bytes.now }
     ensures { result ≡ closed_of (length bytes.now) at }
 {
     let past = at + 1;
     if past < bytes.len() {
-        return Reading::Refused(4, past);
+        return Err(Refusal {
+            number: 4,
+            place: past,
+        });
     }
-    Reading::Read
+    Ok(())
 }
 
 // Whether an unpacking time stands at `at` that nothing refuses, where there is no task and no link yet.
@@ -266,17 +261,10 @@ fn is_unpacking(bytes: &[u8], at: usize, w: &[u32]) -> bool
     if bytes.len() <= at {
         return false;
     }
-    if reader::get8(bytes, at) != 0x55 {
+    if bytes[at] != UNPACKING_BYTE {
         return false;
     }
-    match unpacking_at(bytes, at, w, 0, 0) {
-        Next::Unpacking => true,
-        Next::Cube => false,
-        Next::Task => false,
-        Next::Link => false,
-        Next::End => false,
-        Next::No(r) => false,
-    }
+    unpacking_at(bytes, at, w, 0, 0).is_ok()
 }
 
 // Whether a cube stands at `at` that nothing refuses, where there is no task and no link yet.
@@ -288,10 +276,10 @@ fn is_cube(bytes: &[u8], at: usize, w: &[u32]) -> bool
     if bytes.len() <= at {
         return false;
     }
-    if reader::get8(bytes, at) != 0x48 {
+    if bytes[at] != CUBE_BYTE {
         return false;
     }
-    unwired(w, 0, 0)
+    cube_at(bytes, at, w, 0, 0).is_ok()
 }
 
 // Whether a task stands at `at` that nothing refuses, where there is no link yet.
@@ -303,17 +291,10 @@ fn is_task(bytes: &[u8], at: usize, w: &[u32], tasks: usize) -> bool
     if bytes.len() <= at {
         return false;
     }
-    if reader::get8(bytes, at) != 0x54 {
+    if bytes[at] != TASK_BYTE {
         return false;
     }
-    match task_at(bytes, at, w, tasks, 0) {
-        Next::Unpacking => false,
-        Next::Cube => false,
-        Next::Task => true,
-        Next::Link => false,
-        Next::End => false,
-        Next::No(r) => false,
-    }
+    task_at(bytes, at, w, tasks, 0).is_ok()
 }
 
 // Whether a link stands at `at` that nothing refuses.
@@ -325,17 +306,10 @@ fn is_link(bytes: &[u8], at: usize, w: &[u32], tasks: usize, links: usize) -> bo
     if bytes.len() <= at {
         return false;
     }
-    if reader::get8(bytes, at) != 0x45 {
+    if bytes[at] != LINK_BYTE {
         return false;
     }
-    match link_at(bytes, at, w, tasks, links) {
-        Next::Unpacking => false,
-        Next::Cube => false,
-        Next::Task => false,
-        Next::Link => true,
-        Next::End => false,
-        Next::No(r) => false,
-    }
+    link_at(bytes, at, w, tasks, links).is_ok()
 }
 
 // Adds the unpacking time behind the board command, where there is one; the answer is the offset behind it.
@@ -396,24 +370,27 @@ fn add_links(bytes: &[u8], start: usize, w: &mut [u32], tasks: usize) -> usize
 
 // What stands at `at`, behind the tasks and the links: the end, or what is refused. Nothing of the board, and no task or link,
 // is left that nothing refuses.
-fn rest(bytes: &[u8], at: usize, w: &[u32], tasks: usize, links: usize) -> Reading
+fn rest(bytes: &[u8], at: usize, w: &[u32], tasks: usize, links: usize) -> Result<(), Refusal>
     requires linking { Linking (read_form bytes.now) bytes.now w.now w.now tasks links at }
     requires absent { Absent link bytes.now w.now at }
     ensures { ReadIs (read_form bytes.now) w.now w.now result }
 {
-    match next_at(bytes, at, w, tasks, links) {
-        Next::Unpacking => Reading::Refused(3, at),
-        Next::Cube => Reading::Refused(3, at),
-        Next::Task => Reading::Refused(3, at),
-        Next::Link => Reading::Refused(8, at),
+    match refusals::at(next_at(bytes, at, w, tasks, links), at)? {
         Next::End => closing(bytes, at),
-        Next::No(r) => Reading::Refused(r, at),
+        Next::Link => Err(Refusal {
+            number: 8,
+            place: at,
+        }),
+        _ => Err(Refusal {
+            number: 3,
+            place: at,
+        }),
     }
 }
 
 // Reads command by command behind the board command: what more there is of the board, the tasks, whose rows are then cleared for the
 // pairs that the links join, the links, and what is left.
-fn walk(bytes: &[u8], w: &mut [u32]) -> Reading
+fn walk(bytes: &[u8], w: &mut [u32]) -> Result<(), Refusal>
     requires { Walking (read_form bytes.now) bytes.now w.old w.old 0 0 board_size }
     ensures { ReadIs (read_form bytes.now) w.old w.new result }
 {
@@ -426,14 +403,11 @@ fn walk(bytes: &[u8], w: &mut [u32]) -> Reading
 }
 
 // Reads any bytes as a sheet: the first of refusals 1 to 8, or the sheet in the tables.
-pub fn read(bytes: &[u8], w: &mut [u32]) -> Reading
+pub fn read(bytes: &[u8], w: &mut [u32]) -> Result<(), Refusal>
     requires { fixed ≤ length w.old }
     ensures { ReadIs (read_form bytes.now) w.old w.new result }
 {
-    let fault = opening(bytes);
-    if fault != 0 {
-        return Reading::Refused(fault, 0);
-    }
-    tables::put_board(w, reader::get8(bytes, 1) as u8, reader::get32(bytes, 2));
+    refusals::at(opening(bytes), 0)?;
+    tables::put_board(w, bytes[1], reader::get32(bytes, 2));
     walk(bytes, w)
 }

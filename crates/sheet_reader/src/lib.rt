@@ -3,10 +3,3 @@
 
 pub mod bytes; // bytes.rt: from any bytes
 pub mod values; // values.rt: from its values
-
-// A sheet was read, or refused with a number and a place.
-#[derive(Clone, Copy)]
-pub enum Reading {
-    Read,
-    Refused(u8, usize),
-}

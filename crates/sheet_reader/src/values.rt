@@ -9,7 +9,8 @@ ghost use Rattle.sheet.specs.Tables.{pair_in, Loaded, LoadedOf, Filling, link_wo
 ghost use Rattle.sheet_reader.specs.Answers.{ReadIs, values_closed};
 ghost use Rattle.sheet_reader.specs.Scanning.{read_on};
 
-use crate::{Reading, bytes};
+use crate::bytes;
+use refusals::Refusal;
 use sheet::{LINK_SIZE, TASK_SIZE, pairs, tables};
 
 // Puts link j of the values into the tables.
@@ -27,56 +28,54 @@ fn add_link(links: &[u16], j: usize, w: &mut [u32])
 }
 
 // What stands behind the links, which begin at `start`: a link that is cut, or the end.
-fn closing(links: &[u16], start: usize) -> Reading
+fn closing(links: &[u16], start: usize) -> Result<(), Refusal>
     requires { (start < 65536) × (length links.now / 4 ≤ 1024) }
     ensures { result ≡ values_closed (length links.now) start }
 {
     let end = start + LINK_SIZE * (links.len() / 4);
     if links.len() % 4 != 0 {
-        return Reading::Refused(1, end);
+        return Err(Refusal {
+            number: 1,
+            place: end,
+        });
     }
-    Reading::Read
+    Ok(())
 }
 
 // The links' values, behind so many tasks: their commands begin at `start`.
-fn load_links(links: &[u16], start: usize, tasks: usize, w: &mut [u32]) -> Reading
+fn load_links(links: &[u16], start: usize, tasks: usize, w: &mut [u32]) -> Result<(), Refusal>
     requires filling { Filling w.old }
     requires tasks_value { (tasks ≡ get_or w.old task_count_at 0) × (get_or w.old link_count_at 0 ≡ 0) × (start ≤ board_size + unpacking_size + cube_size + task_size * tasks) }
     ensures { ReadIs (read_on w.old (link_value_bytes links.now) start) w.old w.new result }
 {
     let m = links.len() / 4;
-    let mut j = 0;
-    while j < m {
+    for j in 0..m {
         let k = 4 * j;
         let fault = bytes::link_fault(w, tasks, j, links[k] as usize, links[k + 1] as usize);
-        if fault != 0 {
-            return Reading::Refused(fault, start + LINK_SIZE * j);
-        }
+        refusals::at(fault, start + LINK_SIZE * j)?;
         add_link(links, j, w);
-        j += 1;
     }
     closing(links, start)
 }
 
 // The tasks' values, whose commands begin at `start`, and then the links'.
-fn load_tasks(tasks: &[u16], links: &[u16], start: usize, w: &mut [u32]) -> Reading
+fn load_tasks(tasks: &[u16], links: &[u16], start: usize, w: &mut [u32]) -> Result<(), Refusal>
     requires loaded { Loaded w.old }
     requires task_count_at_value { (get_or w.old task_count_at 0 ≡ 0) × (get_or w.old link_count_at 0 ≡ 0) × (start ≤ board_size + unpacking_size + cube_size) }
     ensures { ReadIs (read_on w.old (task_value_bytes tasks.now links.now) start) w.old w.new result }
 {
     let n = tasks.len() / 2;
-    let mut i = 0;
-    while i < n {
+    for i in 0..n {
         let k = 2 * i;
         let fault = bytes::task_fault(i, tasks[k]);
-        if fault != 0 {
-            return Reading::Refused(fault, start + TASK_SIZE * i);
-        }
+        refusals::at(fault, start + TASK_SIZE * i)?;
         tables::put_task(w, i, tasks[k], tasks[k + 1]);
-        i += 1;
     }
     if tasks.len() % 2 != 0 {
-        return Reading::Refused(1, start + TASK_SIZE * n);
+        return Err(Refusal {
+            number: 1,
+            place: start + TASK_SIZE * n,
+        });
     }
     pairs::blank(w, n);
     load_links(links, start + TASK_SIZE * n, n, w)
@@ -103,15 +102,15 @@ pub fn load(
     tasks: &[u16],
     links: &[u16],
     w: &mut [u32],
-) -> Reading
+) -> Result<(), Refusal>
     requires { fixed ≤ length w.old }
     ensures { ReadIs (read_form (value_bytes processors limit unpacking (cube_of cube) tasks.now links.now)) w.old w.new result }
 {
-    if processors < 1 {
-        return Reading::Refused(6, 0);
-    }
-    if 16 < processors {
-        return Reading::Refused(6, 0);
+    if processors < 1 || 16 < processors {
+        return Err(Refusal {
+            number: 6,
+            place: 0,
+        });
     }
     let wired = cube != 0;
     load_board(processors, limit, unpacking, wired, w);

@@ -7,20 +7,13 @@ ghost use Rattle.sheet.specs.Tables.{link_in, sheet_in, Loaded};
 
 use sheet::tables;
 
-fn narrow(x: usize) -> u16
-    requires { x < 65536 }
-    ensures { result ≡ x }
-{
-    x as u16
-}
-
 // Two values at `at`.
 fn put_pair(out: &mut [u16], at: usize, x: usize, y: usize)
     requires { (at + 2 ≤ length out.old) × (x < 65536) × (y < 65536) }
     ensures { out.new ≡ stored out.old at (x ∷ y ∷ []) }
 {
-    out[at] = narrow(x);
-    out[at + 1] = narrow(y);
+    out[at] = x as u16;
+    out[at + 1] = y as u16;
 }
 
 // All tasks, at the front of `out`.
@@ -29,11 +22,8 @@ pub fn tasks(w: &[u32], out: &mut [u16])
     requires w_in_bounds { 2 * task_count (sheet_in w.now) ≤ length out.old }
     ensures { out.new ≡ stored out.old 0 (task_values (sheet_in w.now).tasks) }
 {
-    let n = tables::tasks(w);
-    let mut i = 0;
-    while i < n {
+    for i in 0..tables::tasks(w) {
         put_pair(out, 2 * i, tables::work(w, i), tables::store(w, i));
-        i += 1;
     }
 }
 
@@ -53,10 +43,7 @@ pub fn links(w: &[u32], out: &mut [u16])
     requires w_in_bounds { 4 * link_count (sheet_in w.now) ≤ length out.old }
     ensures { out.new ≡ stored out.old 0 (link_values (sheet_in w.now).links) }
 {
-    let m = tables::links(w);
-    let mut l = 0;
-    while l < m {
+    for l in 0..tables::links(w) {
         put_link(w, l, out);
-        l += 1;
     }
 }

@@ -5,13 +5,16 @@ ghost use Rattle.folds.specs.Folds.{listed, pick};
 ghost use Rattle.sheet.specs.Sizes.{board_size, cube_size, task_size, link_size, front_by};
 ghost use Rattle.sheet.specs.Writing.{unpacking_bytes, cube_bytes, board_bytes, task_bytes, link_bytes, task_value, link_value, value_bytes, Narrow};
 
-use sheet::{BOARD_SIZE, LINK_SIZE, TASK_SIZE};
+use sheet::{
+    BOARD_BYTE, BOARD_SIZE, CUBE_BYTE, END_BYTE, LINK_BYTE, LINK_SIZE, TASK_BYTE, TASK_SIZE,
+    UNPACKING_BYTE,
+};
 
 pub fn put_task(out: &mut [u8], at: usize, work: u16, store: u16)
     requires { at + task_size ≤ length out.old }
     ensures { out.new ≡ stored out.old at (0x54 ∷ (number_bytes 2 work ++ number_bytes 2 store)) }
 {
-    out[at] = 0x54;
+    out[at] = TASK_BYTE;
     numbers::put16(out, at + 1, work);
     numbers::put16(out, at + 3, store);
 }
@@ -21,11 +24,8 @@ fn put_tasks(out: &mut [u8], tasks: &[u16])
     requires { task_size * (length tasks.now / 2) ≤ length out.old }
     ensures { out.new ≡ stored out.old 0 (task_bytes (listed (length tasks.now / 2) (task_value tasks.now))) }
 {
-    let n = tasks.len() / 2;
-    let mut i = 0;
-    while i < n {
+    for i in 0..tasks.len() / 2 {
         put_task(out, TASK_SIZE * i, tasks[2 * i], tasks[2 * i + 1]);
-        i += 1;
     }
 }
 
@@ -33,7 +33,7 @@ pub fn put_link(out: &mut [u8], at: usize, source: u16, target: u16, cost: u16, 
     requires { (at + link_size ≤ length out.old) × (source < 256) × (target < 256) }
     ensures { out.new ≡ stored out.old at (0x45 ∷ source ∷ target ∷ (number_bytes 2 cost ++ number_bytes 2 bytes)) }
 {
-    out[at] = 0x45;
+    out[at] = LINK_BYTE;
     out[at + 1] = source as u8;
     out[at + 2] = target as u8;
     numbers::put16(out, at + 3, cost);
@@ -45,9 +45,7 @@ fn put_links(out: &mut [u8], links: &[u16])
     requires { (link_size * (length links.now / 4) ≤ length out.old) × Narrow links.now }
     ensures { out.new ≡ stored out.old 0 (link_bytes (listed (length links.now / 4) (link_value links.now))) }
 {
-    let m = links.len() / 4;
-    let mut j = 0;
-    while j < m {
+    for j in 0..links.len() / 4 {
         let k = 4 * j;
         put_link(
             out,
@@ -57,7 +55,6 @@ fn put_links(out: &mut [u8], links: &[u16])
             links[k + 2],
             links[k + 3],
         );
-        j += 1;
     }
 }
 
@@ -69,7 +66,7 @@ fn put_unpacking(out: &mut [u8], unpacking: u16)
     if unpacking == 0 {
         return;
     }
-    out[BOARD_SIZE] = 0x55;
+    out[BOARD_SIZE] = UNPACKING_BYTE;
     numbers::put16(out, BOARD_SIZE + 1, unpacking);
 }
 
@@ -79,7 +76,7 @@ fn put_cube(out: &mut [u8], at: usize, cube: bool)
     ensures { out.new ≡ stored out.old at (cube_bytes cube) }
 {
     if cube {
-        out[at] = 0x48;
+        out[at] = CUBE_BYTE;
     }
 }
 
@@ -87,7 +84,7 @@ pub fn put_board(out: &mut [u8], processors: u8, limit: u32, unpacking: u16, cub
     requires { front_by unpacking cube ≤ length out.old }
     ensures { out.new ≡ stored out.old 0 (board_bytes processors limit unpacking cube) }
 {
-    out[0] = 0x4D;
+    out[0] = BOARD_BYTE;
     out[1] = processors;
     numbers::put32(out, 2, limit);
     put_unpacking(out, unpacking);
@@ -114,5 +111,5 @@ pub fn put_sheet(
     let at = start + TASK_SIZE * (tasks.len() / 2);
     put_links(&mut out[at..], links);
     let end = at + LINK_SIZE * (links.len() / 4);
-    out[end] = 0x51;
+    out[end] = END_BYTE;
 }

@@ -1,5 +1,5 @@
 -- Laws of running on.
-use Prim.Native.Nat.{ℕ, suc, ◌+◌, ◌*◌, ◌-◌, ◌<◌, ◌≤◌, min}
+use Prim.Native.Nat.{ℕ, suc, ◌+◌, ◌*◌, ◌<◌, ◌≤◌, min}
 use mathlib.Core.Path.{◌≡◌, refl, sym, ap, ◌∙◌, subst}
 use mathlib.Core.Bool.{Bool, true, false, false≢true}
 use mathlib.Core.Option.{none, some}
@@ -150,18 +150,18 @@ module _ (s : Sheet) (b : Bundle) where
   few-left w σ h = omega (arith, (h.room 0 (omega arith)).0)
 
 -- rounds, each of which takes a command away
-pub record Rounds (w u : List ℕ) (start fuel : ℕ) : Type 0 where
+pub record Rounds (w u : List ℕ) (rounds : ℕ) : Type 0 where
   pub count : ℕ
   pub goes : Goes w u count
-  pub far : start ≤ fuel + count
+  pub far : rounds ≤ count
 
-pub settle-starts : (w : List ℕ) (fuel : ℕ) → Rounds w w fuel fuel
-settle-starts w fuel = record { count = 0; goes = goes_none w; far = omega arith }
+pub settle-starts : (w : List ℕ) → Rounds w w 0
+settle-starts w = record { count = 0; goes = goes_none w; far = omega arith }
 
-pub settle-more : {w u v : List ℕ} {start fuel n : ℕ} → (n ≡ 0 → ⊥) → 0 < fuel → Rounds w u start fuel → RoundIs u v n → Rounds w v start (fuel - 1)
-settle-more {w} {u} {v} {start} {fuel} {n} e l g h = record { count = g.count + n; goes = goes_then g.goes h.goes; far = omega (arith, g.far) }
+pub settle-more : {w u v : List ℕ} {rounds n : ℕ} → (n ≡ 0 → ⊥) → Rounds w u rounds → RoundIs u v n → Rounds w v (rounds + 1)
+settle-more {w} {u} {v} {rounds} {n} e g h = record { count = g.count + n; goes = goes_then g.goes h.goes; far = omega (arith, g.far) }
 
-pub settle-stops : {w u v : List ℕ} {start fuel n : ℕ} → n ≡ 0 → Rounds w u start fuel → RoundIs u v n → SettleIs w v
+pub settle-stops : {w u v : List ℕ} {rounds n : ℕ} → n ≡ 0 → Rounds w u rounds → RoundIs u v n → SettleIs w v
 settle-stops {w} {u} {v} e g h =
     record {
       choices = g.goes.choices;
@@ -170,8 +170,8 @@ settle-stops {w} {u} {v} e g h =
       still = λ s b r p k. (h.halts e k).none_at s b (run_from s b r g.goes.choices).state (g.goes.runs.agrees s b r p).1;
     }
 
-pub settle-ends : {w u : List ℕ} {start fuel : ℕ} → start ≡ lay.longest → fuel ≡ 0 → Rounds w u start fuel → SettleIs w u
-settle-ends {w} {u} {start} {fuel} q e g =
+pub settle-ends : {w u : List ℕ} {rounds : ℕ} → lay.longest ≤ rounds → Rounds w u rounds → SettleIs w u
+settle-ends {w} {u} {rounds} e g =
     record {
       choices = g.goes.choices;
       count = g.count;

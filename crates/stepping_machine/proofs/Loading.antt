@@ -58,10 +58,10 @@ module _ (sheet bundle : List ℕ) (v : View) (o e : ℕ) (g : Decodable sheet b
         without_task l d = ⊎_elim d (λ (q : c ≡ 0x46). omega arith) z
 
         by : (d : Command) → Stands v.tasks v.links bundle o d → v.front + task_size * t + task_size ≤ length sheet
-        by (run y) h = omega (arith, h.1, h.2, g.bounded.behind, g.inside)
+        by (run y) h = omega (arith, h.1, h.2, v.behind, g.inside)
         by (send y) h = absurd (without_task (omega (arith, h.0)) (λ q. omega (arith, h.0)))
         by (receive y) h = absurd (without_task (omega (arith, h.0)) (λ q. omega (arith, h.0)))
-        by (release y) h = omega (arith, h.1, h.2, g.bounded.behind, g.inside)
+        by (release y) h = omega (arith, h.1, h.2, v.behind, g.inside)
         by (discard y) h = absurd (without_task (omega (arith, h.0)) (λ q. omega (arith, h.0)))
 
     module _ (d : c ≡ 0x52 → ⊥) (f : c ≡ 0x46 → ⊥) where
@@ -90,7 +90,6 @@ module _ (sheet bundle : List ℕ) (v : View) (o e : ℕ) (g : Decodable sheet b
   decodable-more r h =
       let n = there in
       record {
-        bounded = g.bounded;
         inside = g.inside;
         commands = n.rest;
         lies = rw (h v.tasks v.links n.command n.stands) n.behind;

@@ -14,8 +14,8 @@ use Rattle.folds.specs.Folds.{sum}
 use Rattle.folds.proofs.Tests.{below_suc}
 use Rattle.folds.proofs.Laws.{sum-rises, none_first, first_found}
 use Rattle.workspace.specs.Area.{ClearIs}
-use Rattle.workspace.specs.declared.total.Found.{Found}
-use Rattle.workspace.specs.declared.total.Found.TheVariants.{At, Nothing}
+use Rattle.workspace.specs.Found.{Found}
+use Rattle.std.specs.Prelude.{Some, None}
 use Rattle.numbers.specs.Number.{number_at}
 use Rattle.sheet.specs.Sheet.{Sheet, task_count, link_count}
 use Rattle.bundle.specs.Bundle.{Command, Bundle, programme_count, programme_of}
@@ -145,7 +145,6 @@ module _ (sheet bundle u : List ℕ) (v : View) (m : ℕ) (few : m ≤ 16) where
   pub going-decodable : (w : List ℕ) (c k : ℕ) → Ready sheet bundle u v m → Going sheet bundle u w v m c k → k < m → Decodable sheet bundle v (get_or w k 0 + 2) (get_or w (suc k) 0)
   going-decodable w c k y g below =
       record {
-        bounded = y.bounded;
         inside = y.inside;
         commands = get_or y.programmes k [];
         lies = rw (g.rest k (omega arith) (omega arith), g.rest (suc k) (omega arith) (omega arith)) (y.laid.lies k (omega (arith, y.count)));
@@ -211,7 +210,7 @@ module _ (sheet bundle u : List ℕ) (v : View) (m : ℕ) (few : m ≤ 16) where
               );
         }
 
-    pub going-over : v.limit < n → AllIs sheet bundle u x v m (At k)
+    pub going-over : v.limit < n → AllIs sheet bundle u x v m (Some k)
     unfolding at28 over_store
     going-over over =
         record {
@@ -225,10 +224,10 @@ module _ (sheet bundle u : List ℕ) (v : View) (m : ℕ) (few : m ≤ 16) where
           opens = λ q. apart q;
         }
       where
-        apart : {X : Type 0} → At k ≡ Nothing → X
+        apart : {X : Type 0} → Some k ≡ None → X
         apart z = let y : ◌≡◌ {A = ℕ} 0 1 = cc in absurd (omega arith)
 
-  pub going-ends : (w : List ℕ) (c k : ℕ) → k ≡ m → Going sheet bundle u w v m c k → AllIs sheet bundle u w v m Nothing
+  pub going-ends : (w : List ℕ) (c k : ℕ) → k ≡ m → Going sheet bundle u w v m c k → AllIs sheet bundle u w v m None
   unfolding at28 programme_of
   going-ends w c k e g =
       record {
@@ -337,7 +336,6 @@ module _ (sheet bundle w u : List ℕ) (v : View) (m : ℕ) (h : HomesIs w u v) 
   pub ready-still : Ready sheet bundle w v m → Ready sheet bundle u v m
   ready-still y =
       record {
-        bounded = y.bounded;
         inside = y.inside;
         programmes = y.programmes;
         count = y.count;
@@ -364,7 +362,7 @@ module _ (sheet bundle w u : List ℕ) (v : View) (m : ℕ) (h : HomesIs w u v) 
         record { at = λ c t l. h.homes (sym given.known.wired ∙ c) t (omega (arith, given.known.tasks)) ∙ given.homes t l }
 
 -- all together: the fresh state
-module _ (sheet bundle w a r d last : List ℕ) (v : View) (m : ℕ) (long : lay.extent ≤ length w) (p : AllIs sheet bundle w a v m Nothing) (q : RestIs a r m 16) (z : WipeIs r d m v.links v.unpacking)
+module _ (sheet bundle w a r d last : List ℕ) (v : View) (m : ℕ) (long : lay.extent ≤ length w) (p : AllIs sheet bundle w a v m None) (q : RestIs a r m 16) (z : WipeIs r d m v.links v.unpacking)
     (n : NeedsIs sheet d last v.front v.tasks) (s : Sheet) (b : Bundle) (given : LaidOut sheet bundle w v m s b) (homes : Homes s b w) where
   -- the index behind all commands
   abbrev end : ℕ
@@ -441,7 +439,7 @@ module _ (sheet bundle w a r d last : List ℕ) (v : View) (m : ℕ) (long : lay
   pub loaded-within : Within b last end
   loaded-within = record { within = λ k h. (every k h).within }
 
-pub load-over : (sheet bundle w u last : List ℕ) (v : View) (m k : ℕ) (f : Found) → f ≡ At k → HomesIs w u v → AllIs sheet bundle u last v m f → LoadIs sheet bundle w last v m (At k)
+pub load-over : (sheet bundle w u last : List ℕ) (v : View) (m k : ℕ) (f : Found) → f ≡ Some k → HomesIs w u v → AllIs sheet bundle u last v m f → LoadIs sheet bundle w last v m (Some k)
 load-over sheet bundle w u last v m k f e h p =
     record {
       long = p.long ∙ h.long;
@@ -449,13 +447,13 @@ load-over sheet bundle w u last v m k f e h p =
       represents = λ q. apart q;
     }
   where
-    apart : {X : Type 0} → At k ≡ Nothing → X
+    apart : {X : Type 0} → Some k ≡ None → X
     apart z = let y : ◌≡◌ {A = ℕ} 0 1 = cc in absurd (omega arith)
 
-pub load_fits : (sheet bundle w u a r d last : List ℕ) (v : View) (m : ℕ) (f : Found) → lay.extent ≤ length w → f ≡ Nothing → HomesIs w u v → AllIs sheet bundle u a v m f → RestIs a r m 16 → WipeIs r d m v.links v.unpacking
-    → NeedsIs sheet d last v.front v.tasks → LoadIs sheet bundle w last v m Nothing
+pub load_fits : (sheet bundle w u a r d last : List ℕ) (v : View) (m : ℕ) (f : Found) → lay.extent ≤ length w → f ≡ None → HomesIs w u v → AllIs sheet bundle u a v m f → RestIs a r m 16 → WipeIs r d m v.links v.unpacking
+    → NeedsIs sheet d last v.front v.tasks → LoadIs sheet bundle w last v m None
 load_fits sheet bundle w u a r d last v m f long e h p q z n =
-    let p' : AllIs sheet bundle u a v m Nothing = subst (AllIs sheet bundle u a v m) e p in
+    let p' : AllIs sheet bundle u a v m None = subst (AllIs sheet bundle u a v m) e p in
     let long' : lay.extent ≤ length u = omega (arith, h.long) in
     record {
       long = n.long ∙ z.long ∙ q.long ∙ p.long ∙ h.long;

@@ -1,8 +1,8 @@
 -- Words raised by the hops of their messages, one by one; and that they are then the words of their commands.
 use Prim.Native.Nat.{ℕ, ◌+◌, ◌*◌, ◌-◌, ◌/◌, ◌%◌, ◌≤◌, ◌<◌, max}
 use mathlib.Core.Path.{◌≡◌, refl, sym, ap, ap₂, ◌∙◌}
-use mathlib.Core.Bool.{Bool, true, false, true≢false}
-use mathlib.Core.Logic.{◌⊎◌, inl, inr, ⊎_elim}
+use mathlib.Core.Bool.{true, false, true≢false}
+use mathlib.Core.Logic.{inl, inr, ⊎_elim}
 use mathlib.Core.List.{List}
 use native.Mathlib.Omega.{arith}
 use native.Mathlib.Numerals.{add-one}
@@ -11,10 +11,8 @@ use native.Mathlib.Nat.{mul_comm, mul-le-mul, le_refl}
 use borrow.Author.Tests.{eq-eqb, ne_eqb}
 use lib.ListN.{length, get_or, set, length-set}
 use lib.Seq.{get_or-set_same, get_or-set_other}
-use lib.Dec.{eqb}
-use Rattle.folds.specs.Folds.{pick}
 use Rattle.folds.proofs.Tests.{below_suc}
-use Rattle.sheet.specs.Sheet.{Sheet, task_count, target_of, cost_of}
+use Rattle.sheet.specs.Sheet.{Sheet, target_of, cost_of}
 use Rattle.sheet.specs.Hops.{hops, link_time}
 use Rattle.sheet.proofs.Hopping.{flat-time}
 use Rattle.bundle.specs.Bundle.{Command, run, send, receive, release, discard, Bundle, programme_count}

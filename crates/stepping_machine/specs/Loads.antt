@@ -1,8 +1,8 @@
 -- What loading promises: the programmes of a bundle, decoded from its bytes and its sheet's, their highest stores in use, and the fresh state beside them.
 use Rattle.std.specs.Prelude.{ℕ, suc, ◌+◌, ◌*◌, ◌%◌, ◌≤◌, ◌<◌, ◌≡◌, true, ◌⊎◌, List, length, get_or}
 use Rattle.workspace.specs.Found.{found_of}
-use Rattle.workspace.specs.declared.total.Found.{Found}
-use Rattle.workspace.specs.declared.total.Found.TheVariants.{Nothing}
+use Rattle.workspace.specs.Found.{Found}
+use Rattle.std.specs.Prelude.{None}
 use Rattle.numbers.specs.Number.{number_at}
 use Rattle.sheet.specs.Sheet.{Sheet, task_count, link_count}
 use Rattle.sheet.specs.Sizes.{link_size}
@@ -11,7 +11,7 @@ use Rattle.bundle.specs.Lies.{size_of, Stands, Lies, Laid}
 use Rattle.admission.specs.Counting.{whole, each, need, gives, highest}
 use Rattle.admission.specs.Messages.{home, at28}
 use Rattle.admission.specs.Notes.{home_in}
-use Rattle.admission.specs.Fields.{store_at, Bounded, Known}
+use Rattle.admission.specs.Fields.{store_at, Known}
 use Rattle.admission.specs.declared.view.View.{View}
 use Rattle.machine.specs.Machine.{fresh_state}
 use Rattle.stepping_machine.specs.declared.decoding.Coded.{Coded}
@@ -21,14 +21,12 @@ use Rattle.stepping_machine.specs.Represents.{Decoded, Represents, Within}
 
 -- some commands lie from the offset o to the offset e, and the numbers that they name inside the sheet: what decoding asks, so that it tests nothing
 pub record Decodable (sheet bundle : List ℕ) (v : View) (o e : ℕ) : Type 0 where
-  pub bounded : Bounded v
   pub inside : v.middle + link_size * v.links ≤ length sheet
   pub commands : List Command
   pub lies : Lies v.tasks v.links bundle o e commands
 
 -- some programmes lie as the words w say
 pub record Ready (sheet bundle w : List ℕ) (v : View) (m : ℕ) : Type 0 where
-  pub bounded : Bounded v
   pub inside : v.middle + link_size * v.links ≤ length sheet
   pub programmes : List (List Command)
   pub count : length programmes ≡ m
@@ -101,7 +99,7 @@ pub record LaidOut (sheet bundle w : List ℕ) (v : View) (m : ℕ) (s : Sheet) 
 pub record AllIs (sheet bundle w last : List ℕ) (v : View) (m : ℕ) (r : Found) : Type 0 where
   pub long : length last ≡ length w
   pub is_28 : (s : Sheet) (b : Bundle) → LaidOut sheet bundle w v m s b → Homes s b w → found_of r ≡ at28 s b
-  pub opens : r ≡ Nothing → (s : Sheet) (b : Bundle) → LaidOut sheet bundle w v m s b → Homes s b w → (k : ℕ) → k < m → Opens s (amount_of s b k) last (lay.commands + whole b each + m) k (programme_of b k)
+  pub opens : r ≡ None → (s : Sheet) (b : Bundle) → LaidOut sheet bundle w v m s b → Homes s b w → (k : ℕ) → k < m → Opens s (amount_of s b k) last (lay.commands + whole b each + m) k (programme_of b k)
 
 -- in the needs' words the programme that runs each of n tasks, by its note; the others stay
 pub record NotedIs (w last : List ℕ) (n : ℕ) : Type 0 where
@@ -144,4 +142,4 @@ pub record NeedsIs (sheet w last : List ℕ) (front n : ℕ) : Type 0 where
 pub record LoadIs (sheet bundle w last : List ℕ) (v : View) (m : ℕ) (r : Found) : Type 0 where
   pub long : length last ≡ length w
   pub is_28 : (s : Sheet) (b : Bundle) → LaidOut sheet bundle w v m s b → found_of r ≡ at28 s b
-  pub represents : r ≡ Nothing → (s : Sheet) (b : Bundle) → LaidOut sheet bundle w v m s b → Represents s b last (fresh_state s b) × Within b last (lay.commands + whole b each + m)
+  pub represents : r ≡ None → (s : Sheet) (b : Bundle) → LaidOut sheet bundle w v m s b → Represents s b last (fresh_state s b) × Within b last (lay.commands + whole b each + m)

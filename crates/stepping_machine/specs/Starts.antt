@@ -9,15 +9,18 @@ use Rattle.bundle.specs.Counts.{command_count}
 use Rattle.admission.specs.Fields.{Known}
 use Rattle.admission.specs.Admitted.{admitted_bytes, judged_of}
 use Rattle.admission.specs.declared.view.View.{View}
-use Rattle.admission.specs.declared.Judged.{Judged}
-use Rattle.admission.specs.declared.Judged.TheVariants.{Refused}
+use Rattle.std.specs.Prelude.{Result, Err}
+use Rattle.bundle_reader.specs.Answers.{outline_of}
+use Rattle.bundle_reader.specs.declared.bytes.Outline.{Outline}
+use Rattle.refusals.specs.Refusals.{result_of}
+use Rattle.refusals.specs.declared.Refusal.{Refusal}
 use Rattle.machine.specs.Machine.{fresh_state}
 use Rattle.stepping_machine.specs.Layout as lay
 use Rattle.stepping_machine.specs.Words.{need_in}
 use Rattle.stepping_machine.specs.Represents.{Represents, Within}
 
 -- 21 to 26, 31 to 33, 37 and 28 of any bytes, for a sheet seen by v; where none applies, the words represent the fresh state
-pub record AdmitIs (sheet bundle w last : List ℕ) (v : View) (r : Judged) : Type 0 where
+pub record AdmitIs (sheet bundle w last : List ℕ) (v : View) (r : Result Outline Refusal) : Type 0 where
   pub long : length last ≡ length w
   pub is : (s : Sheet) → Known s sheet v → r ≡ judged_of (admitted_bytes s bundle)
   pub represents : (s : Sheet) → Known s sheet v → (b : Bundle) → admitted_bytes s bundle ≡ value b
@@ -37,18 +40,18 @@ pub record HandIs (from w last : List ℕ) (l n e : ℕ) : Type 0 where
   pub commands : (i : ℕ) → lay.commands ≤ i → i < e → get_or last i 0 ≡ get_or from i 0
 
 -- the same in words of their own: a refusal leaves them alone
-pub record BeginIs (sheet bundle w after state last : List ℕ) (v : View) (r : Judged) : Type 0 where
+pub record BeginIs (sheet bundle w after state last : List ℕ) (v : View) (r : Result Outline Refusal) : Type 0 where
   pub long : length after ≡ length w
   pub state_long : length last ≡ length state
-  pub untouched : (number place : ℕ) → r ≡ Refused number place → last ≡ state
+  pub untouched : (x : Refusal) → r ≡ Err x → last ≡ state
   pub is : (s : Sheet) → Known s sheet v → r ≡ judged_of (admitted_bytes s bundle)
   pub represents : (s : Sheet) → Known s sheet v → (b : Bundle) → admitted_bytes s bundle ≡ value b → Represents s b last (fresh_state s b)
 
 -- the same for the sheet in the tables of the work area
-pub record OpenIs (sheet bundle work after state last : List ℕ) (r : Judged) : Type 0 where
+pub record OpenIs (sheet bundle work after state last : List ℕ) (r : Result Outline Refusal) : Type 0 where
   pub long : length after ≡ length work
   pub state_long : length last ≡ length state
-  pub untouched : (number place : ℕ) → r ≡ Refused number place → last ≡ state
+  pub untouched : (x : Refusal) → r ≡ Err x → last ≡ state
   pub is : r ≡ judged_of (admitted_bytes (sheet_in work) bundle)
   pub represents : (b : Bundle) → admitted_bytes (sheet_in work) bundle ≡ value b → Represents (sheet_in work) b last (fresh_state (sheet_in work) b)
 
@@ -56,12 +59,11 @@ pub record OpenIs (sheet bundle work after state last : List ℕ) (r : Judged) :
 unfoldable pub starting : List ℕ → List ℕ → Answer (Sheet × Bundle)
 starting sheet bundle = and_then (read_sheet sheet) (λ s. and_then (admitted_bytes s bundle) (λ b. value (s, b)))
 
-abbrev pub started_of : Answer (Sheet × Bundle) → Judged
-started_of (value x) = judged_of (value x.1)
-started_of (refused n at) = Refused n at
+abbrev pub started_of : Answer (Sheet × Bundle) → Result Outline Refusal
+started_of a = result_of (λ x. outline_of x.1) a
 
 -- the same of any bytes of a sheet
-pub record BytesIs (sheet bundle work after state last : List ℕ) (r : Judged) : Type 0 where
+pub record BytesIs (sheet bundle work after state last : List ℕ) (r : Result Outline Refusal) : Type 0 where
   pub long : length after ≡ length work
   pub state_long : length last ≡ length state
   pub is : r ≡ started_of (starting sheet bundle)

@@ -9,10 +9,8 @@ pub fn left(w: &[u32]) -> usize
     ensures { LeftIs w.now result }
 {
     let mut n = 0;
-    let mut k = 0;
-    while k < 16 {
-        n += numbers::minus(total::word(w, LASTS + k), total::word(w, k));
-        k += 1;
+    for k in 0..16 {
+        n += total::word(w, LASTS + k).saturating_sub(total::word(w, k));
     }
     n
 }
@@ -22,9 +20,10 @@ pub fn clock(w: &[u32], k: usize) -> usize
     ensures { ClockIs w.now k result }
 {
     if k < 16 {
-        return total::word(w, CLOCKS + k);
+        total::word(w, CLOCKS + k)
+    } else {
+        0
     }
-    0
 }
 
 // The position of processor k in its programme.
@@ -32,9 +31,10 @@ pub fn position(w: &[u32], k: usize) -> usize
     ensures { PositionIs w.now k result }
 {
     if k < 16 {
-        return numbers::minus(total::word(w, k), total::word(w, FIRSTS + k));
+        total::word(w, k).saturating_sub(total::word(w, FIRSTS + k))
+    } else {
+        0
     }
-    0
 }
 
 // The store in use of processor k.
@@ -42,9 +42,10 @@ pub fn store(w: &[u32], k: usize) -> usize
     ensures { StoreIs w.now k result }
 {
     if k < 16 {
-        return total::word(w, STORES + k);
+        total::word(w, STORES + k)
+    } else {
+        0
     }
-    0
 }
 
 // One more than the stamp of link l, or 0 while its message is not sent.
@@ -52,7 +53,8 @@ pub fn stamp(w: &[u32], l: usize) -> usize
     ensures { StampIs w.now l result }
 {
     if l < total::word(w, LINKS) {
-        return total::word(w, STAMPS + l);
+        total::word(w, STAMPS + l)
+    } else {
+        0
     }
-    0
 }

@@ -22,7 +22,7 @@ pub fn pair(b: &[u8], i: usize) -> usize
     requires { i + 2 ≤ length b.now }
     ensures { (result ≡ number_at 2 b.now i) × (result < 65536) }
 {
-    numbers::get16(b, i) as usize
+    usize::from(numbers::get16(b, i))
 }
 
 // The bytes of a receive, and nothing of a send: chosen by value and by no jump, since which of them stands there cannot be foretold.
@@ -37,23 +37,24 @@ fn decode_release(sheet: &[u8], bundle: &[u8], v: View, o: usize, e: usize) -> C
     requires { Decodable sheet.now bundle.now v o e × (o < e) × (get_or bundle.now o 0 < 0x50) }
     ensures { CodeIs sheet.now bundle.now v o result }
 {
-    if numbers::get8(bundle, o) == 0x46 {
-        let t = numbers::get8(bundle, o + 1);
+    if bundle[o] == 0x46 {
+        let t = usize::from(bundle[o + 1]);
         let store = pair(sheet, v.store_at(t));
-        return Coded {
+        Coded {
             word: 4 * KINDS + NUMBERS * (TASKS + t) + store,
             size: SHORT_SIZE,
             need: 0,
             gives: store,
-        };
-    }
-    let l = pair(bundle, o + 1);
-    let bytes = pair(sheet, v.cost_at(l) + 2);
-    Coded {
-        word: 4 * KINDS + NUMBERS * l + bytes,
-        size: LONG_SIZE,
-        need: 0,
-        gives: bytes,
+        }
+    } else {
+        let l = pair(bundle, o + 1);
+        let bytes = pair(sheet, v.cost_at(l) + 2);
+        Coded {
+            word: 4 * KINDS + NUMBERS * l + bytes,
+            size: LONG_SIZE,
+            need: 0,
+            gives: bytes,
+        }
     }
 }
 
@@ -62,29 +63,29 @@ pub fn decode(sheet: &[u8], bundle: &[u8], v: View, o: usize, e: usize) -> Coded
     requires { Decodable sheet.now bundle.now v o e × (o < e) }
     ensures { CodeIs sheet.now bundle.now v o result }
 {
-    let c = numbers::get8(bundle, o);
+    let c = bundle[o];
     if c == 0x52 {
-        let t = numbers::get8(bundle, o + 1);
+        let t = usize::from(bundle[o + 1]);
         let work = pair(sheet, v.work_at(t));
         let need = pair(sheet, v.store_at(t));
-        return Coded {
+        Coded {
             word: KINDS + NUMBERS * (TASKS + t) + work,
             size: SHORT_SIZE,
             need,
             gives: 0,
-        };
-    }
-    if c < 0x50 {
-        return decode_release(sheet, bundle, v, o, e);
-    }
-    let l = pair(bundle, o + 1);
-    // Branch-free: 0x56 + 172 carries into bit 8, 0x53 + 172 does not.
-    let receives = (c + 172) / 256;
-    let amount = pair(sheet, v.cost_at(l) + 2 * receives);
-    Coded {
-        word: 2 * KINDS + KINDS * receives + NUMBERS * l + amount,
-        size: LONG_SIZE,
-        need: received(receives, amount),
-        gives: 0,
+        }
+    } else if c < 0x50 {
+        decode_release(sheet, bundle, v, o, e)
+    } else {
+        let l = pair(bundle, o + 1);
+        // Branch-free: 0x56 + 172 carries into bit 8, 0x53 + 172 does not.
+        let receives = (usize::from(c) + 172) / 256;
+        let amount = pair(sheet, v.cost_at(l) + 2 * receives);
+        Coded {
+            word: 2 * KINDS + KINDS * receives + NUMBERS * l + amount,
+            size: LONG_SIZE,
+            need: received(receives, amount),
+            gives: 0,
+        }
     }
 }

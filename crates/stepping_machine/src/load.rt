@@ -1,6 +1,5 @@
 // The programmes of a bundle, decoded into the words that have their offsets, and the fresh state. The highest store in use of each is found on the way.
 ghost use Rattle.std.specs.Prelude.{◌≡◌, suc, ◌+◌, ◌%◌, ◌≤◌, ◌<◌, length, get_or};
-ghost use Rattle.admission.specs.Fields.{Bounded};
 ghost use Rattle.stepping_machine.specs.Layout.{extent, commands};
 ghost use Rattle.stepping_machine.specs.Words.{opened_words};
 ghost use Rattle.stepping_machine.specs.Loads.{Decodable, Ready, ProgrammeIs, OneIs, AllIs, RestIs, WipeIs, NeedsIs, LoadIs};
@@ -9,7 +8,6 @@ use crate::decoding::{decode, pair};
 use crate::ways::{homes, ways};
 use crate::{CLOCKS, COMMANDS, COUNT, FIRSTS, IDLE, LASTS, LINKS, NEEDS, STAMPS, UNPACKING, put};
 use admission::view::View;
-use workspace::total::Found;
 
 // The index behind a programme, and its highest store in use.
 #[derive(Clone, Copy)]
@@ -38,8 +36,8 @@ fn load_programme(
     while from < e {
         let x = decode(sheet, bundle, v, from, e);
         workspace::total::put(w, to, x.word);
-        store = numbers::minus(store + x.need, x.gives);
-        highest = numbers::later(highest, store);
+        store = (store + x.need).saturating_sub(x.gives);
+        highest = highest.max(store);
         from += x.size;
         to += 1;
     }
@@ -65,31 +63,28 @@ fn load_one(sheet: &[u8], bundle: &[u8], w: &mut [u32], v: View, k: usize, c: us
     let o = workspace::word(w, k) + 2;
     let e = workspace::word(w, k + 1);
     let x = load_programme(sheet, bundle, w, v, o, e, c);
-    let end = x.end;
-    ways(sheet, w, v, k, c, end);
-    open_programme(w, k, c, end);
+    ways(sheet, w, v, k, c, x.end);
+    open_programme(w, k, c, x.end);
     Extent {
-        end: end + 1,
-        highest: x.highest,
+        end: x.end + 1,
+        ..x
     }
 }
 
 // The m programmes, one behind the other, up to the first whose highest store in use is above the limit (28).
-fn load_all(sheet: &[u8], bundle: &[u8], w: &mut [u32], v: View, m: usize) -> Found
+fn load_all(sheet: &[u8], bundle: &[u8], w: &mut [u32], v: View, m: usize) -> Option<usize>
     requires { Ready sheet.now bundle.now w.old v m }
     ensures { AllIs sheet.now bundle.now w.old w.new v m result }
 {
     let mut c: usize = COMMANDS;
-    let mut k = 0;
-    while k < m {
+    for k in 0..m {
         let x = load_one(sheet, bundle, w, v, k, c);
         if v.limit < x.highest {
-            return Found::At(k);
+            return Some(k);
         }
         c = x.end;
-        k += 1;
     }
-    Found::Nothing
+    None
 }
 
 // Every processor from m on has no command.
@@ -97,10 +92,8 @@ fn rest(w: &mut [u32], m: usize)
     requires { (m ≤ 16) × (extent ≤ length w.old) }
     ensures { RestIs w.old w.new m 16 }
 {
-    let mut k = m;
-    while k < 16 {
+    for k in m..16 {
         open_programme(w, k, IDLE, IDLE);
-        k += 1;
     }
 }
 
@@ -118,30 +111,28 @@ fn wipe(w: &mut [u32], m: usize, l: usize, u: usize)
 
 // What each task needs of the store.
 fn load_needs(sheet: &[u8], w: &mut [u32], v: View)
-    requires { Bounded v × (v.middle ≤ length sheet.now) × (extent ≤ length w.old) }
+    requires { (v.middle ≤ length sheet.now) × (extent ≤ length w.old) }
     ensures { NeedsIs sheet.now w.old w.new v.front v.tasks }
 {
-    let mut t = 0;
-    while t < v.tasks {
+    for t in 0..v.tasks {
         let need = pair(sheet, v.store_at(t));
         put(w, NEEDS + t, need);
-        t += 1;
     }
 }
 
 // 28, or the fresh state of m programmes, whose offsets stand in the words.
-pub fn load(sheet: &[u8], bundle: &[u8], w: &mut [u32], v: View, m: usize) -> Found
+pub fn load(sheet: &[u8], bundle: &[u8], w: &mut [u32], v: View, m: usize) -> Option<usize>
     requires { Ready sheet.now bundle.now w.old v m }
     ensures { LoadIs sheet.now bundle.now w.old w.new v m result }
 {
     homes(w, v);
     match load_all(sheet, bundle, w, v, m) {
-        Found::At(k) => Found::At(k),
-        Found::Nothing => {
+        Some(k) => Some(k),
+        None => {
             rest(w, m);
             wipe(w, m, v.links, v.unpacking);
             load_needs(sheet, w, v);
-            Found::Nothing
+            None
         }
     }
 }

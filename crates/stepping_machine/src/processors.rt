@@ -15,7 +15,7 @@ fn advanced(p: Processor, wait: usize, work: usize, need: usize) -> Processor
     requires { Narrow p × Small wait work need }
     ensures { result ≡ after p wait work need }
 {
-    let clock = numbers::later(p.clock, wait) + work;
+    let clock = p.clock.max(wait) + work;
     Processor {
         clock,
         position: p.position + 1,
@@ -32,11 +32,10 @@ fn advance(p: &mut Processor, wait: usize, work: usize, need: usize)
 }
 
 // The same of a processor that is passed: it is lent to the step and handed back.
-pub fn stepped(p: Processor, wait: usize, work: usize, need: usize) -> Processor
+pub fn stepped(mut p: Processor, wait: usize, work: usize, need: usize) -> Processor
     requires { Narrow p × Small wait work need }
     ensures { result ≡ after p wait work need }
 {
-    let mut q = p;
-    advance(&mut q, wait, work, need);
-    q
+    advance(&mut p, wait, work, need);
+    p
 }

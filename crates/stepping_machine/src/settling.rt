@@ -8,27 +8,22 @@ use crate::{COUNT, LONGEST};
 fn advance(w: &mut [u32], k: usize) -> usize
     ensures { AdvanceIs w.old w.new k result }
 {
-    let mut n: usize = 0;
-    while n < LONGEST {
-        if step(w, k) {
-            n += 1;
-        } else {
+    for n in 0..LONGEST {
+        if !step(w, k) {
             return n;
         }
     }
-    n
+    LONGEST
 }
 
 // Each processor as far as it goes: how many steps were made.
 fn round(w: &mut [u32]) -> usize
     ensures { RoundIs w.old w.new result }
 {
-    let count = numbers::smaller(workspace::total::word(w, COUNT), 16);
+    let count = workspace::total::word(w, COUNT).min(16);
     let mut n = 0;
-    let mut k = 0;
-    while k < count {
+    for k in 0..count {
         n += advance(w, k);
-        k += 1;
     }
     n
 }
@@ -37,11 +32,9 @@ fn round(w: &mut [u32]) -> usize
 pub fn settle(w: &mut [u32])
     ensures { SettleIs w.old w.new }
 {
-    let mut rounds: usize = LONGEST;
-    while 0 < rounds {
+    for _ in 0..LONGEST {
         if round(w) == 0 {
             return;
         }
-        rounds -= 1;
     }
 }

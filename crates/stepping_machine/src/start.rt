@@ -8,23 +8,23 @@ ghost use Rattle.stepping_machine.specs.Starts.{AdmitIs, CopyIs, HandIs, BeginIs
 
 use crate::load::load;
 use crate::{BOARD, COMMANDS, NEEDS, STAMPS};
-use admission::Judged;
 use admission::view::View;
+use bundle_reader::bytes::Outline;
 use levelling::open;
-use sheet_reader::Reading;
-use workspace::total::Found;
+use refusals::Refusal;
 
 // 21 to 26, 31 to 33, 37 and 28 of a bundle; where none applies, the words represent the fresh state.
-pub fn admit(sheet: &[u8], bundle: &[u8], w: &mut [u32], v: View) -> Judged
+pub fn admit(sheet: &[u8], bundle: &[u8], w: &mut [u32], v: View) -> Result<Outline, Refusal>
     requires { Seen sheet.now v × (extent ≤ length w.old) }
     ensures { AdmitIs sheet.now bundle.now w.old w.new v result }
 {
-    match admission::judge::judge(sheet, bundle, w, v) {
-        Judged::Refused(r, at) => Judged::Refused(r, at),
-        Judged::Fit(m, c, claim) => match load(sheet, bundle, w, v, m) {
-            Found::At(k) => Judged::Refused(28, k),
-            Found::Nothing => Judged::Fit(m, c, claim),
-        },
+    let outline = admission::judge::judge(sheet, bundle, w, v)?;
+    match load(sheet, bundle, w, v, outline.programmes) {
+        Some(k) => Err(Refusal {
+            number: 28,
+            place: k,
+        }),
+        None => Ok(outline),
     }
 }
 
@@ -33,11 +33,7 @@ fn copy(from: &[u32], w: &mut [u32], a: usize, e: usize)
     requires { (a ≤ e) × (e ≤ length from.now) × (e ≤ length w.old) }
     ensures { CopyIs from.now w.old w.new a e }
 {
-    let mut i = a;
-    while i < e {
-        w[i] = from[i];
-        i += 1;
-    }
+    w[a..e].copy_from_slice(&from[a..e]);
 }
 
 // The words of a machine with l links, n tasks and c commands and ends.
@@ -51,35 +47,51 @@ fn hand_over(from: &[u32], w: &mut [u32], l: usize, n: usize, c: usize)
 }
 
 // The same in words of their own, which a refusal leaves alone.
-fn begin(sheet: &[u8], bundle: &[u8], w: &mut [u32], state: &mut [u32], v: View) -> Judged
+fn begin(
+    sheet: &[u8],
+    bundle: &[u8],
+    w: &mut [u32],
+    state: &mut [u32],
+    v: View,
+) -> Result<Outline, Refusal>
     requires { Seen sheet.now v × (extent ≤ length w.old) × (extent ≤ length state.old) }
     ensures { BeginIs sheet.now bundle.now w.old w.new state.old state.new v result }
 {
-    match admit(sheet, bundle, w, v) {
-        Judged::Refused(r, at) => Judged::Refused(r, at),
-        Judged::Fit(m, c, claim) => {
-            hand_over(w, state, v.links, v.tasks, c + m);
-            Judged::Fit(m, c, claim)
-        }
-    }
+    let outline = admit(sheet, bundle, w, v)?;
+    hand_over(
+        w,
+        state,
+        v.links,
+        v.tasks,
+        outline.commands + outline.programmes,
+    );
+    Ok(outline)
 }
 
 // The same for the sheet in the tables of the work area, whose bytes are given too. The words behind the board are used.
-fn from_tables(sheet: &[u8], bundle: &[u8], work: &mut [u32], state: &mut [u32]) -> Judged
+fn from_tables(
+    sheet: &[u8],
+    bundle: &[u8],
+    work: &mut [u32],
+    state: &mut [u32],
+) -> Result<Outline, Refusal>
     requires { Shown sheet.now work.old × (extent ≤ length state.old) }
     ensures { OpenIs sheet.now bundle.now work.old work.new state.old state.new result }
 {
-    let v = admission::view::of_tables(work);
+    let v = View::of_tables(work);
     begin(sheet, bundle, &mut work[BOARD..], state, v)
 }
 
 // 1 to 10, 21 to 26, 31 to 33, 37 and 28 of any bytes; where none applies, the fresh state.
-pub fn start(sheet: &[u8], bundle: &[u8], work: &mut [u32], state: &mut [u32]) -> Judged
+pub fn start(
+    sheet: &[u8],
+    bundle: &[u8],
+    work: &mut [u32],
+    state: &mut [u32],
+) -> Result<Outline, Refusal>
     requires { (fixed ≤ length work.old) × (extent ≤ length state.old) }
     ensures { BytesIs sheet.now bundle.now work.old work.new state.old state.new result }
 {
-    match open::read(sheet, work) {
-        Reading::Refused(r, at) => Judged::Refused(r, at),
-        Reading::Read => from_tables(sheet, bundle, work, state),
-    }
+    open::read(sheet, work)?;
+    from_tables(sheet, bundle, work, state)
 }

@@ -15,7 +15,7 @@ fn processor(w: &[u32], k: usize, gives: usize) -> Processor
     requires { (k < 16) × (extent ≤ length w.now) }
     ensures { (result.clock ≡ clock_in w.now k) × (result.position ≡ next_in w.now k) × (result.store ≡ store_in w.now k - gives) × Narrow result }
 {
-    let store = numbers::minus(workspace::word(w, STORES + k), gives);
+    let store = workspace::word(w, STORES + k).saturating_sub(gives);
     Processor {
         clock: workspace::word(w, CLOCKS + k),
         position: workspace::word(w, k),
@@ -81,48 +81,42 @@ fn command(w: &mut [u32], k: usize) -> bool
     ensures { ChoiceIs w.old w.new k result }
 {
     let x = workspace::total::word(w, workspace::word(w, k));
-    let kind = x / KINDS;
-    if kind == 0 {
-        return false;
-    }
     let amount = x % NUMBERS;
     let i = STAMPS + x / NUMBERS % SPAN;
-    if kind == 1 {
-        run(w, k, amount, i);
-        return true;
+    match x / KINDS {
+        0 => false,
+        1 => {
+            run(w, k, amount, i);
+            true
+        }
+        2 => {
+            send(w, k, amount, i);
+            true
+        }
+        3 => receive(w, k, amount, i),
+        _ => {
+            go_on(w, k, 0, 0, amount, 0);
+            true
+        }
     }
-    if kind == 2 {
-        send(w, k, amount, i);
-        return true;
-    }
-    if kind == 3 {
-        return receive(w, k, amount, i);
-    }
-    go_on(w, k, 0, 0, amount, 0);
-    true
 }
 
 // One command of processor k, in constant time. False, and nothing changed, where it cannot step.
 pub fn step(w: &mut [u32], k: usize) -> bool
     ensures { ChoiceIs w.old w.new k result }
 {
-    if w.len() < EXTENT {
-        return false;
+    if EXTENT <= w.len() && k < 16 {
+        command(w, k)
+    } else {
+        false
     }
-    if k < 16 {
-        return command(w, k);
-    }
-    false
 }
 
 // 1 for true, 0 for false.
 pub fn counted(b: bool) -> usize
     ensures { result ≡ bit b }
 {
-    if b {
-        return 1;
-    }
-    0
+    usize::from(b)
 }
 
 // The choices, one after the other: how many of them stepped.
@@ -130,11 +124,8 @@ pub fn run_all(choices: &[u8], w: &mut [u32]) -> usize
     ensures { RunIs Represents choices.now w.old w.new result }
 {
     let mut n = 0;
-    let mut i = 0;
-    while i < choices.len() {
-        let k = workspace::total::byte(choices, i);
-        n += counted(step(w, k));
-        i += 1;
+    for choice in choices {
+        n += counted(step(w, usize::from(*choice)));
     }
     n
 }

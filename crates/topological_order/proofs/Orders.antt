@@ -1,12 +1,12 @@
 -- The steps of the loop: the tasks of those done stay in their places, and so do their levels.
 use Prim.Native.Nat.{ℕ, ◌+◌, ◌≤◌, ◌<◌}
-use mathlib.Core.Path.{◌≡◌, refl, sym, ◌∙◌}
+use mathlib.Core.Path.{◌≡◌, refl, ◌∙◌}
 use mathlib.Core.List.{List}
 use native.Mathlib.Omega.{arith}
 use Rattle.sheet.specs.Sheet.{Sheet}
 use Rattle.topological_order.specs.Words.{task_at}
 use Rattle.topological_order.specs.Peeling.{level_in}
-use Rattle.topological_order.specs.Steps.{Before, LevelSet, Steps, here, then, InThesisOrder}
+use Rattle.topological_order.specs.Steps.{LevelSet, Steps, here, then, InThesisOrder}
 
 module _ {s : Sheet} {i : ℕ} {a : List ℕ} where
   steps-more : {k : ℕ} {b : List ℕ} → Steps s i a k b → i ≤ k

@@ -1,15 +1,15 @@
 -- The beginning of peeling: blank marks, the links counted at their sources, and the tasks without links in the queue.
-use Prim.Native.Nat.{ℕ, ◌+◌, ◌≤◌, ◌<◌}
+use Prim.Native.Nat.{ℕ, ◌+◌, ◌-◌, ◌/◌, ◌%◌, ◌≤◌, ◌<◌}
 use mathlib.Core.Bool.{Bool, false, not, true≢false}
 use mathlib.Core.Path.{◌≡◌, refl, ap, sym, ◌∙◌, subst}
-use mathlib.Core.Logic.{◌≢◌}
+use mathlib.Core.Logic.{◌≢◌, inl, inr}
 use mathlib.Core.List.{List}
 use native.Mathlib.Omega.{arith}
 use native.Mathlib.Decide.{ℕ_discrete}
 use borrow.Author.Tests.{le-ltb}
 use lib.ListN.{length, get_or, set}
 use lib.Dec.{eqb}
-use Rattle.workspace.specs.Area.{fixed, marks_at}
+use Rattle.workspace.specs.Area.{fixed, marks_at, ClearIs}
 use Rattle.folds.specs.Folds.{both, sum}
 use Rattle.folds.proofs.Tests.{bit_le}
 use Rattle.folds.proofs.Loops.{sum-zero, sum_one}
@@ -25,22 +25,15 @@ use Rattle.topological_order.proofs.Pushes.{off-queue, queued-room, push_else, p
 use Rattle.topological_order.proofs.Lights.{due-unlit, due-other, due-cong, peel-same, peel-push}
 
 -- blank marks
-pub blank_none : (s : Sheet) (w : List ℕ) → Counted s 0 0 w
-blank_none s w = record { degree = λ t h. absurd (omega arith); place = λ t h. absurd (omega arith) }
-
-pub blank-more : {s : Sheet} {w : List ℕ} (t : ℕ) → t < 256 → fixed ≤ length w → Counted s t 0 w → Counted s (t + 1) 0 (set w (marks_at + t) 0)
-blank-more {s} {w} t h long d = record { degree = λ u k. degree u k (ℕ_discrete u t) ∙ sym (sum-zero (due_by s never u)); place = λ u k. place u k (ℕ_discrete u t) }
-  where
-    degree : (u : ℕ) → u < t + 1 → Dec (u ≡ t) → degree_in (set w (marks_at + t) 0) u ≡ 0
-    degree u k (yes e) = rw e (degree-put w t (omega arith) 0 (omega arith))
-    degree u k (no e) = degree-far w (marks_at + t) 0 u (λ x. e (omega arith)) ∙ d.degree u (omega arith) ∙ sum-zero (due_by s never u)
-
-    place : (u : ℕ) → u < t + 1 → Dec (u ≡ t) → place_in (set w (marks_at + t) 0) u ≡ 256
-    place u k (yes e) = rw e (place_none w t (omega arith) 0 (omega arith))
-    place u k (no e) = place-far w (marks_at + t) 0 u (λ x. e (omega arith)) ∙ d.place u (omega arith)
-
-pub blank-outside : {w₀ w : List ℕ} (t : ℕ) → t < 256 → Outside w₀ w → Outside w₀ (set w (marks_at + t) 0)
-blank-outside t h b = outside_set (marks_at + t) 0 (omega arith) (omega arith) b
+pub blanked : {s : Sheet} {w w' : List ℕ} (n : ℕ) → n ≤ 256 → ClearIs w w' marks_at (marks_at + n) → Outside w w' × Counted s n 0 w'
+unfolding degree_in place_in
+blanked {s} {w} {w'} n few c = (
+  record { kept = record { long = c.long; low = λ i h. c.other i (inl (omega arith)); high = λ i h. c.other i (inr (omega arith)) }; chains = λ i h k. c.other i (inl k) },
+  record {
+    degree = λ t h. ap (λ (x : ℕ). x % 65536) (c.zeros (marks_at + t) (omega arith) (omega arith)) ∙ sym (sum-zero (due_by s never t));
+    place = λ t h. ap (λ (x : ℕ). 256 - x / 65536) (c.zeros (marks_at + t) (omega arith) (omega arith));
+  },
+)
 
 pub counted-at : {s : Sheet} {n n' l l' : ℕ} {w : List ℕ} → Counted s n l w → n ≡ n' → l ≡ l' → Counted s n' l' w
 counted-at {s} {n} {n'} {l} {l'} {w} d e f = subst (λ (x : ℕ). Counted s n' x w) f (subst (λ (x : ℕ). Counted s x l w) e d)

@@ -4,7 +4,7 @@ use mathlib.Core.Path.{◌≡◌, refl, ap, sym, ◌∙◌, subst}
 use mathlib.Core.List.{List}
 use native.Mathlib.Omega.{arith}
 use lib.ListN.{get_or, set}
-use Rattle.workspace.specs.Area.{levels_at, marks_at, queue_at}
+use Rattle.workspace.specs.Area.{levels_at, marks_at}
 use Rattle.folds.specs.Folds.{greatest}
 use Rattle.sheet.specs.Sheet.{Sheet, task_count, link_count, work_of, source_of, target_of, cost_of}
 use Rattle.sheet.specs.Tables.{sheet_in, Loaded}

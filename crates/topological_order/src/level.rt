@@ -27,7 +27,7 @@ fn beyond(w: &[u32], v: usize) -> usize
     while l < m {
         let x = workspace::word(w, LEVELS + tables::target(w, l));
         let c = tables::cost(w, l);
-        best = numbers::later(best, c + x);
+        best = best.max(c + x);
         l = adjacency::next(w, End::Source, l);
     }
     best
@@ -41,5 +41,5 @@ pub fn set(w: &mut [u32], v: usize)
     ensures { w.new ≡ set w.old (levels_at + v) (work_of (sheet_in w.old) v + greatest (link_count (sheet_in w.old)) (level_by (sheet_in w.old) (level_in w.old) v)) }
 {
     let x = beyond(w, v);
-    w[LEVELS + v] = workspace::narrow(tables::work(w, v) + x);
+    w[LEVELS + v] = (tables::work(w, v) + x) as u32;
 }

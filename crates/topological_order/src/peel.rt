@@ -24,12 +24,13 @@ fn visit(w: &mut [u32], k: usize, v: usize, l: usize) -> usize
 {
     let u = tables::source(w, l);
     let d = workspace::word(w, MARKS + u);
-    w[MARKS + u] = workspace::narrow(d - 1);
+    w[MARKS + u] = (d - 1) as u32;
     if d == 1 {
         queue::push(w, k, u);
-        return k + 1;
+        k + 1
+    } else {
+        k
     }
-    k
 }
 
 // The links into v, which is taken off.
@@ -87,9 +88,10 @@ fn offer(w: &mut [u32], k: usize, t: usize) -> usize
 {
     if workspace::word(w, MARKS + t) == 0 {
         queue::push(w, k, t);
-        return k + 1;
+        k + 1
+    } else {
+        k
     }
-    k
 }
 
 // All tasks without links; the answer is how many.
@@ -98,27 +100,20 @@ fn fill(w: &mut [u32]) -> usize
     requires filled { Filled (sheet_in w.old) 0 0 w.old }
     ensures { Outside w.old w.new × Peeled (sheet_in w.old) 0 result 0 0 w.new }
 {
-    let n = tables::tasks(w);
-    let mut k: usize = 0;
-    let mut t: usize = 0;
-    while t < n {
+    let mut k = 0;
+    for t in 0..tables::tasks(w) {
         k = offer(w, k, t);
-        t += 1;
     }
     k
 }
 
 // No link counted, and nothing in the queue.
-fn blank(w: &mut [u32])
+pub fn blank(w: &mut [u32])
     requires { Held w.old }
     ensures { Outside w.old w.new × Counted (sheet_in w.old) (task_count (sheet_in w.old)) 0 w.new }
 {
     let n = tables::tasks(w);
-    let mut t: usize = 0;
-    while t < n {
-        w[MARKS + t] = 0;
-        t += 1;
-    }
+    workspace::clear_words(w, MARKS, MARKS + n);
 }
 
 // Link l is counted at its source.
@@ -130,7 +125,7 @@ fn count_one(w: &mut [u32], l: usize)
 {
     let u = tables::source(w, l);
     let d = workspace::word(w, MARKS + u);
-    w[MARKS + u] = workspace::narrow(d + 1);
+    w[MARKS + u] = (d + 1) as u32;
 }
 
 // All links are counted.
@@ -139,11 +134,8 @@ fn count(w: &mut [u32])
     requires counted { Counted (sheet_in w.old) (task_count (sheet_in w.old)) 0 w.old }
     ensures { Outside w.old w.new × Filled (sheet_in w.old) 0 0 w.new }
 {
-    let m = tables::links(w);
-    let mut l: usize = 0;
-    while l < m {
+    for l in 0..tables::links(w) {
         count_one(w, l);
-        l += 1;
     }
 }
 

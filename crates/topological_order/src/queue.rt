@@ -9,6 +9,6 @@ pub fn push(w: &mut [u32], k: usize, u: usize)
     requires { (fixed ≤ length w.old) × (k < 256) × (u < 256) }
     ensures { w.new ≡ pushed w.old k u }
 {
-    w[QUEUE + k] = workspace::narrow(u);
-    w[MARKS + u] = workspace::narrow(65536 * (256 - k));
+    w[QUEUE + k] = u as u32;
+    w[MARKS + u] = (65536 * (256 - k)) as u32;
 }

@@ -3,40 +3,27 @@
 // write that fails is the error that `main` returns.
 #![tactic(auto)]
 
-ghost use Rattle.std.specs.Prelude.{◌≡◌, ◌≤◌, ◌<◌, length, take, IfOk};
+ghost use Rattle.std.specs.Prelude.{◌≡◌, ◌≤◌, ◌<◌, length, take, IfOk, Some};
 ghost use Rattle.std.specs.Io.KnownBytes.{Consumes, IsAtEnd};
 ghost use Rattle.trials.specs.Records.{record_at};
 
 use std::io;
 use std::io::Read;
 
-// A record of the input, by the ends of its name and of its sheet.
-#[derive(Clone, Copy)]
-enum Record {
-    Whole(usize, usize),
-    Cut,
-}
-
-fn wide(x: u16) -> usize
-    ensures { (result ≡ x) × (result < 65536) }
-{
-    x as usize
-}
-
-// The record at `at`.
-fn record_at(input: &[u8], at: usize) -> Record
+// The ends of the name and of the sheet of the record at `at`, unless it is cut.
+fn record_at(input: &[u8], at: usize) -> Option<(usize, usize)>
     requires { at < length input.now }
     ensures { result ≡ record_at input.now at }
 {
-    let name_end = at + 1 + numbers::get8(input, at);
+    let name_end = at + 1 + usize::from(input[at]);
     if input.len() < name_end + 2 {
-        return Record::Cut;
+        return None;
     }
-    let sheet_end = name_end + 2 + wide(numbers::get16(input, name_end));
+    let sheet_end = name_end + 2 + usize::from(numbers::get16(input, name_end));
     if input.len() < sheet_end {
-        return Record::Cut;
+        return None;
     }
-    Record::Whole(name_end, sheet_end)
+    Some((name_end, sheet_end))
 }
 
 // Reads until the input ends or the buffer is full, however many pieces it comes in, and answers how many bytes that were: the first that the
@@ -46,11 +33,11 @@ fn read_full<R: Read>(input: &mut R, buf: &mut [u8]) -> io::Result<usize>
     ensures bytes { IfOk result (λ n. Consumes (R.remaining input.old) (R.remaining input.new) (take n buf.new)) }
     ensures end { IfOk result (λ n. n < length buf.new → IsAtEnd (R.remaining input.new)) }
 {
-    let mut at: usize = 0;
+    let mut at = 0;
     while at < buf.len() {
         let n = input.read(&mut buf[at..])?;
         if n == 0 {
-            return Ok(at);
+            break;
         }
         at += n;
     }
@@ -72,7 +59,7 @@ fn print_record(
     name_end: usize,
     sheet_end: usize,
 ) -> io::Result<()>
-    requires { record_at input.now at ≡ Record.Whole name_end sheet_end }
+    requires { record_at input.now at ≡ Some (name_end, sheet_end) }
 {
     let name = at + 1;
     let sheet = name_end + 2;
@@ -83,17 +70,13 @@ fn print_record(
 
 // Prints each record of the input, up to one that is cut.
 fn print_records(rt: &impl Print, input: &[u8]) -> io::Result<()> {
-    let mut at: usize = 0;
+    let mut at = 0;
     while at < input.len() {
-        match record_at(input, at) {
-            Record::Cut => {
-                return Ok(());
-            }
-            Record::Whole(name_end, sheet_end) => {
-                print_record(rt, input, at, name_end, sheet_end)?;
-                at = sheet_end;
-            }
-        }
+        let Some((name_end, sheet_end)) = record_at(input, at) else {
+            break;
+        };
+        print_record(rt, input, at, name_end, sheet_end)?;
+        at = sheet_end;
     }
     Ok(())
 }

@@ -1,13 +1,16 @@
 -- The words of the empty schedule.
-use Prim.Native.Nat.{ℕ, ◌+◌, ◌%◌, ◌≤◌, ◌<◌}
-use mathlib.Core.Path.{◌≡◌, ap, sym, ◌∙◌, subst}
+use Prim.Native.Nat.{ℕ, ◌+◌, ◌-◌, ◌%◌, ◌≤◌, ◌<◌}
+use mathlib.Core.Path.{◌≡◌, ap, ap₂, sym, ◌∙◌}
 use mathlib.Core.Logic.{◌≢◌}
 use mathlib.Core.List.{List, []}
 use native.Mathlib.Omega.{arith}
-use native.Mathlib.Decide.{ℕ_discrete}
-use lib.ListN.{length, get_or, set, length-set, replicate, length-replicate, get_or-replicate}
+use lib.ListN.{length, get_or, set, take, drop, length-take, length-drop, length-set, replicate, length-replicate, get_or-replicate}
+use borrow.Rule.Slice.PartMut.{put_mid}
+use Rattle.std.proofs.lemmas.List.{get_or-append_right, get_or-drop, get_or-take, length-take-le}
+use Rattle.std.proofs.lemmas.List.Edits.{length-paste}
+use Rattle.std.proofs.lemmas.Slice.{drop-put_mid, put_mid-paste, take-put_mid, take-put_mid_below}
 use lib.Seq.{get_or-set_same, get_or-set_other, ext_get_or}
-use Rattle.workspace.specs.Area.{fixed, finishes_at, opened_at, placed_at, places_at, schedule_end}
+use Rattle.workspace.specs.Area.{fixed, finishes_at, opened_at, placed_at, places_at}
 use Rattle.folds.specs.Folds.{listed}
 use Rattle.folds.proofs.Loops.{listed-zero}
 use Rattle.folds.proofs.Lists.{length-listed, get_or-listed}
@@ -16,38 +19,61 @@ use Rattle.sheet.specs.Tables.{sheet_in, Loaded}
 use Rattle.sheet.proofs.Rows.{tasks-in, ranged}
 use Rattle.planner.specs.Schedule.{empty}
 use Rattle.schedule.specs.Layout.{on_in, turn_in, finish_in, start_in, schedule_in}
-use Rattle.adjacency.proofs.Frames.{only_none, only_set}
+use Rattle.adjacency.proofs.Frames.{only_set}
 use Rattle.turns.specs.Turns.{Cleared, Emptied}
 
-pub cleared-none : (w : List ℕ) → Cleared w 0 w
-cleared-none w = record { only = only_none places_at schedule_end w; on = λ u h. absurd (omega arith); finish = λ u h. absurd (omega arith) }
+-- n words from a on filled with one number
+module _ (w s : List ℕ) (a k n v : ℕ) (few : a + n ≤ length w) (same : s ≡ replicate n v) (count : k ≡ n) where
+  abbrev filled : List ℕ
+  filled = put_mid a k w s
 
-abbrev clear_words : List ℕ → ℕ → List ℕ
-clear_words w t = set (set w (places_at + t) 16) (finishes_at + t) 0
+  wide : length s ≡ n
+  wide = ap length same ∙ length-replicate n v
 
-pub cleared_more : {w₀ w : List ℕ} {t : ℕ} → fixed ≤ length w₀ → t < 256 → Cleared w₀ t w → Cleared w₀ (t + 1) (clear_words w t)
-cleared_more {w₀} {w} {t} long few d =
+  filled-long : length filled ≡ length w
+  filled-long = ap length (put_mid-paste a k w s (replicate n v) n same (sym count) (sym (length-replicate n v))) ∙ length-paste w a (replicate n v) n few (omega (arith, length-replicate n v))
+
+  filled-below : (i : ℕ) → i < a → get_or filled i 0 ≡ get_or w i 0
+  filled-below i h = sym (get_or-take a filled i 0 h) ∙ ap (λ (l : List ℕ). get_or l i 0) (take-put_mid_below a k w s a (omega arith) (omega arith)) ∙ get_or-take a w i 0 h
+
+  filled-inside : (i : ℕ) → i < n → get_or filled (a + i) 0 ≡ v
+  filled-inside i h =
+      let e : a + i - a ≡ i = omega arith in
+      sym (get_or-take (a + n) filled (a + i) 0 (omega arith))
+      ∙ ap (λ (l : List ℕ). get_or l (a + i) 0) (take-put_mid a k w s (a + n) (omega (arith, wide)) (omega arith))
+      ∙ get_or-append_right (take a w) s a (a + i) 0 (length-take-le a w (omega arith)) (omega arith)
+      ∙ ap₂ (λ (l : List ℕ) (j : ℕ). get_or l j 0) same e
+      ∙ get_or-replicate n i v 0 h
+
+  filled-above : (i : ℕ) → a + n ≤ i → get_or filled i 0 ≡ get_or w i 0
+  filled-above i h =
+      let r : ℕ = i - (a + n) in
+      let e : i ≡ a + n + r = omega arith in
+      ap (λ (j : ℕ). get_or filled j 0) e
+      ∙ sym (get_or-drop (a + n) filled r 0)
+      ∙ ap (λ (l : List ℕ). get_or l r 0) (drop-put_mid a k w s (a + n) (omega arith) (omega arith) (omega (arith, wide)))
+      ∙ get_or-drop (a + n) w r 0
+      ∙ ap (λ (j : ℕ). get_or w j 0) (sym e)
+
+pub cleared-by : (w p f : List ℕ) (j k n : ℕ) → fixed ≤ length w → n ≤ 256 → j ≡ n → k ≡ n
+    → p ≡ replicate (length (take j (drop places_at w))) 16 → f ≡ replicate (length (take k (drop finishes_at (put_mid places_at j w p)))) 0
+    → Cleared w n (put_mid finishes_at k (put_mid places_at j w p) f)
+cleared-by w p f j k n long few ej ek sp sf =
+    let u = put_mid places_at j w p in
+    let a : places_at + n ≤ length w = omega arith in
+    let ep : p ≡ replicate n 16 = sp ∙ ap (λ (m : ℕ). replicate m 16) (omega (arith, length-take {A = ℕ}, length-drop {A = ℕ})) in
+    let e = filled-long w p places_at j n 16 a ep ej in
+    let b : finishes_at + n ≤ length u = omega arith in
+    let ef : f ≡ replicate n 0 = sf ∙ ap (λ (m : ℕ). replicate m 0) (omega (arith, length-take {A = ℕ}, length-drop {A = ℕ})) in
     record {
-      only = only_set (finishes_at + t) 0 (omega arith) (omega arith) (only_set (places_at + t) 16 (omega arith) (omega arith) d.only);
-      on = λ u k. on' u k (ℕ_discrete u t);
-      finish = λ u k. finish' u k (ℕ_discrete u t);
+      only = record {
+        long = filled-long u f finishes_at k n 0 b ef ek ∙ e;
+        low = λ i h. filled-below u f finishes_at k n 0 b ef ek i (omega arith) ∙ filled-below w p places_at j n 16 a ep ej i h;
+        high = λ i h. filled-above u f finishes_at k n 0 b ef ek i (omega arith) ∙ filled-above w p places_at j n 16 a ep ej i (omega arith);
+      };
+      on = λ i h. filled-below u f finishes_at k n 0 b ef ek (places_at + i) (omega arith) ∙ filled-inside w p places_at j n 16 a ep ej i h;
+      finish = λ i h. filled-inside u f finishes_at k n 0 b ef ek i h;
     }
-  where
-    away : (i : ℕ) → i ≢ places_at + t → i ≢ finishes_at + t → get_or (clear_words w t) i 0 ≡ get_or w i 0
-    away i a b = simp get_or-set_other
-
-    on' : (u : ℕ) → u < t + 1 → Dec (u ≡ t) → get_or (clear_words w t) (places_at + u) 0 ≡ 16
-    on' u k (yes q) =
-        let a : places_at + t ≢ finishes_at + t = omega arith in
-        let l : places_at + t < length w = omega (arith, d.only.long) in
-        rw q (simp (get_or-set_other, get_or-set_same))
-    on' u k (no q) = away (places_at + u) (λ x. q (omega arith)) (omega arith) ∙ d.on u (omega arith)
-
-    finish' : (u : ℕ) → u < t + 1 → Dec (u ≡ t) → get_or (clear_words w t) (finishes_at + u) 0 ≡ 0
-    finish' u k (yes q) =
-        let l : finishes_at + t < length (set w (places_at + t) 16) = simp length-set (omega (arith, d.only.long)) in
-        rw q (simp get_or-set_same)
-    finish' u k (no q) = away (finishes_at + u) (omega arith) (λ x. q (omega arith)) ∙ d.finish u (omega arith)
 
 listed_same : (n v : ℕ) (f : ℕ → ℕ) → ((i : ℕ) → i < n → f i ≡ v) → listed n f ≡ replicate n v
 listed_same n v f h =
@@ -96,6 +122,3 @@ module _ {w₀ w : List ℕ} {t : ℕ} (loaded : Loaded w₀) (d : Cleared w₀ 
         schedule = schedule-zero;
         placed = placed-zero;
       }
-
-pub cleared_at : {w₀ w : List ℕ} {t n : ℕ} → Cleared w₀ t w → t ≡ n → Cleared w₀ n w
-cleared_at {w₀} {w} d e = subst (λ (x : ℕ). Cleared w₀ x w) e d

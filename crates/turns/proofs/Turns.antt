@@ -14,8 +14,8 @@ use Rattle.planner.specs.Planner.{choice, placed_from, place_on, place_task, tur
 use Rattle.planner.proofs.Choosing.{leading-some}
 use Rattle.schedule.specs.Layout.{schedule_in}
 use Rattle.turns.specs.Turns.{answer_of, Going}
-use Rattle.turns.specs.declared.Planned.{Planned}
-use Rattle.turns.specs.declared.Planned.TheVariants.{Done, Refused}
+use Rattle.std.specs.Prelude.{⊤, Result, Ok, Err}
+use Rattle.refusals.specs.declared.Refusal.{Refusal}
 use Rattle.turns.proofs.Going.{after}
 
 module _ (s : Sheet) (σ : Schedule) where
@@ -49,7 +49,7 @@ module _ (s : Sheet) (guard : Schedule → ℕ → ℕ → Bool) (σ : Schedule)
   unfolding turns
   turns_more h e = ap (λ (i : ℕ). turns s guard true i σ) (left h) ∙ ap (λ (a : Answer Schedule). and_then a (turns s guard true (n - (j + 1)))) (sym e)
 
-  turns-refused : {t : ℕ} → j < n → refused 11 t ≡ turn s guard true σ → refused 11 t ≡ turns s guard true (n - j) σ
+  turns-refused : {m t : ℕ} → j < n → refused m t ≡ turn s guard true σ → refused m t ≡ turns s guard true (n - j) σ
   unfolding turns
   turns-refused h e = sym (ap (λ (i : ℕ). turns s guard true i σ) (left h) ∙ ap (λ (a : Answer Schedule). and_then a (turns s guard true (n - (j + 1)))) (sym e))
 
@@ -67,19 +67,19 @@ turning-begins w own n g =
     let q : n - 0 ≡ n = omega arith in
     record { going = g; rest = ap (λ (x : ℕ). turns (sheet_in w) (barred (sheet_in w)) true x (schedule_in w)) q }
 
-module _ {w₀ w own : List ℕ} {n j : ℕ} (h : Turning w₀ n j w own) (r : Planned) (w' : List ℕ) (l : j < n) (a : answer_of r (schedule_in w') ≡ turn (sheet_in w) (barred (sheet_in w)) true (schedule_in w)) where
+module _ {w₀ w own : List ℕ} {n j : ℕ} (h : Turning w₀ n j w own) (r : Result ⊤ Refusal) (w' : List ℕ) (l : j < n) (a : answer_of r (schedule_in w') ≡ turn (sheet_in w) (barred (sheet_in w)) true (schedule_in w)) where
   same : turn (sheet_in w) (barred (sheet_in w)) true (schedule_in w) ≡ turn (sheet_in w₀) (barred (sheet_in w₀)) true (schedule_in w)
   same = ap (λ (x : Sheet). turn x (barred x) true (schedule_in w)) h.going.sheet
 
-  pub turning-on : {own' : List ℕ} → r ≡ Done → Going w (j + 1) w' own' → Turning w₀ n (j + 1) w' own'
+  pub turning-on : {own' : List ℕ} → r ≡ Ok tt → Going w (j + 1) w' own' → Turning w₀ n (j + 1) w' own'
   turning-on e g =
       record {
         going = after h.going g;
-        rest = sym (turns_more (sheet_in w₀) (barred (sheet_in w₀)) (schedule_in w) n j l (sym (ap (λ (x : Planned). answer_of x (schedule_in w')) e) ∙ a ∙ same)) ∙ h.rest;
+        rest = sym (turns_more (sheet_in w₀) (barred (sheet_in w₀)) (schedule_in w) n j l (sym (ap (λ (x : Result ⊤ Refusal). answer_of x (schedule_in w')) e) ∙ a ∙ same)) ∙ h.rest;
       }
 
-  pub turning-refused : {t : ℕ} → r ≡ Refused t → refused 11 t ≡ turns (sheet_in w₀) (barred (sheet_in w₀)) true n (schedule_in w₀)
-  turning-refused e = turns-refused (sheet_in w₀) (barred (sheet_in w₀)) (schedule_in w) n j l (sym (ap (λ (x : Planned). answer_of x (schedule_in w')) e) ∙ a ∙ same) ∙ h.rest
+  pub turning-refused : {x : Refusal} → r ≡ Err x → refused x.number x.place ≡ turns (sheet_in w₀) (barred (sheet_in w₀)) true n (schedule_in w₀)
+  turning-refused e = turns-refused (sheet_in w₀) (barred (sheet_in w₀)) (schedule_in w) n j l (sym (ap (λ (x : Result ⊤ Refusal). answer_of x (schedule_in w')) e) ∙ a ∙ same) ∙ h.rest
 
 pub turning-done : {w₀ w own : List ℕ} {n j : ℕ} → Turning w₀ n j w own → n ≤ j → value (schedule_in w) ≡ turns (sheet_in w₀) (barred (sheet_in w₀)) true n (schedule_in w₀)
 turning-done {w₀} {w} {own} {n} {j} h l = turns-done (sheet_in w₀) (barred (sheet_in w₀)) (schedule_in w) n j l ∙ h.rest

@@ -12,13 +12,13 @@ use Rattle.adjacency.specs.Chains.{Chained}
 use Rattle.adjacency.specs.Frames.{Only}
 use Rattle.adjacency.specs.declared.End.TheVariants.{Source, Target}
 use Rattle.arrivals.specs.Kept.{Kept}
-use Rattle.turns.specs.declared.Planned.{Planned}
-use Rattle.turns.specs.declared.Planned.TheVariants.{Done, Refused}
+use Rattle.std.specs.Prelude.{⊤, Result, Ok, Err}
+use Rattle.refusals.specs.declared.Refusal.{Refusal}
 
--- 11 at the task that no step gives a processor
-abbrev pub answer_of : Planned → Schedule → Answer Schedule
-answer_of Done σ = value σ
-answer_of (Refused t) σ = refused 11 t
+-- the schedule, or what is refused: 11 at the task that no step gives a processor
+abbrev pub answer_of : Result ⊤ Refusal → Schedule → Answer Schedule
+answer_of (Ok x) σ = value σ
+answer_of (Err r) σ = refused r.number r.place
 
 -- no finish is past the load of the tasks placed: their works, and the costs and unpacking of the links into them
 pub record Timely (s : Sheet) (σ : Schedule) : Type 0 where

@@ -15,16 +15,9 @@ ghost use Rattle.turns.specs.Turns.{answer_of, Going, Cleared, Emptied, Afterwar
 
 use adjacency::End;
 use arrivals::Starts;
+use refusals::Refusal;
 use sheet::tables;
-use workspace::total::Found;
 use workspace::{FINISHES, OPENED, PLACED, PLACES};
-
-// Done, or refused for want of store (11) at a task.
-#[derive(Clone, Copy)]
-pub enum Planned {
-    Done,
-    Refused(usize),
-}
 
 // t goes on k at turn j, from its start there on, and the keys follow.
 fn put_on(
@@ -43,7 +36,7 @@ fn put_on(
     ensures { (schedule_in w.new ≡ placed_from (sheet_in w.old) (barred (sheet_in w.old)) (schedule_in w.old) t k (start_on (sheet_in w.old) (schedule_in w.old) t k)) × Going w.old (j + 1) w.new kept.new × Keyed (sheet_in w.new) (schedule_in w.new) q.new }
 {
     let finish = start + tables::work(w, t);
-    let open = numbers::later(schedule::opened(w), k + 1);
+    let open = schedule::opened(w).max(k + 1);
     let n = schedule::placed(w);
     arrivals::settle(w, kept, t, k, start, finish);
     arrivals::release(kept);
@@ -59,7 +52,7 @@ fn place_surveyed(
     j: usize,
     t: usize,
     starts: Starts,
-) -> Planned
+) -> Result<(), Refusal>
     requires going { Going w.old j w.old kept.old }
     requires j_bound { (j < 256) × (t < task_count (sheet_in w.old)) }
     requires t_value { (ready (sheet_in w.old) (schedule_in w.old) t ≡ true) × Surveyed (sheet_in w.old) (schedule_in w.old) t kept.old × Started w.old t starts }
@@ -67,17 +60,25 @@ fn place_surveyed(
     ensures { (answer_of result (schedule_in w.new) ≡ place_on (sheet_in w.old) (barred (sheet_in w.old)) (schedule_in w.old) t (choice (sheet_in w.old) (barred (sheet_in w.old)) true (schedule_in w.old) t)) × Going w.old (j + 1) w.new kept.new × Keyed (sheet_in w.new) (schedule_in w.new) q.new }
 {
     match placing::choice_of(w, kept, q, t, starts) {
-        Found::Nothing => Planned::Refused(t),
-        Found::At(k) => {
-            let start = workspace::wide(starts.at[k]);
-            put_on(w, kept, q, j, t, k, start);
-            Planned::Done
+        None => Err(Refusal {
+            number: 11,
+            place: t,
+        }),
+        Some(k) => {
+            put_on(w, kept, q, j, t, k, starts.at[k] as usize);
+            Ok(())
         }
     }
 }
 
 // The first ready task is surveyed, and goes where the steps say.
-fn place_task(w: &mut [u32], kept: &mut [u32], q: &mut [u64], j: usize, t: usize) -> Planned
+fn place_task(
+    w: &mut [u32],
+    kept: &mut [u32],
+    q: &mut [u64],
+    j: usize,
+    t: usize,
+) -> Result<(), Refusal>
     requires going { Going w.old j w.old kept.old }
     requires j_bound { (j < 256) × (t < task_count (sheet_in w.old)) }
     requires t_value { ready (sheet_in w.old) (schedule_in w.old) t ≡ true }
@@ -89,41 +90,33 @@ fn place_task(w: &mut [u32], kept: &mut [u32], q: &mut [u64], j: usize, t: usize
 }
 
 // One turn.
-fn take_turn(w: &mut [u32], kept: &mut [u32], q: &mut [u64], j: usize) -> Planned
+fn take_turn(w: &mut [u32], kept: &mut [u32], q: &mut [u64], j: usize) -> Result<(), Refusal>
     requires going { Going w.old j w.old kept.old }
     requires j_bound { j < 256 }
     requires keyed { Keyed (sheet_in w.old) (schedule_in w.old) q.old }
     ensures { (answer_of result (schedule_in w.new) ≡ turn (sheet_in w.old) (barred (sheet_in w.old)) true (schedule_in w.old)) × Going w.old (j + 1) w.new kept.new × Keyed (sheet_in w.new) (schedule_in w.new) q.new }
 {
     match readiness::first_ready(w, kept, q) {
-        Found::Nothing => Planned::Done,
-        Found::At(t) => place_task(w, kept, q, j, t),
+        None => Ok(()),
+        Some(t) => place_task(w, kept, q, j, t),
     }
 }
 
 // Turns until all tasks are placed, or one is refused; q holds the keys of the empty schedule.
-fn take_each(w: &mut [u32], kept: &mut [u32], q: &mut [u64]) -> Planned
+fn take_each(w: &mut [u32], kept: &mut [u32], q: &mut [u64]) -> Result<(), Refusal>
     requires going { Going w.old 0 w.old kept.old }
     requires keyed { Keyed (sheet_in w.old) (schedule_in w.old) q.old }
     ensures { (answer_of result (schedule_in w.new) ≡ turns (sheet_in w.old) (barred (sheet_in w.old)) true (task_count (sheet_in w.old)) (schedule_in w.old)) × Going w.old 256 w.new kept.new }
 {
     let n = tables::tasks(w);
-    let mut j: usize = 0;
-    while j < n {
-        match take_turn(w, kept, q, j) {
-            Planned::Refused(t) => {
-                return Planned::Refused(t);
-            }
-            Planned::Done => {
-                j += 1;
-            }
-        }
+    for j in 0..n {
+        take_turn(w, kept, q, j)?;
     }
-    Planned::Done
+    Ok(())
 }
 
 // All turns, by the keys of who goes first.
-fn take_turns(w: &mut [u32], kept: &mut [u32]) -> Planned
+fn take_turns(w: &mut [u32], kept: &mut [u32]) -> Result<(), Refusal>
     requires { Going w.old 0 w.old kept.old }
     ensures { (answer_of result (schedule_in w.new) ≡ turns (sheet_in w.old) (barred (sheet_in w.old)) true (task_count (sheet_in w.old)) (schedule_in w.old)) × Going w.old 256 w.new kept.new }
 {
@@ -138,12 +131,8 @@ fn clear_tables(w: &mut [u32])
     ensures { Cleared w.old (task_count (sheet_in w.old)) w.new }
 {
     let n = tables::tasks(w);
-    let mut t: usize = 0;
-    while t < n {
-        w[PLACES + t] = 16;
-        w[FINISHES + t] = 0;
-        t += 1;
-    }
+    w[PLACES..PLACES + n].fill(16);
+    w[FINISHES..FINISHES + n].fill(0);
 }
 
 // The empty schedule.
@@ -157,7 +146,7 @@ fn clear(w: &mut [u32])
 }
 
 // The schedule of the sheet in the tables, in its words of the area, or the task that is refused.
-pub fn schedule(w: &mut [u32]) -> Planned
+pub fn schedule(w: &mut [u32]) -> Result<(), Refusal>
     requires loaded { Loaded w.old }
     requires levelled { Levelled (sheet_in w.old) w.old }
     requires single { Single (sheet_in w.old) }

@@ -2,8 +2,8 @@
 use Prim.Native.Nat.{ℕ, ◌<◌}
 use mathlib.Core.Path.{◌≡◌, subst}
 use Rattle.workspace.specs.Found.{Below}
-use Rattle.workspace.specs.declared.total.Found.{Found}
-use Rattle.workspace.specs.declared.total.Found.TheVariants.{At}
+use Rattle.workspace.specs.Found.{Found}
+use Rattle.std.specs.Prelude.{Some}
 
-pub below_at : (n : ℕ) {f : Found} {b : ℕ} → f ≡ At b → Below n f → b < n
+pub below_at : (n : ℕ) {f : Found} {b : ℕ} → f ≡ Some b → Below n f → b < n
 below_at n e h = subst (Below n) e h

@@ -1,14 +1,17 @@
--- What a search answers, as an option.
-use Rattle.std.specs.Prelude.{ℕ, ◌<◌}
+-- What a search answers, as an option of the definitions.
+use Rattle.std.specs.Prelude.{ℕ, ◌<◌, Some, None}
+use Rattle.std.specs.Prelude.{Option as Maybe}
 use Rattle.std.proofs.Math.Option.{Option, none, some}
-use Rattle.workspace.specs.declared.total.Found.{Found}
-use Rattle.workspace.specs.declared.total.Found.TheVariants.{At, Nothing}
+
+-- what a search answers: an index, or none
+abbrev pub Found : Type 0
+Found = Maybe ℕ
 
 abbrev pub found_of : Found → Option ℕ
-found_of (At i) = some i
-found_of Nothing = none
+found_of (Some i) = some i
+found_of None = none
 
 -- an index that was found is below n
 abbrev pub Below : ℕ → Found → Type 0
-Below n (At i) = i < n
-Below n Nothing = Unit {0}
+Below n (Some i) = i < n
+Below n None = Unit {0}

@@ -1,4 +1,3 @@
 -- The definitions of `workspace`.
 pub mod Area
 pub mod Found
-pub mod Written

@@ -1,7 +1,6 @@
 // The work area that a caller lends: words of 32 bits.
 #![tactic(auto)]
 
-pub mod answers; // answers.rt: what is told of bytes that are written
 pub mod total; // total.rt: bytes and words at any index
 
 ghost use Rattle.std.specs.Prelude.{◌≡◌, ◌≤◌, ◌<◌, length, get_or, replicate};
@@ -49,27 +48,12 @@ pub const OPENED: usize = 4368;
 
 pub const PLACED: usize = 4369;
 
-// A word as an index or a sum.
-pub fn wide(x: u32) -> usize
-    ensures { (result ≡ x) × (result < 4294967296) }
-{
-    x as usize
-}
-
 // The word at i.
 pub fn word(w: &[u32], i: usize) -> usize
     requires { i < length w.now }
     ensures { (result ≡ get_or w.now i 0) × (result < 4294967296) }
 {
-    wide(w[i])
-}
-
-// A number that fits a word, as a word.
-pub fn narrow(x: usize) -> u32
-    requires { x < 4294967296 }
-    ensures { result ≡ x }
-{
-    x as u32
+    w[i] as usize
 }
 
 // The words from a up to e become 0.
@@ -77,10 +61,8 @@ pub fn clear_words(w: &mut [u32], a: usize, e: usize)
     requires { e ≤ length w.old }
     ensures { ClearIs w.old w.new a e }
 {
-    let mut i = a;
-    while i < e {
+    for i in a..e {
         w[i] = 0;
-        i += 1;
     }
 }
 
@@ -90,10 +72,8 @@ fn united(w: &[u32], a: usize, e: usize) -> u32
     ensures { UnitedIs w.now a e result }
 {
     let mut bits = 0;
-    let mut i = a;
-    while i < e {
-        bits = bits | w[i];
-        i += 1;
+    for i in a..e {
+        bits |= w[i];
     }
     bits
 }
@@ -103,12 +83,9 @@ fn clear_used(w: &mut [u32], a: usize, e: usize)
     requires { (a < e) × (e ≤ length w.old) }
     ensures { ClearIs w.old w.new a e }
 {
-    if w[a] == 0 {
-        if united(w, a, e) == 0 {
-            return;
-        }
+    if w[a] != 0 || united(w, a, e) != 0 {
+        clear_words(w, a, e);
     }
-    clear_words(w, a, e);
 }
 
 // All words become 0. Every other block is read first: a processor reads while it writes, and of a small sheet most words are 0 already.

@@ -2,31 +2,18 @@
 // code over it is safe on any that is lent.
 ghost use Rattle.std.specs.Prelude.{◌≡◌, ◌%◌, ◌<◌, get_or, set};
 
-// A number that a search found, or none.
-#[derive(Clone, Copy)]
-pub enum Found {
-    At(usize),
-    Nothing,
-}
-
 // The byte at i.
 pub fn byte(b: &[u8], i: usize) -> usize
     ensures { (result ≡ get_or b.now i 0) × (result < 256) }
 {
-    if i < b.len() {
-        return b[i] as usize;
-    }
-    0
+    if i < b.len() { usize::from(b[i]) } else { 0 }
 }
 
 // The word at i.
 pub fn word(w: &[u32], i: usize) -> usize
     ensures { (result ≡ get_or w.now i 0) × (result < 4294967296) }
 {
-    if i < w.len() {
-        return w[i] as usize;
-    }
-    0
+    if i < w.len() { w[i] as usize } else { 0 }
 }
 
 // The low 32 bits of x.

@@ -13,7 +13,8 @@ use Rattle.entry_points.specs.Values.{task_table, link_table, board_after, comma
 use Rattle.formulas.specs.Weights.{weight_of}
 use Rattle.zeldrupa.specs.Promises.{Ends, Gives, GivesSheet, GivesBundle, GivesWeight}
 use Rattle.entry_points.specs.Parts.{outcome_of, number_of, place_of, EndIs, PartIs, SheetIs, BundleIs}
-use Rattle.entry_points.specs.declared.ending.Outcome.{Outcome}
+use Rattle.std.specs.Prelude.{Result}
+use Rattle.refusals.specs.declared.Refusal.{Refusal}
 
 -- an area that is too short, and one that is long enough
 pub short : {A : Type 0} (a : Answer A) (n : ℕ) → n < fixed → long_enough fixed n a ≡ refused 13 fixed
@@ -45,7 +46,7 @@ module _ {A : Type 0} (f : A → ℕ) (a : Answer A) (work : List ℕ) where
       let e = short a (length work) h in
       record { returns = sym (ap number e); place = sym (ap (place_or f) e); area = untouched work h }
 
-  pub ends-part : (mid last : List ℕ) (o : Outcome) (p r : ℕ) → fixed ≤ length work → EndIs f a work mid o → last ≡ replicate (length mid) 0
+  pub ends-part : (mid last : List ℕ) (o : Result ℕ Refusal) (p r : ℕ) → fixed ≤ length work → EndIs f a work mid o → last ≡ replicate (length mid) 0
       → (r ≡ number_of o) × (p ≡ place_of o) → Ends f (long_enough fixed (length work) a) work last p r
   ends-part mid last o p r h part z c =
       let e = sym (enough a (length work) h) in
@@ -59,7 +60,7 @@ module _ (a : Answer (List ℕ)) (work out : List ℕ) where
   pub gives-short : length work < fixed → Gives (long_enough fixed (length work) a) work work out out fixed 13
   gives-short h = record { ends = ends-short length a work h; output = kept out 13 fixed ∙ sym (ap (written out) (short a (length work) h)) }
 
-  pub gives_part : (mid last out' : List ℕ) (o : Outcome) (p r : ℕ) → fixed ≤ length work → PartIs a work mid out out' o → last ≡ replicate (length mid) 0
+  pub gives_part : (mid last out' : List ℕ) (o : Result ℕ Refusal) (p r : ℕ) → fixed ≤ length work → PartIs a work mid out out' o → last ≡ replicate (length mid) 0
       → (r ≡ number_of o) × (p ≡ place_of o) → Gives (long_enough fixed (length work) a) work last out out' p r
   gives_part mid last out' o p r h part z c =
       record {
@@ -78,7 +79,7 @@ module _ (a : Answer Sheet) (work t l b : List ℕ) where
         board = sym (ap (board_after b) e);
       }
 
-  pub gives-sheet : (mid last t' l' b' : List ℕ) (o : Outcome) (p r : ℕ) → fixed ≤ length work → SheetIs a work mid t t' l l' b b' o → last ≡ replicate (length mid) 0
+  pub gives-sheet : (mid last t' l' b' : List ℕ) (o : Result ℕ Refusal) (p r : ℕ) → fixed ≤ length work → SheetIs a work mid t t' l l' b b' o → last ≡ replicate (length mid) 0
       → (r ≡ number_of o) × (p ≡ place_of o) → GivesSheet (long_enough fixed (length work) a) work last t t' l l' b b' p r
   gives-sheet mid last t' l' b' o p r h part z c =
       let e = sym (enough a (length work) h) in
@@ -99,7 +100,7 @@ module _ (a : Answer Bundle) (work c : List ℕ) (t : ℕ) where
         claim = sym (ap (claim_after t) e);
       }
 
-  pub gives-bundle : (mid last c' : List ℕ) (t' : ℕ) (o : Outcome) (p r : ℕ) → fixed ≤ length work → BundleIs a work mid c c' t t' o → last ≡ replicate (length mid) 0
+  pub gives-bundle : (mid last c' : List ℕ) (t' : ℕ) (o : Result ℕ Refusal) (p r : ℕ) → fixed ≤ length work → BundleIs a work mid c c' t t' o → last ≡ replicate (length mid) 0
       → (r ≡ number_of o) × (p ≡ place_of o) → GivesBundle (long_enough fixed (length work) a) work last c c' t t' p r
   gives-bundle mid last c' t' o p r h part z n =
       let e = sym (enough a (length work) h) in

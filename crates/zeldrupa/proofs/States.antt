@@ -18,7 +18,8 @@ use Rattle.stepping_machine.specs.Represents.{ChoiceIs, LeftIs, StampIs}
 use Rattle.stepping_machine.specs.Starts.{starting}
 use Rattle.zeldrupa.specs.Stepping.{start_answer, GivesState, state_number, GivesStep, GivesLeft, GivesProcessor, stamp_number, GivesStamp}
 use Rattle.entry_points.specs.Parts.{number_of, place_of, StateIs, NumbersIs}
-use Rattle.entry_points.specs.declared.ending.Outcome.{Outcome}
+use Rattle.std.specs.Prelude.{Result}
+use Rattle.refusals.specs.declared.Refusal.{Refusal}
 use Rattle.zeldrupa.proofs.Gives.{short, enough, all-zero, untouched, number-of, place-of}
 
 module _ (f : Sheet × Bundle → ℕ) (τ : Sheet → Bundle → State) (sheet bundle work state : List ℕ) where
@@ -49,7 +50,7 @@ module _ (f : Sheet × Bundle → ℕ) (τ : Sheet → Bundle → State) (sheet 
       given-13 (enough (long_enough fixed (length state) (starting sheet bundle)) (length work) h ∙ short (starting sheet bundle) (length state) g) work
       (rw (lt-ltb (length state) fixed g))
 
-  pub given-state : fixed ≤ length work → fixed ≤ length state → (mid work' state' : List ℕ) (o : Outcome) (p r : ℕ) → StateIs f τ sheet bundle work mid state state' o
+  pub given-state : fixed ≤ length work → fixed ≤ length state → (mid work' state' : List ℕ) (o : Result ℕ Refusal) (p r : ℕ) → StateIs f τ sheet bundle work mid state state' o
       → work' ≡ replicate (length mid) 0 → (r ≡ number_of o) × (p ≡ place_of o) → GivesState f τ sheet bundle work work' state state' p r
   unfolding start_answer
   given-state h g mid work' state' o p r part z c =

@@ -8,7 +8,6 @@ ghost use Rattle.zeldrupa.specs.Promises.{Gives, GivesSheet, GivesBundle, GivesC
 ghost use Rattle.zeldrupa.specs.Stepping.{GivesStart, GivesRun, GivesStep, GivesLeft, GivesProcessor, GivesStamp};
 
 use entry_points::{bundles, ending, reports, runs, sheets};
-use formulas::Weight;
 
 // Reads a sheet into its tables: two values a task, four a link; processors, limit, tasks, links, the unpacking time, and 1 for a cube into `board`.
 pub fn zeldrupa_read_sheet(
@@ -240,13 +239,13 @@ pub fn zeldrupa_weight(text: &[u8], letters: &[u32], place: &mut u64) -> u8
     ensures { GivesWeight text.now letters.now place.new result }
 {
     match formulas::weigh(text, letters) {
-        Weight::Of(v) => {
+        Ok(v) => {
             *place = v;
             0
         }
-        Weight::Refused(n, at) => {
-            *place = at as u64;
-            n
+        Err(refusal) => {
+            *place = refusal.place as u64;
+            refusal.number
         }
     }
 }

@@ -11,17 +11,11 @@ use Rattle.adjacency.proofs.chain_all.Goals as goal
 pub loop-l-init : goal.loop-l-init
 loop-l-init c = (omega (arith, c.links-l.ensures.0), rechained-none _ _, subst (λ (x : ℕ). ChainedFrom c.args.e (sheet_in c.args.w.now) x c.args.w.now) (sym c.links-l.ensures.0) c.requires.chained_from)
 
-pub overflow_sub-l : goal.overflow_sub-l
-overflow_sub-l c = omega (arith, c.loop-l-test.true)
-
 pub chain_one-requires : goal.chain_one-requires
 chain_one-requires c =
     let v = c.loop-l.invariant in
     let e = only-sheet (omega arith) c.requires.loaded v.1.only in
     record { loaded = only-loaded (omega arith) c.requires.loaded v.1.only; l_bound = rw e (omega (arith, c.loop-l-test.true, v.0)); chained_from = chains-still c.requires.loaded v.1 (omega (arith, c.loop-l-test.true)) v.2 }
-
-pub loop-l-smaller : goal.loop-l-smaller
-loop-l-smaller c = omega (arith, c.loop-l-test.true)
 
 pub loop-l-preserved : goal.loop-l-preserved
 loop-l-preserved c = let v = c.loop-l.invariant in let d = chains-more c.requires.loaded v.1 c.chain_one.ensures in (omega (arith, v.0), d.0, d.1)

@@ -7,6 +7,3 @@ use Rattle.adjacency.proofs.chain_all.Given as goal
 
 abbrev pub invariant-loop-l : goal.invariant-loop-l
 invariant-loop-l l = (l.l ≤ link_count (sheet_in l.initial.w)) × Rechained l.e l.initial.w l.w × ChainedFrom l.e (sheet_in l.initial.w) l.l l.w
-
-abbrev pub decreases-loop-l : goal.decreases-loop-l
-decreases-loop-l l = l.l

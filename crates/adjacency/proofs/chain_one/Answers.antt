@@ -49,4 +49,4 @@ returns c =
     let u = c.with_half.ensures in
     let v = c.with_half-2.ensures in
     chained-by _ _ c.requires.loaded.long (ranged c.args.w.now c.requires.loaded) c.requires.l_bound e.0 e.1 c.requires.chained_from c.word-x.ensures.0
-    c.word-y.ensures.0 (rw c.narrow.ensures (u.0 ∙ c.half.ensures)) (rw c.narrow.ensures u.1) (rw c.narrow-2.ensures v.0) (rw c.narrow-2.ensures v.1)
+    c.word-y.ensures.0 (u.0 ∙ c.half.ensures) u.1 v.0 v.1

@@ -1,16 +1,11 @@
 -- `begun` (src/lib.rt) keeps its contract.
-use Prim.Native.Nat.{◌-◌}
-use mathlib.Core.Path.{refl}
-use native.Mathlib.Omega.{arith}
-use Rattle.arrivals.proofs.Stepping.{halfway-none, halfway-more, halfway-end}
-use borrow.Author.Rules.{rules}
+use mathlib.Core.Path.{ap, ◌∙◌}
+use lib.ListN.{get_or, drop}
+use Rattle.std.proofs.lemmas.List.{get_or-drop, get_or-take}
+use Rattle.arrivals.specs.Layout.{ends_from}
 use Rattle.arrivals.proofs.begun.Goals as goal
 
-pub loop-k-init : goal.loop-k-init
-loop-k-init c = halfway-none _ _ (search rules)
-
-pub loop-k-preserved : goal.loop-k-preserved
-loop-k-preserved c = halfway-more c.loop-k.invariant c.loop-k-test.true refl
-
 pub returns : goal.returns
-returns c = halfway-end c.loop-k.invariant (omega arith)
+returns c =
+    let own = c.args.kept.now in
+    record { on = λ k h. ap (λ v. get_or v k 0) c.copy_from_slice.ensures.after ∙ get_or-take 16 (drop ends_from own) k 0 h ∙ get_or-drop ends_from own k 0 }

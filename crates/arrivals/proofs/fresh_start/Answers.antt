@@ -1,5 +1,4 @@
 -- `fresh_start` (src/lib.rt) keeps its contract.
-use Prim.Native.Nat.{◌-◌}
 use native.Mathlib.Omega.{arith}
 use Rattle.sheet.proofs.Rows.{ranged}
 use Rattle.arrivals.proofs.Unpacking.{receive-begins, receive-more, receive-small, receive-done}

@@ -1,5 +1,4 @@
 -- `gather` (src/lib.rt) keeps its contract: its loops.
-use Prim.Native.Nat.{◌-◌, ◌≤◌}
 use Rattle.sheet.specs.Tables.{sheet_in}
 use Rattle.adjacency.specs.Frames.{Only}
 use Rattle.arrivals.specs.Layout.{seen_from}
@@ -7,7 +6,4 @@ use Rattle.arrivals.specs.Steps.{GatheredTo}
 use Rattle.arrivals.proofs.gather.Given as goal
 
 abbrev pub invariant-loop-l : goal.invariant-loop-l
-invariant-loop-l l = (l.l ≤ l.m) × Only 0 seen_from l.initial.kept l.kept × GatheredTo (sheet_in l.w) l.l l.kept
-
-abbrev pub decreases-loop-l : goal.decreases-loop-l
-decreases-loop-l l = l.m - l.l
+invariant-loop-l l = Only 0 seen_from l.initial.kept l.kept × GatheredTo (sheet_in l.w) l.l l.kept

@@ -1,7 +1,5 @@
 -- `hops_from` (src/lib.rt) keeps its contract.
-use Prim.Native.Nat.{◌-◌}
 use native.Mathlib.Omega.{arith}
-use Rattle.sheet.specs.Hops.{hops}
 use Rattle.arrivals.proofs.Stepping.{halfway-none, halfway-more, row-end}
 use borrow.Author.Rules.{rules}
 use Rattle.arrivals.proofs.hops_from.Goals as goal

@@ -4,4 +4,4 @@ use Rattle.arrivals.proofs.reached.Goals as goal
 
 pub returns : goal.returns
 unfolding further
-returns c = λ i. record { at = c.chosen.ensures i; most = c.later.ensures i }
+returns c = λ i. record { at = c.chosen.ensures i; most = c.max.ensures i }

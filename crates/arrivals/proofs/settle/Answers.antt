@@ -13,8 +13,8 @@ overflow_sub-r c =
     let h = c.requires.kept in
     omega (arith, settled-sub (sheet_in w) (schedule_in w) c.args.kept.now c.args.t c.args.k c.args.a c.args.f (omega (arith, h.long)) c.requires.placeable.0 c.requires.f_bound.1 h.caches.gathered h.caches.counted c.requires.placeable.1 h.caches.ends c.word-x.ensures.0 c.store-y.ensures.0 c.word-z.ensures.0 c.word-v.ensures.0)
 
-pub narrow-requires-2 : goal.narrow-requires-2
-narrow-requires-2 c =
+pub overflow_cast-kept-2 : goal.overflow_cast-kept-2
+overflow_cast-kept-2 c =
     let w = c.args.w.now in
     let h = c.requires.kept in
     omega (arith, settled-sub (sheet_in w) (schedule_in w) c.args.kept.now c.args.t c.args.k c.args.a c.args.f (omega (arith, h.long)) c.requires.placeable.0 c.requires.f_bound.1 h.caches.gathered h.caches.counted c.requires.placeable.1 h.caches.ends c.word-x.ensures.0 c.store-y.ensures.0 c.word-z.ensures.0 c.word-v.ensures.0)
@@ -29,4 +29,4 @@ pub returns : goal.returns
 returns c =
     let w = c.args.w.now in
     let h = c.requires.kept in
-    settled-by (sheet_in w) (schedule_in w) c.args.kept.now c.args.t c.args.k c.args.a c.args.f (omega (arith, h.long)) c.requires.placeable.0 c.requires.f_bound.1 h.caches.gathered h.caches.counted c.requires.placeable.1 h.caches.ends _ c.narrow.ensures c.word-x.ensures.0 c.store-y.ensures.0 c.word-z.ensures.0 c.word-v.ensures.0 c.narrow-2.ensures refl
+    settled-by (sheet_in w) (schedule_in w) c.args.kept.now c.args.t c.args.k c.args.a c.args.f (omega (arith, h.long)) c.requires.placeable.0 c.requires.f_bound.1 h.caches.gathered h.caches.counted c.requires.placeable.1 h.caches.ends _ refl c.word-x.ensures.0 c.store-y.ensures.0 c.word-z.ensures.0 c.word-v.ensures.0 refl refl

@@ -10,4 +10,4 @@ overflow_add-finish c = let a = c.args in record { fits = omega (arith, c.way.en
 
 pub returns : goal.returns
 unfolding start_past
-returns c = simp (c.later.ensures, c.way.ensures)
+returns c = simp (c.max.ensures, c.way.ensures)

@@ -10,4 +10,4 @@ returns-then-source-k c = simp (eq-eqb _ _ c.if-source-k.true)
 
 pub returns-else-source-k : goal.returns-else-source-k
 unfolding start_unpacked
-returns-else-source-k c = simp (ne_eqb _ _ c.if-source-k.false) (omega (arith, c.later.ensures))
+returns-else-source-k c = simp (ne_eqb _ _ c.if-source-k.false) (omega (arith, c.max.ensures))

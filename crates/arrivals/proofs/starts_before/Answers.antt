@@ -1,5 +1,4 @@
 -- `starts_before` (src/lib.rt) keeps its contract.
-use Prim.Native.Nat.{◌-◌}
 use native.Mathlib.Omega.{arith}
 use Rattle.sheet.proofs.Rows.{task-index}
 use Rattle.arrivals.proofs.Reaching.{wait-begins, wait-done, wait-late, wait-more, wait-there}
@@ -23,18 +22,12 @@ start_by-requires c = (c.requires.kept.loaded, wait-there c.requires.kept.caches
 pub next-l-requires : goal.next-l-requires
 next-l-requires c = record { loaded = c.requires.kept.loaded; chained = c.requires.kept.caches.inward; l_bound = wait-there c.requires.kept.caches c.args.t c.args.k c.requires.t_bound.0 c.loop-i.invariant c.word-n.ensures.0 c.loop-i-test.true }
 
-pub overflow_add-i : goal.overflow_add-i
-overflow_add-i c = omega (arith, c.loop-i-test.true, c.word-n.ensures.1)
-
-pub loop-i-smaller : goal.loop-i-smaller
-loop-i-smaller c = omega (arith, c.loop-i-test.true)
-
 pub loop-i-preserved : goal.loop-i-preserved
 loop-i-preserved c =
     let d = c.requires.kept.caches in
     let g = c.loop-i.invariant in
     let m = wait-there d c.args.t c.args.k c.requires.t_bound.0 g c.word-n.ensures.0 c.loop-i-test.true in
-    wait-more d c.args.t c.args.k c.requires.t_bound.0 g m c.next-l.ensures.0 c.next-l.ensures.2 c.next-l.ensures.1 c.start_by.ensures c.later-start.ensures
+    wait-more d c.args.t c.args.k c.requires.t_bound.0 g m c.next-l.ensures.0 c.next-l.ensures.2 c.next-l.ensures.1 c.start_by.ensures c.max-start.ensures
 
 pub returns : goal.returns
 returns c = wait-done c.requires.kept.caches c.args.t c.args.k c.requires.t_bound.0 c.loop-i.invariant c.args.limit c.word-n.ensures.0 (omega (arith, c.loop-i-test.false))

@@ -1,7 +1,5 @@
 -- `starts_past` (src/lib.rt) keeps its contract.
-use Prim.Native.Nat.{◌-◌}
 use native.Mathlib.Omega.{arith}
-use Rattle.arrivals.specs.Lanes.{start_past}
 use Rattle.arrivals.proofs.Stepping.{halfway-none, halfway-more, halfway-end}
 use borrow.Author.Rules.{rules}
 use Rattle.arrivals.proofs.starts_past.Goals as goal

@@ -1,7 +1,5 @@
 -- `starts_unpacked` (src/lib.rt) keeps its contract.
-use Prim.Native.Nat.{◌-◌}
 use native.Mathlib.Omega.{arith}
-use Rattle.arrivals.specs.Lanes.{start_unpacked}
 use Rattle.arrivals.proofs.Stepping.{halfway-none, halfway-more, halfway-end, halfway-soon}
 use borrow.Author.Rules.{rules}
 use Rattle.arrivals.proofs.starts_unpacked.Goals as goal

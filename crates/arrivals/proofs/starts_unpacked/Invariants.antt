@@ -1,11 +1,7 @@
 -- `starts_unpacked` (src/lib.rt) keeps its contract: its loops.
-use Prim.Native.Nat.{◌-◌}
 use Rattle.arrivals.specs.Lanes.{start_unpacked}
 use Rattle.arrivals.proofs.Stepping.{Halfway}
 use Rattle.arrivals.proofs.starts_unpacked.Given as goal
 
 abbrev pub invariant-loop-k : goal.invariant-loop-k
 invariant-loop-k l = Halfway (start_unpacked l.source l.reach l.unpacking) l.initial.r.at l.k l.r.at
-
-abbrev pub decreases-loop-k : goal.decreases-loop-k
-decreases-loop-k l = 16 - l.k

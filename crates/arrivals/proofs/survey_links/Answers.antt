@@ -1,6 +1,4 @@
 -- `survey_links` (src/lib.rt) keeps its contract.
-use Prim.Native.Nat.{◌-◌}
-use mathlib.Core.Path.{◌∙◌}
 use native.Mathlib.Omega.{arith}
 use Rattle.sheet.proofs.Rows.{task-index, ranged}
 use Rattle.arrivals.proofs.Surveys.{survey-begins, survey-done, survey-more, there-link, there-more, there-soon}
@@ -18,7 +16,7 @@ starts_with-starts-requires c =
     let m = there-more c.requires.chained c.requires.gathered.0 c.args.t c.requires.t_bound.0 g c.word-n.ensures.0 c.loop-i-test.true in
     let l = there-link c.requires.chained c.requires.gathered.0 c.args.t c.requires.t_bound.0 g c.requires.t_bound.1 m in
     let soon = there-soon c.requires.chained c.requires.gathered.0 c.args.t c.requires.t_bound.0 g (ranged c.args.w.now c.requires.loaded.0) c.requires.ends.1 in
-    record { loaded = (c.requires.loaded.0, l.0, l.2); early = (c.requires.ends.1, soon, c.cube-cube.ensures, c.narrow-unpacking.ensures ∙ c.unpacking.ensures.0) }
+    record { loaded = (c.requires.loaded.0, l.0, l.2); early = (c.requires.ends.1, soon, c.cube-cube.ensures, c.unpacking-unpacking.ensures.0) }
 
 pub survey_link-requires : goal.survey_link-requires
 survey_link-requires c =
@@ -30,12 +28,6 @@ pub next-l-requires : goal.next-l-requires
 next-l-requires c =
     let m = there-more c.requires.chained c.requires.gathered.0 c.args.t c.requires.t_bound.0 c.loop-i.invariant c.word-n.ensures.0 c.loop-i-test.true in
     record { loaded = c.requires.loaded.0; chained = c.requires.chained; l_bound = m }
-
-pub overflow_add-i : goal.overflow_add-i
-overflow_add-i c = omega (arith, c.loop-i-test.true, c.word-n.ensures.1)
-
-pub loop-i-smaller : goal.loop-i-smaller
-loop-i-smaller c = omega (arith, c.loop-i-test.true)
 
 pub loop-i-preserved : goal.loop-i-preserved
 loop-i-preserved c =

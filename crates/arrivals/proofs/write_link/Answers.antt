@@ -2,6 +2,7 @@
 use native.Mathlib.Omega.{arith}
 use Rattle.arrivals.specs.Steps.{count_words}
 use lib.ListN.{length-set}
+use mathlib.Core.Path.{refl}
 use Rattle.arrivals.proofs.write_link.Goals as goal
 
 pub bounds-kept-v-2 : goal.bounds-kept-v-2
@@ -21,4 +22,4 @@ shape_of-kept c = simp length-set
 
 pub returns : goal.returns
 unfolding count_words
-returns c = simp (c.narrow-5.ensures, c.narrow-4.ensures, c.narrow-3.ensures, c.narrow-2.ensures, c.narrow.ensures)
+returns c = refl

@@ -1,19 +1,20 @@
 -- `better` (src/lib.rt) keeps its contract.
-use mathlib.Core.Path.{refl}
+use Rattle.std.specs.Prelude.{Ok}
+use mathlib.Core.Path.{◌∙◌, ap, refl}
 use Rattle.better.proofs.Handing.{is-first, is-second, is-refused}
 use Rattle.better.proofs.better.Goals as goal
 
-pub returns-in-First : goal.returns-in-First
-returns-in-First c =
+pub returns-in-Ok-First : goal.returns-in-Ok-First
+returns-in-Ok-First c =
     let lent = c.args in
-    is-first lent.sheet.now lent.first lent.second lent.work.now _ _ c.choose.ensures c.in-First.is
+    is-first lent.sheet.now lent.first lent.second lent.work.now _ _ c.choose.ensures (c.in-Ok-First.is ∙ ap Ok c.in-Ok-First.field-0-is)
 
-pub returns-in-Second : goal.returns-in-Second
-returns-in-Second c =
+pub returns-in-Ok-Second : goal.returns-in-Ok-Second
+returns-in-Ok-Second c =
     let lent = c.args in
-    is-second lent.sheet.now lent.first lent.second lent.work.now _ _ c.choose.ensures c.in-Second.is
+    is-second lent.sheet.now lent.first lent.second lent.work.now _ _ c.choose.ensures (c.in-Ok-Second.is ∙ ap Ok c.in-Ok-Second.field-0-is)
 
-pub returns-in-Refused : goal.returns-in-Refused
-returns-in-Refused c =
+pub returns-in-Err : goal.returns-in-Err
+returns-in-Err c =
     let lent = c.args in
-    is-refused lent.sheet.now lent.first lent.second lent.work.now _ _ c.choose.ensures _ _ _ c.in-Refused.is refl refl
+    is-refused lent.sheet.now lent.first lent.second lent.work.now _ _ c.choose.ensures _ _ c.in-Err.is refl refl

@@ -14,14 +14,14 @@ decreases-product l = 3 * l.room + 1
 abbrev pub decreases-sum : goal.decreases-sum
 decreases-sum l = 3 * l.room + 2
 
-abbrev pub invariant-product-loop-q : goal.invariant-product-loop-q
-invariant-product-loop-q l = Multiplying l.text l.letters l.from l.room l.at l.value
+abbrev pub invariant-product-loop-part : goal.invariant-product-loop-part
+invariant-product-loop-part l = Multiplying l.text l.letters l.from l.room l.at l.value
 
-abbrev pub decreases-product-loop-q : goal.decreases-product-loop-q
-decreases-product-loop-q l = length l.text - l.at
+abbrev pub decreases-product-loop-part : goal.decreases-product-loop-part
+decreases-product-loop-part l = length l.text - l.at
 
-abbrev pub invariant-sum-loop-q : goal.invariant-sum-loop-q
-invariant-sum-loop-q l = Summing l.text l.letters l.from l.room l.at l.value
+abbrev pub invariant-sum-loop-part : goal.invariant-sum-loop-part
+invariant-sum-loop-part l = Summing l.text l.letters l.from l.room l.at l.value
 
-abbrev pub decreases-sum-loop-q : goal.decreases-sum-loop-q
-decreases-sum-loop-q l = length l.text - l.at
+abbrev pub decreases-sum-loop-part : goal.decreases-sum-loop-part
+decreases-sum-loop-part l = length l.text - l.at

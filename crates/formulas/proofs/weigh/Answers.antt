@@ -1,34 +1,25 @@
 -- `weigh` (src/lib.rt) keeps its contract.
-use mathlib.Core.Path.{sym, subst, ◌∙◌}
-use Rattle.formulas.specs.Grammar.{most_open}
-use Rattle.formulas.specs.Parts.{SumIs}
-use Rattle.formulas.proofs.Weighs.{weigh-outside, weigh-tail, weigh-of, weigh-no}
+use mathlib.Core.Path.{sym, ◌∙◌}
+use Rattle.std.proofs.lemmas.Result.{err_from_is_err_and}
+use Rattle.formulas.proofs.Weighs.{whole-stops, whole-read, weigh-tail, weigh-none, weigh-of, weigh-no}
 use Rattle.formulas.proofs.weigh.Goals as goal
 
-pub returns-then-e-text : goal.returns-then-e-text
-returns-then-e-text c =
-    let a = c.args in
-    let b = a.text.now in
-    let ls = a.letters.now in
-    weigh-tail b ls _ _ (subst (SumIs b ls 0 most_open) c.in-At.is c.sum.ensures) c.if-e-text.true
+pub returns-in_err-whole : goal.returns-in_err-whole
+returns-in_err-whole c =
+    let p = err_from_is_err_and c.from_residual.result c.from_residual.ensures.1 in
+    rw (p.1, p.2) (whole-stops _ _ _ _ c.in_err-whole.ensures.cases c.sum.ensures)
 
-pub returns-then-is_weight : goal.returns-then-is_weight
-returns-then-is_weight c =
-    let a = c.args in
-    let b = a.text.now in
-    let ls = a.letters.now in
-    weigh-of b ls _ _ (subst (SumIs b ls 0 most_open) c.in-At.is c.sum.ensures) c.if-e-text.false (sym c.is_weight.ensures ∙ c.if-is_weight.true)
+pub returns-then-whole-text : goal.returns-then-whole-text
+returns-then-whole-text c = rw c.outside.ensures (weigh-tail _ _ _ _ (whole-read _ _ _ _ _ c.in_ok-whole.ensures.cases c.in_ok-whole.ensures.variant c.sum.ensures) c.if-whole-text.true)
 
-pub returns-in-Outside : goal.returns-in-Outside
-returns-in-Outside c =
-    let a = c.args in
-    let b = a.text.now in
-    let ls = a.letters.now in
-    weigh-outside b ls _ (subst (SumIs b ls 0 most_open) c.in-Outside.is c.sum.ensures)
+pub returns-in-Some : goal.returns-in-Some
+returns-in-Some c =
+    rw c.from.ensures
+    (weigh-of _ _ _ _ (whole-read _ _ _ _ _ c.in_ok-whole.ensures.cases c.in_ok-whole.ensures.variant c.sum.ensures) c.if-whole-text.false _ c.in-Some.is (sym c.is_weight.ensures ∙ c.if-is_weight.true))
 
-pub returns-else-is_weight : goal.returns-else-is_weight
-returns-else-is_weight c =
-    let entry = c.args in
-    let b = entry.text.now in
-    let ls = entry.letters.now in
-    weigh-no b ls _ _ (subst (SumIs b ls 0 most_open) c.in-At.is c.sum.ensures) c.if-e-text.false (sym c.is_weight.ensures ∙ c.if-is_weight.false)
+pub returns-in_default : goal.returns-in_default
+returns-in_default c =
+    weigh-no _ _ _ _ (whole-read _ _ _ _ _ c.in_ok-whole.ensures.cases c.in_ok-whole.ensures.variant c.sum.ensures) c.if-whole-text.false _ c.in-Some.is (sym c.is_weight.ensures ∙ c.if-is_weight.false)
+
+pub returns-in_default-2 : goal.returns-in_default-2
+returns-in_default-2 c = weigh-none _ _ _ _ (whole-read _ _ _ _ _ c.in_ok-whole.ensures.cases c.in_ok-whole.ensures.variant c.sum.ensures) c.if-whole-text.false c.in_default.is

@@ -8,11 +8,11 @@ pub list_planned-requires : goal.list_planned-requires
 list_planned-requires c =
     let b = c.args.sheet.now in
     let h = c.read.ensures in
-    let q = c.in-Read.is in
+    let q = c.in-Ok.is in
     record { loaded = open-loaded h q; levelled = open-levelled h q; single = read-single b _ (open-value h q); stands = open-stands b h q }
 
-pub returns-in-Refused : goal.returns-in-Refused
-returns-in-Refused c = list-refused c.args.sheet.now c.read.ensures _ _ _ c.in-Refused.is c.wide.ensures.0 c.list_refusal.ensures
+pub returns-in-Err : goal.returns-in-Err
+returns-in-Err c = list-refused c.args.sheet.now c.read.ensures _ c.in-Err.is c.list_refusal.ensures
 
-pub returns-in-Read : goal.returns-in-Read
-returns-in-Read c = list_read c.args.sheet.now c.read.ensures c.in-Read.is _ c.list_planned.auto.w c.list_planned.ensures
+pub returns-in-Ok : goal.returns-in-Ok
+returns-in-Ok c = list_read c.args.sheet.now c.read.ensures c.in-Ok.is _ c.list_planned.auto.w c.list_planned.ensures

@@ -5,4 +5,4 @@ use Rattle.numbers.proofs.get16.Goals as goal
 
 pub returns : goal.returns
 unfolding number_at
-returns c = simp add-one (omega arith)
+returns c = omega (arith, c.from.ensures, simp add-one at c.from-2.ensures)

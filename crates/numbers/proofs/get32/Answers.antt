@@ -8,4 +8,4 @@ pub returns : goal.returns
 unfolding number_at
 returns c =
     let high = simp add-two at c.get16-2.ensures in
-    omega arith
+    omega (arith, high, c.get16.ensures, c.from.ensures, c.from-2.ensures)

@@ -10,10 +10,10 @@ pub ready_arrival-a-requires : goal.ready_arrival-a-requires
 ready_arrival-a-requires c = record { arrived = kept-arrived c.requires.choosing.0.kept c.args.t c.requires.choosing.0.task; chained = (c.requires.choosing.0.kept.caches.inward, c.requires.choosing.0.early) }
 
 pub without_join-requires : goal.without_join-requires
-without_join-requires c = record { choosing = c.requires.choosing; a_value = c.ready_arrival-a.ensures.0; rival = c.rival_of-rival.ensures; none_value = sym (ap found_of c.in-Nothing.is) ∙ c.join_on.ensures.0 }
+without_join-requires c = record { rival = c.rival_of-rival.ensures; none_value = sym (ap found_of c.in-None.is) ∙ c.join_on.ensures.0 }
 
-pub returns-in-At : goal.returns-in-At
-returns-in-At c =
+pub returns-in-Some : goal.returns-in-Some
+returns-in-Some c =
     let found = c.join_on.ensures in
-    let here = c.in-At.is in
+    let here = c.in-Some.is in
     (choice-join _ _ _ (sym (ap found_of here) ∙ found.0), below_at 16 here found.1)

@@ -1,6 +1,7 @@
 -- `four_of` (src/lib.rt) keeps its contract.
+use native.Mathlib.Omega.{arith}
 use Rattle.placing.proofs.Due.{last-four}
 use Rattle.placing.proofs.four_of.Goals as goal
 
-pub returns : goal.returns
-returns c = last-four _ _ c.if-j-eq0.false c.if-j-eq1.false c.if-j-eq2.false
+pub returns-in_default : goal.returns-in_default
+returns-in_default c = last-four c.args.x c.args.j (λ e. omega arith) (λ e. omega arith) (λ e. omega arith)

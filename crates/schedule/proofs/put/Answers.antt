@@ -22,4 +22,4 @@ shape_of-w c = simp length-set (simp (c.put_turn.ensures, turn-long, c.put_place
 
 pub returns : goal.returns
 unfolding put_words
-returns c = simp (c.narrow-3.ensures, c.narrow-2.ensures, c.narrow.ensures, c.put_turn.ensures, c.put_place.ensures)
+returns c = simp (c.put_turn.ensures, c.put_place.ensures)

@@ -4,4 +4,4 @@ use Rattle.schedule.proofs.put_place.Goals as goal
 
 pub returns : goal.returns
 unfolding place_words
-returns c = simp (c.narrow.ensures, c.word-x.ensures.0)
+returns c = simp c.word-x.ensures.0

@@ -4,4 +4,4 @@ use Rattle.schedule.proofs.put_turn.Goals as goal
 
 pub returns : goal.returns
 unfolding turn_words
-returns c = simp (c.narrow.ensures, c.word-x.ensures.0)
+returns c = simp c.word-x.ensures.0

@@ -10,8 +10,8 @@ pub returns : goal.returns
 returns c =
     let w = c.args.w.now in
     let t = c.args.t in (
-      c.minus.ensures
+      c.saturating_sub.ensures
           ∙ ap₂ ◌-◌ (c.finish.ensures.0 ∙ finish-in w t c.requires.t_bound) (c.work.ensures.0 ∙ work_in w t c.requires.t_bound)
           ∙ sym (start-in w t c.requires.t_bound),
-      omega (arith, c.minus.ensures, c.finish.ensures.1),
+      omega (arith, c.saturating_sub.ensures, c.finish.ensures.1),
     )

@@ -5,8 +5,8 @@ use Rattle.sheet.proofs.front.Goals as goal
 
 pub returns-then-cube : goal.returns-then-cube
 unfolding front_by
-returns-then-cube c = (rw c.if-cube.true (omega (arith, c.timed.ensures.0)), omega (arith, c.timed.ensures.1))
+returns-then-cube c = (rw c.if-cube.true (omega (arith, c.timed-start.ensures.0)), omega (arith, c.timed-start.ensures.1))
 
-pub returns : goal.returns
+pub returns-else-cube : goal.returns-else-cube
 unfolding front_by
-returns c = (rw c.if-cube.false (omega (arith, c.timed-2.ensures.0)), omega (arith, c.timed-2.ensures.1))
+returns-else-cube c = (rw c.if-cube.false (omega (arith, c.timed-start.ensures.0)), omega (arith, c.timed-start.ensures.1))

@@ -10,13 +10,13 @@ use Rattle.turns.proofs.put_on.Goals as goal
 pub settle-requires : goal.settle-requires
 settle-requires c =
     let work = c.work.ensures.0 in
-    let u = putting c.requires.going c.requires.j_bound.0 c.requires.j_bound.1 c.requires.j_bound.2 c.requires.t_value.0 c.requires.t_value.1 c.requires.j_bound.3 work c.placed-n.ensures.1 c.opened.ensures.0 c.later-open.ensures in
+    let u = putting c.requires.going c.requires.j_bound.0 c.requires.j_bound.1 c.requires.j_bound.2 c.requires.t_value.0 c.requires.t_value.1 c.requires.j_bound.3 work c.placed-n.ensures.1 c.opened.ensures.0 c.max-open.ensures in
     record { kept = c.requires.going.kept; placeable = (u.can, u.surveyed); f_bound = (omega (arith, u.small), u.late) }
 
 pub release-requires : goal.release-requires
 release-requires c =
     let work = c.work.ensures.0 in
-    let u = putting c.requires.going c.requires.j_bound.0 c.requires.j_bound.1 c.requires.j_bound.2 c.requires.t_value.0 c.requires.t_value.1 c.requires.j_bound.3 work c.placed-n.ensures.1 c.opened.ensures.0 c.later-open.ensures in
+    let u = putting c.requires.going c.requires.j_bound.0 c.requires.j_bound.1 c.requires.j_bound.2 c.requires.t_value.0 c.requires.t_value.1 c.requires.j_bound.3 work c.placed-n.ensures.1 c.opened.ensures.0 c.max-open.ensures in
     let ends = c.settle.ensures in
     let all = enough₁ u ends.0 ends.1 in
     record { kept_length_in_bounds = all.0; enough = all.1 }
@@ -24,7 +24,7 @@ release-requires c =
 pub put-requires : goal.put-requires
 put-requires c =
     let work = c.work.ensures.0 in
-    let u = putting c.requires.going c.requires.j_bound.0 c.requires.j_bound.1 c.requires.j_bound.2 c.requires.t_value.0 c.requires.t_value.1 c.requires.j_bound.3 work c.placed-n.ensures.1 c.opened.ensures.0 c.later-open.ensures in
+    let u = putting c.requires.going c.requires.j_bound.0 c.requires.j_bound.1 c.requires.j_bound.2 c.requires.t_value.0 c.requires.t_value.1 c.requires.j_bound.3 work c.placed-n.ensures.1 c.opened.ensures.0 c.max-open.ensures in
     let ends = c.settle.ensures in
     record {
       fixed_in_bounds = c.requires.going.kept.loaded.long;
@@ -40,7 +40,7 @@ put-requires c =
 pub count_links-requires : goal.count_links-requires
 count_links-requires c =
     let work = c.work.ensures.0 in
-    let u = putting c.requires.going c.requires.j_bound.0 c.requires.j_bound.1 c.requires.j_bound.2 c.requires.t_value.0 c.requires.t_value.1 c.requires.j_bound.3 work c.placed-n.ensures.1 c.opened.ensures.0 c.later-open.ensures in
+    let u = putting c.requires.going c.requires.j_bound.0 c.requires.j_bound.1 c.requires.j_bound.2 c.requires.t_value.0 c.requires.t_value.1 c.requires.j_bound.3 work c.placed-n.ensures.1 c.opened.ensures.0 c.max-open.ensures in
     let ends = c.settle.ensures in
     let all = walks₃ u ends.0 ends.1 c.release.ensures c.put.ensures c.requires.keyed in
     record { loaded = all.0; chained = all.1.0; k_bound = all.1.1.0; single = all.1.1.1.0; gathered = all.1.1.1.1.0; levelled = all.1.1.1.1.1.0; keyed_beside = all.1.1.1.1.1.1 }
@@ -48,7 +48,7 @@ count_links-requires c =
 pub returns : goal.returns
 returns c =
     let work = c.work.ensures.0 in
-    let u = putting c.requires.going c.requires.j_bound.0 c.requires.j_bound.1 c.requires.j_bound.2 c.requires.t_value.0 c.requires.t_value.1 c.requires.j_bound.3 work c.placed-n.ensures.1 c.opened.ensures.0 c.later-open.ensures in
+    let u = putting c.requires.going c.requires.j_bound.0 c.requires.j_bound.1 c.requires.j_bound.2 c.requires.t_value.0 c.requires.t_value.1 c.requires.j_bound.3 work c.placed-n.ensures.1 c.opened.ensures.0 c.max-open.ensures in
     let ends = c.settle.ensures in
     let released = c.release.ensures in
     let written = c.put.ensures in

@@ -8,10 +8,10 @@ use Rattle.turns.proofs.Going.{later-turns}
 use Rattle.turns.proofs.take_turn.Goals as goal
 
 pub place_task-requires : goal.place_task-requires
-place_task-requires c = record { going = c.requires.going; j_bound = (c.requires.j_bound, below_at _ c.in-At.is c.first_ready.ensures.1); t_value = first-is-ready _ _ _ (sym (ap found_of c.in-At.is) ∙ c.first_ready.ensures.0); keyed = c.requires.keyed }
+place_task-requires c = record { going = c.requires.going; j_bound = (c.requires.j_bound, below_at _ c.in-Some.is c.first_ready.ensures.1); t_value = first-is-ready _ _ _ (sym (ap found_of c.in-Some.is) ∙ c.first_ready.ensures.0); keyed = c.requires.keyed }
 
-pub returns-in-Nothing : goal.returns-in-Nothing
-returns-in-Nothing c = (turn-none _ _ (sym (ap found_of c.in-Nothing.is) ∙ c.first_ready.ensures.0), later-turns (omega arith) c.requires.going, c.requires.keyed)
+pub returns-in-None : goal.returns-in-None
+returns-in-None c = (turn-none _ _ (sym (ap found_of c.in-None.is) ∙ c.first_ready.ensures.0), later-turns (omega arith) c.requires.going, c.requires.keyed)
 
-pub returns-in-At : goal.returns-in-At
-returns-in-At c = (turn-some _ _ (sym (ap found_of c.in-At.is) ∙ c.first_ready.ensures.0) c.place_task.ensures.0, c.place_task.ensures.1, c.place_task.ensures.2)
+pub returns-in-Some : goal.returns-in-Some
+returns-in-Some c = (turn-some _ _ (sym (ap found_of c.in-Some.is) ∙ c.first_ready.ensures.0) c.place_task.ensures.0, c.place_task.ensures.1, c.place_task.ensures.2)

@@ -1,5 +1,4 @@
 -- `clear` (src/lib.rt) keeps its contract.
-use Prim.Native.Nat.{◌-◌}
 use mathlib.Core.Path.{◌∙◌}
 use native.Mathlib.Omega.{arith}
 use Rattle.workspace.proofs.Clearing.{cleared-none, cleared-then, cleared-all}

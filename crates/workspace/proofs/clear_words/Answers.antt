@@ -1,5 +1,4 @@
 -- `clear_words` (src/lib.rt) keeps its contract.
-use Prim.Native.Nat.{◌-◌}
 use Rattle.workspace.proofs.Clearing.{clearing-ends, clearing-more, clearing-starts}
 use mathlib.Core.Path.{refl}
 use native.Mathlib.Omega.{arith}

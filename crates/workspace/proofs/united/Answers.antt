@@ -1,5 +1,4 @@
 -- `united` (src/lib.rt) keeps its contract.
-use Prim.Native.Nat.{◌-◌}
 use native.Mathlib.Omega.{arith}
 use Rattle.workspace.proofs.Clearing.{united-none, united-more}
 use Rattle.workspace.proofs.united.Goals as goal

@@ -4,8 +4,8 @@ use Rattle.formulas.specs.Parts.{answer_of}
 use Rattle.zeldrupa.proofs.Gives.{weight-given, weight-refused}
 use Rattle.zeldrupa.proofs.zeldrupa_weight.Goals as goal
 
-pub returns-in-Of : goal.returns-in-Of
-returns-in-Of c = weight-given _ _ _ (sym (ap answer_of c.in-Of.is) ∙ c.weigh.ensures)
+pub returns-in-Ok : goal.returns-in-Ok
+returns-in-Ok c = weight-given _ _ _ (sym (ap answer_of c.in-Ok.is) ∙ c.weigh.ensures)
 
-pub returns-in-Refused : goal.returns-in-Refused
-returns-in-Refused c = weight-refused _ _ _ _ (sym (ap answer_of c.in-Refused.is) ∙ c.weigh.ensures)
+pub returns-in-Err : goal.returns-in-Err
+returns-in-Err c = weight-refused _ _ _ _ (sym (ap answer_of c.in-Err.is) ∙ c.weigh.ensures)

@@ -2,17 +2,17 @@
 use Rattle.admission.proofs.Admits.{freed-none, freed-right, freed-wrong}
 use Rattle.admission.proofs.judge.freed.Goals as goal
 
-pub returns-then-met-c : goal.returns-then-met-c
-returns-then-met-c c = freed-none _ _ _ _ _ _ _ _ c.if-met-c.true
+pub returns-then-met-outline : goal.returns-then-met-outline
+returns-then-met-outline c = freed-none _ _ _ _ _ _ c.if-met-outline.true
 
-pub shape_of-w-in-At : goal.shape_of-w-in-At
-shape_of-w-in-At c = c.wrong_release.ensures.kept.long
+pub shape_of-w-in-Some : goal.shape_of-w-in-Some
+shape_of-w-in-Some c = c.wrong_release.ensures.kept.long
 
-pub returns-in-At : goal.returns-in-At
-returns-in-At c = freed-wrong _ _ _ _ _ _ _ _ _ _ c.wrong_release.ensures _ c.in-At.is
+pub returns-in-Some : goal.returns-in-Some
+returns-in-Some c = freed-wrong _ _ _ _ _ _ _ _ c.wrong_release.ensures _ c.in-Some.is
 
-pub shape_of-w-in-Nothing : goal.shape_of-w-in-Nothing
-shape_of-w-in-Nothing c = c.wrong_release.ensures.kept.long
+pub shape_of-w-in-None : goal.shape_of-w-in-None
+shape_of-w-in-None c = c.wrong_release.ensures.kept.long
 
-pub returns-in-Nothing : goal.returns-in-Nothing
-returns-in-Nothing c = freed-right _ _ _ _ _ _ _ _ _ _ c.wrong_release.ensures c.in-Nothing.is
+pub returns-in-None : goal.returns-in-None
+returns-in-None c = freed-right _ _ _ _ _ _ _ _ c.wrong_release.ensures c.in-None.is

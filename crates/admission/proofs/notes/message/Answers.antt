@@ -5,4 +5,4 @@ use Rattle.admission.proofs.notes.message.Goals as goal
 
 pub returns : goal.returns
 unfolding message_at
-returns c = (simp (c.get8-c.ensures.0, c.get16-l.ensures), search rules)
+returns c = (simp (c.from-c.ensures, c.from-l.ensures, c.get16.ensures), search rules)

@@ -5,5 +5,5 @@ use Rattle.admission.proofs.notes.note.Goals as goal
 pub returns-then-word-eq0 : goal.returns-then-word-eq0
 returns-then-word-eq0 c = note-new _ _ _ _ _ _ c.word.ensures.0 c.if-word-eq0.true c.put.ensures
 
-pub returns : goal.returns
-returns c = note-old _ _ _ _ _ _ c.word.ensures.0 c.if-word-eq0.false c.put-2.ensures
+pub returns-else-word-eq0 : goal.returns-else-word-eq0
+returns-else-word-eq0 c = note-old _ _ _ _ _ _ c.word.ensures.0 c.if-word-eq0.false c.put-else-word-eq0.ensures

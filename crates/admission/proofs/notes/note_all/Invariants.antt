@@ -1,4 +1,4 @@
--- `note_all` (src/notes.rt) keeps its contract: its loops. `b` is behind the byte that was read.
+-- `note_all` (src/notes.rt) keeps its contract: its loops.
 use Prim.Native.Nat.{◌-◌}
 use Rattle.admission.proofs.Noted.{Noting}
 use Rattle.admission.proofs.notes.note_all.Given as goal

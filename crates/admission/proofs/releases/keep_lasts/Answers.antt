@@ -1,5 +1,4 @@
 -- `keep_lasts` (src/releases.rt) keeps its contract.
-use Prim.Native.Nat.{◌-◌}
 use native.Mathlib.Omega.{arith}
 use mathlib.Core.Path.{◌∙◌}
 use Rattle.admission.proofs.Keeping.{keeping-starts, keeping-more, keeping-ends, from-copy}
@@ -7,21 +6,20 @@ use Rattle.admission.proofs.releases.keep_lasts.Goals as goal
 
 pub loop-l-init : goal.loop-l-init
 loop-l-init c =
-    let p = c.requires in
     let h = c.copy_runs.ensures in
-    (keeping-starts _ _ _ _ h p.0.few_tasks, omega arith, p.0, omega (arith, p.1, h.apart.long))
+    (keeping-starts _ _ _ _ h c.args.v.few_tasks, omega (arith, c.requires, h.apart.long))
 
 pub keep_link-requires : goal.keep_link-requires
-keep_link-requires c = let i = c.loop-l.invariant in (i.2, omega (arith, i.2.few_links, c.loop-l-test.true), omega (arith, i.3, i.0.apart.long))
+keep_link-requires c = let i = c.loop-l.invariant in (omega (arith, c.args.v.few_links, c.loop-l-test.true), omega (arith, i.1, i.0.apart.long))
 
 pub loop-l-preserved : goal.loop-l-preserved
 loop-l-preserved c =
     let i = c.loop-l.invariant in
     let t = c.loop-l-test.true in
-    (keeping-more i.0 _ t i.3 c.keep_link.ensures, omega arith, i.2, i.3)
+    (keeping-more i.0 _ t i.1 c.keep_link.ensures, i.1)
 
 pub shape_of-w : goal.shape_of-w
 shape_of-w c = c.loop-l.invariant.0.apart.long ∙ c.copy_runs.ensures.apart.long
 
 pub returns : goal.returns
-returns c = let i = c.loop-l.invariant in from-copy c.copy_runs.ensures (keeping-ends i.0 c.loop-l-test.false i.1)
+returns c = let i = c.loop-l.invariant in from-copy c.copy_runs.ensures (keeping-ends i.0 c.loop-l-test.false c.loop-l.auto.l-end)

@@ -10,5 +10,5 @@ returns c =
     let sheet = c.args.sheet.now in
     keep-by sheet _ _ _ _ _ c.byte-source.result _ _ _ _ c.word-old.result _ _ _
     (byte-there sheet _ _ _ c.byte-source.ensures.0 c.source_at.ensures) c.byte-source.ensures.1 (byte-there sheet _ _ _ c.byte-target.ensures.0 c.target_at.ensures)
-    c.word-a.ensures c.word-t.ensures c.word-sent.ensures refl c.word-old.ensures (c.later-last.ensures ∙ ap (λ (n : ℕ). max c.word-old.result n) c.either.ensures)
+    c.word-a.ensures c.word-t.ensures c.word-sent.ensures refl c.word-old.ensures (c.max-last.ensures ∙ ap (λ (n : ℕ). max c.word-old.result n) c.either.ensures)
     c.put.ensures c.either-2.ensures c.put-2.ensures

@@ -1,4 +1,4 @@
--- `wrong_release` (src/releases.rt) keeps its contract: its loops. `g` is the loop, `b` the byte that was read, `z` its size.
+-- `wrong_release` (src/releases.rt) keeps its contract: its loops. `g` is the loop, `z` its size.
 use Prim.Native.Nat.{◌-◌}
 use Rattle.admission.proofs.Freeing.{Freeing}
 use Rattle.admission.proofs.releases.wrong_release.Given as goal

@@ -11,5 +11,5 @@ returns-then-receive c = simp (c.if-send.false, c.if-receive.true)
 pub returns-then-order : goal.returns-then-order
 returns-then-order c = simp (c.if-send.false, c.if-receive.false, c.if-order.true)
 
-pub returns : goal.returns
-returns c = simp (c.if-send.false, c.if-receive.false, c.if-order.false)
+pub returns-else-order : goal.returns-else-order
+returns-else-order c = simp (c.if-send.false, c.if-receive.false, c.if-order.false)

@@ -7,6 +7,6 @@ pub returns-then-inside : goal.returns-then-inside
 unfolding order_by
 returns-then-inside c = simp (c.if-inside.true, leb-not c.args.source c.args.target)
 
-pub returns : goal.returns
+pub returns-else-inside : goal.returns-else-inside
 unfolding order_by
-returns c = simp c.if-inside.false
+returns-else-inside c = simp c.if-inside.false

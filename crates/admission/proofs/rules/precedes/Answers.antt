@@ -5,8 +5,8 @@ use Rattle.admission.proofs.rules.precedes.Goals as goal
 
 pub returns-then-x-y : goal.returns-then-x-y
 unfolding ahead
-returns-then-x-y c = simp (ne_eqb _ _ c.if-x-y.true)
+returns-then-x-y c = simp (eq-eqb _ _ c.if-x-y.true)
 
-pub returns : goal.returns
+pub returns-else-x-y : goal.returns-else-x-y
 unfolding ahead
-returns c = simp (eq-eqb _ _ c.if-x-y.false)
+returns-else-x-y c = simp (ne_eqb _ _ c.if-x-y.false)

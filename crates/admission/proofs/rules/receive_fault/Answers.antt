@@ -10,8 +10,8 @@ returns-then-inside c = simp c.if-inside.true
 
 pub returns-then-got-lt2 : goal.returns-then-got-lt2
 unfolding receive_by
-returns-then-got-lt2 c = simp (c.if-inside.false, le-ltb 1 c.args.got (omega arith))
+returns-then-got-lt2 c = simp (c.if-inside.false, le-ltb 1 c.args.got (omega arith), lt-ltb c.args.got 2 c.if-got-lt2.true)
 
-pub returns : goal.returns
+pub returns-else-got-lt2 : goal.returns-else-got-lt2
 unfolding receive_by
-returns c = simp (c.if-inside.false, lt-ltb 1 c.args.got (omega arith), ← c.precedes.ensures)
+returns-else-got-lt2 c = simp (c.if-inside.false, lt-ltb 1 c.args.got (omega arith), ← c.precedes.ensures)

@@ -10,8 +10,8 @@ returns-then-inside c = simp c.if-inside.true
 
 pub returns-then-sent-lt2 : goal.returns-then-sent-lt2
 unfolding send_by
-returns-then-sent-lt2 c = simp (c.if-inside.false, le-ltb 1 c.args.sent (omega arith))
+returns-then-sent-lt2 c = simp (c.if-inside.false, le-ltb 1 c.args.sent (omega arith), lt-ltb c.args.sent 2 c.if-sent-lt2.true)
 
-pub returns : goal.returns
+pub returns-else-sent-lt2 : goal.returns-else-sent-lt2
 unfolding send_by
-returns c = simp (c.if-inside.false, lt-ltb 1 c.args.sent (omega arith), ← c.precedes.ensures)
+returns-else-sent-lt2 c = simp (c.if-inside.false, lt-ltb 1 c.args.sent (omega arith), ← c.precedes.ensures)

@@ -1,12 +1,13 @@
 -- `bundle::kinds::is_task` meets its contract.
 use Rattle.bundle.specs.Kinds.{is_task}
-use borrow.Author.Tests.{eq-eqb, ne_eqb}
+use Rattle.std.proofs.Common.{arith}
+use Rattle.std.proofs.lemmas.Bool.Decides.{nat_tests}
 use Rattle.bundle.proofs.kinds.is_task.Goals as goal
 
-pub returns-then-command-eq82 : goal.returns-then-command-eq82
+pub returns-in-82 : goal.returns-in-82
 unfolding is_task
-returns-then-command-eq82 c = simp (eq-eqb _ _ c.if-command-eq82.true)
+returns-in-82 c = grind (arith, nat_tests)
 
-pub returns : goal.returns
+pub returns-in_default : goal.returns-in_default
 unfolding is_task
-returns c = simp (ne_eqb _ _ c.if-command-eq82.false)
+returns-in_default c = grind (arith, nat_tests)

@@ -6,6 +6,6 @@ pub returns-then-is_message : goal.returns-then-is_message
 unfolding size_by
 returns-then-is_message c = rw (← c.is_message.ensures, c.if-is_message.true)
 
-pub returns : goal.returns
+pub returns-else-is_message : goal.returns-else-is_message
 unfolding size_by
-returns c = rw (← c.is_message.ensures, c.if-is_message.false)
+returns-else-is_message c = rw (← c.is_message.ensures, c.if-is_message.false)

@@ -10,5 +10,5 @@ returns-then-is_early c = simp (fault-claim, sym c.is_early.ensures ∙ c.if-is_
 pub returns-then-bytes-at-lt4 : goal.returns-then-bytes-at-lt4
 returns-then-bytes-at-lt4 c = simp (fault-claim, sym c.is_early.ensures ∙ c.if-is_early.false, lt-ltb _ _ c.if-bytes-at-lt4.true)
 
-pub returns : goal.returns
-returns c = simp (fault-claim, sym c.is_early.ensures ∙ c.if-is_early.false, le-ltb _ _ c.if-bytes-at-lt4.false)
+pub returns-else-bytes-at-lt4 : goal.returns-else-bytes-at-lt4
+returns-else-bytes-at-lt4 c = simp (fault-claim, sym c.is_early.ensures ∙ c.if-is_early.false, le-ltb _ _ c.if-bytes-at-lt4.false)

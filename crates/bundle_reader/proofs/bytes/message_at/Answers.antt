@@ -12,5 +12,5 @@ returns-then-bytes-at-lt2 c = simp (fault-send, ne_eqb _ _ c.if-opened-eq0.false
 pub returns-then-links-get16 : goal.returns-then-links-get16
 returns-then-links-get16 c = simp (fault-send, ne_eqb _ _ c.if-opened-eq0.false, le-ltb _ _ c.if-bytes-at-lt2.false, ← c.get16.ensures, le-leb _ _ c.if-links-get16.true)
 
-pub returns : goal.returns
-returns c = simp (fault-send, ne_eqb _ _ c.if-opened-eq0.false, le-ltb _ _ c.if-bytes-at-lt2.false, ← c.get16.ensures, lt-leb _ _ c.if-links-get16.false)
+pub returns-else-links-get16 : goal.returns-else-links-get16
+returns-else-links-get16 c = simp (fault-send, ne_eqb _ _ c.if-opened-eq0.false, le-ltb _ _ c.if-bytes-at-lt2.false, ← c.get16.ensures, lt-leb _ _ c.if-links-get16.false)

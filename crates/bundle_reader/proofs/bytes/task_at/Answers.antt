@@ -12,5 +12,5 @@ returns-then-bytes-at-lt1 c = simp (fault-run, ne_eqb _ _ c.if-opened-eq0.false,
 pub returns-then-tasks-get8 : goal.returns-then-tasks-get8
 returns-then-tasks-get8 c = simp (fault-run, ne_eqb _ _ c.if-opened-eq0.false, le-ltb _ _ c.if-bytes-at-lt1.false, ← c.get8.ensures.0, le-leb _ _ c.if-tasks-get8.true)
 
-pub returns : goal.returns
-returns c = simp (fault-run, ne_eqb _ _ c.if-opened-eq0.false, le-ltb _ _ c.if-bytes-at-lt1.false, ← c.get8.ensures.0, lt-leb _ _ c.if-tasks-get8.false)
+pub returns-else-tasks-get8 : goal.returns-else-tasks-get8
+returns-else-tasks-get8 c = simp (fault-run, ne_eqb _ _ c.if-opened-eq0.false, le-ltb _ _ c.if-bytes-at-lt1.false, ← c.get8.ensures.0, lt-leb _ _ c.if-tasks-get8.false)

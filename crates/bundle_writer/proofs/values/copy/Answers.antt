@@ -1,5 +1,4 @@
 -- `bundle::values::copy` meets its contract.
-use Prim.Native.Nat.{◌-◌}
 use Rattle.bundle_writer.proofs.Copying.{copy-long, copying-ends, copying-long, copying-on, copying-room, copying-starts}
 use lib.ListN.{length-set}
 use native.Mathlib.Omega.{arith}

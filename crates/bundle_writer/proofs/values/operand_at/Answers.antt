@@ -13,6 +13,6 @@ pub returns-then-is_message : goal.returns-then-is_message
 unfolding operand_in
 returns-then-is_message c = rw (← c.is_message.ensures, c.if-is_message.true) c.get16-pair.ensures
 
-pub returns : goal.returns
+pub returns-else-is_message : goal.returns-else-is_message
 unfolding operand_in
-returns c = rw (← c.is_message.ensures, c.if-is_message.false) (ap (λ (x : ℕ). x % 256) c.get16-pair.ensures ∙ low_byte c.args.bytes.now (c.args.at + 1) (omega (arith, c.type_inv.bytes (c.args.at + 1))))
+returns-else-is_message c = rw (← c.is_message.ensures, c.if-is_message.false) (ap (λ (x : ℕ). x % 256) c.get16-pair.ensures ∙ low_byte c.args.bytes.now (c.args.at + 1) (omega (arith, c.type_inv.bytes (c.args.at + 1))))

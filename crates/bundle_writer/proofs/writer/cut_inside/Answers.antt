@@ -5,5 +5,5 @@ use Rattle.bundle_writer.proofs.writer.cut_inside.Goals as goal
 pub returns-then-opened-eq0 : goal.returns-then-opened-eq0
 returns-then-opened-eq0 c = simp (eq-eqb _ _ c.if-opened-eq0.true)
 
-pub returns : goal.returns
-returns c = simp (ne_eqb _ _ c.if-opened-eq0.false)
+pub returns-else-opened-eq0 : goal.returns-else-opened-eq0
+returns-else-opened-eq0 c = simp (ne_eqb _ _ c.if-opened-eq0.false)

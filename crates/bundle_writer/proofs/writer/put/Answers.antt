@@ -1,43 +1,35 @@
 -- `bundle::writer::put` meets its contract.
-use Prim.Native.Nat.{◌-◌}
-use Rattle.bundle_writer.proofs.Plain.{putting-ends, putting-last, putting-long, putting-next, putting-on, putting-starts}
+use Prim.Native.Nat.{ℕ, ◌+◌, ◌*◌}
+use Rattle.bundle_writer.proofs.Plain.{Putting, putting-ends, putting-even, putting-last, putting-long, putting-next, putting-on, putting-starts}
 use lib.ListN.{length-set}
-use mathlib.Core.Path.{◌∙◌}
+use mathlib.Core.Path.{◌≡◌, ◌∙◌, subst}
 use native.Mathlib.Omega.{arith}
 use Rattle.bundle_writer.proofs.writer.put.Goals as goal
 
-pub loop-i-init : goal.loop-i-init
-loop-i-init c = putting-starts _ _ _ c.requires (λ i. omega (arith, c.type_inv.commands i)) (omega (arith, c.ranges.claim))
-
-pub overflow_add-i : goal.overflow_add-i
-overflow_add-i c = omega (arith, (putting-next c.loop-i.invariant c.loop-i-test.true).0)
-
-pub bounds-commands-i-in-loop-i : goal.bounds-commands-i-in-loop-i
-bounds-commands-i-in-loop-i c = (putting-next c.loop-i.invariant c.loop-i-test.true).0
+pub loop-j-init : goal.loop-j-init
+loop-j-init c = putting-starts _ _ _ c.requires (λ i. omega (arith, c.type_inv.commands i)) (omega (arith, c.ranges.claim))
 
 pub put_command-at-requires : goal.put_command-at-requires
-put_command-at-requires c = (putting-next c.loop-i.invariant c.loop-i-test.true).1
+put_command-at-requires c = (putting-next c.loop-j.invariant (omega (arith, c.loop-j-test.true))).1
 
-pub overflow_add-i-in-loop-i : goal.overflow_add-i-in-loop-i
-overflow_add-i-in-loop-i c = omega (arith, (putting-next c.loop-i.invariant c.loop-i-test.true).0)
-
-pub loop-i-smaller : goal.loop-i-smaller
-loop-i-smaller c = omega (arith, (putting-next c.loop-i.invariant c.loop-i-test.true).0)
-
-pub loop-i-preserved : goal.loop-i-preserved
-loop-i-preserved c = putting-on c.loop-i.invariant _ _ c.loop-i-test.true c.put_command-at.ensures
+pub loop-j-preserved : goal.loop-j-preserved
+loop-j-preserved c =
+    let j = c.loop-j.j in
+    let e : 2 * j + 2 ≡ 2 * (j + 1) = omega arith in
+    subst (λ (i : ℕ). Putting c.args.commands.now c.args.claim c.args.out.now c.put_command-at.new.out c.put_command-at.result i) e
+    (putting-on c.loop-j.invariant _ _ (omega (arith, c.loop-j-test.true)) c.put_command-at.ensures)
 
 pub bounds-out-at : goal.bounds-out-at
-bounds-out-at c = omega (arith, putting-last c.loop-i.invariant (omega arith))
+bounds-out-at c = omega (arith, putting-last c.loop-j.invariant (putting-even c.loop-j.invariant (omega (arith, c.loop-j-test.false))))
 
 pub overflow_add-at : goal.overflow_add-at
-overflow_add-at c = omega (arith, putting-last c.loop-i.invariant (omega arith), putting-long c.loop-i.invariant)
+overflow_add-at c = omega (arith, putting-last c.loop-j.invariant (putting-even c.loop-j.invariant (omega (arith, c.loop-j-test.false))), putting-long c.loop-j.invariant)
 
 pub put32-requires : goal.put32-requires
-put32-requires c = simp length-set (omega (arith, putting-last c.loop-i.invariant (omega arith)))
+put32-requires c = simp length-set (omega (arith, putting-last c.loop-j.invariant (putting-even c.loop-j.invariant (omega (arith, c.loop-j-test.false)))))
 
 pub shape_of-out : goal.shape_of-out
-shape_of-out c = simp length-set at c.put32.auto.s ∙ putting-long c.loop-i.invariant
+shape_of-out c = simp length-set at c.put32.auto.s ∙ putting-long c.loop-j.invariant
 
 pub returns : goal.returns
-returns c = putting-ends c.loop-i.invariant _ (omega arith) c.put32.ensures
+returns c = putting-ends c.loop-j.invariant _ (putting-even c.loop-j.invariant (omega (arith, c.loop-j-test.false))) c.put32.ensures

@@ -14,8 +14,8 @@ shape_of-out-then-is_message c = simp length-set at c.put16.auto.s
 pub returns-then-is_message : goal.returns-then-is_message
 returns-then-is_message c = put-message c.args.out.now _ c.args.at c.args.command c.args.operand (omega arith) (sym c.is_message.ensures ∙ c.if-is_message.true) c.put16.ensures
 
-pub bounds-out-at-2 : goal.bounds-out-at-2
-bounds-out-at-2 c = simp length-set (omega arith)
+pub bounds-out-at-else-is_message : goal.bounds-out-at-else-is_message
+bounds-out-at-else-is_message c = simp length-set (omega arith)
 
-pub returns : goal.returns
-returns c = put-short c.args.out.now c.args.at c.args.command c.args.operand (omega arith) (sym c.is_message.ensures ∙ c.if-is_message.false)
+pub returns-else-is_message : goal.returns-else-is_message
+returns-else-is_message c = put-short c.args.out.now c.args.at c.args.command c.args.operand (omega arith) (sym c.is_message.ensures ∙ c.if-is_message.false)

@@ -1,11 +1,7 @@
 -- `refusal` (src/writer.rt) keeps its contract: its loops.
-use Prim.Native.Nat.{◌-◌}
-use lib.ListN.{length}
+use Prim.Native.Nat.{◌*◌}
 use Rattle.bundle_writer.specs.Judges.{Judges}
 use Rattle.bundle_writer.proofs.writer.refusal.Given as goal
 
-abbrev pub invariant-loop-i : goal.invariant-loop-i
-invariant-loop-i l = Judges l.commands l.processors l.tasks l.links l.opened l.at l.i
-
-abbrev pub decreases-loop-i : goal.decreases-loop-i
-decreases-loop-i l = length l.commands - l.i
+abbrev pub invariant-loop-k : goal.invariant-loop-k
+invariant-loop-k l = Judges l.commands l.processors l.tasks l.links l.spot.opened l.spot.at (2 * l.k)

@@ -1,16 +1,19 @@
 -- `bundle::writer::write` meets its contract.
 use Rattle.bundle_writer.proofs.Written.{writes-long, writes-ready, writes-refused, writes_short}
+use Rattle.std.proofs.lemmas.Result.{err_from_is_err_and}
 use native.Mathlib.Omega.{arith}
 use Rattle.bundle_writer.proofs.writer.write.Goals as goal
 
 pub returns-then-out-need : goal.returns-then-out-need
-returns-then-out-need c = writes_short c.refusal.ensures _ (omega (arith, c.ranges.claim)) _ _ c.in-Long.is c.if-out-need.true
+returns-then-out-need c = writes_short c.refusal.ensures _ (omega (arith, c.ranges.claim)) _ _ c.in_ok-need.was c.if-out-need.true
 
 pub put-requires : goal.put-requires
-put-requires c = writes-ready c.refusal.ensures _ (omega (arith, c.ranges.claim)) _ _ c.in-Long.is c.requires c.if-out-need.false
+put-requires c = writes-ready c.refusal.ensures _ (omega (arith, c.ranges.claim)) _ _ c.in_ok-need.was c.requires c.if-out-need.false
 
-pub returns-in-Refused : goal.returns-in-Refused
-returns-in-Refused c = writes-refused c.refusal.ensures _ (omega (arith, c.ranges.claim)) _ _ _ c.in-Refused.is
+pub returns-in_err-need : goal.returns-in_err-need
+returns-in_err-need c =
+    let p = err_from_is_err_and c.from_residual.result c.from_residual.ensures.1 in
+    rw (p.1, p.2) (writes-refused c.refusal.ensures _ (omega (arith, c.ranges.claim)) _ _ c.in_err-need.was)
 
-pub returns-else-out-need : goal.returns-else-out-need
-returns-else-out-need c = writes-long c.refusal.ensures _ (omega (arith, c.ranges.claim)) _ _ c.in-Long.is c.if-out-need.false _ c.put.ensures
+pub returns : goal.returns
+returns c = writes-long c.refusal.ensures _ (omega (arith, c.ranges.claim)) _ _ c.in_ok-need.was c.if-out-need.false _ c.put.ensures

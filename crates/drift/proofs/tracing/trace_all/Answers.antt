@@ -6,9 +6,6 @@ use Rattle.drift.proofs.tracing.trace_all.Goals as goal
 pub loop-i-init : goal.loop-i-init
 loop-i-init c = tracing-starts _ _ _ _ _
 
-pub loop-i-smaller : goal.loop-i-smaller
-loop-i-smaller c = omega arith
-
 pub loop-i-preserved : goal.loop-i-preserved
 loop-i-preserved c = tracing-more c.loop-i-test.true c.byte.ensures.0 c.loop-i.invariant c.trace_one.ensures
 

@@ -4,6 +4,3 @@ use Rattle.drift.proofs.tracing.trace_all.Given as goal
 
 abbrev pub invariant-loop-i : goal.invariant-loop-i
 invariant-loop-i l = Tracing l.initial.w l.order l.initial.slots l.w l.slots l.n l.i l.claim
-
-abbrev pub decreases-loop-i : goal.decreases-loop-i
-decreases-loop-i l = l.i

@@ -5,5 +5,5 @@ use Rattle.drift.proofs.tracing.way_on.Goals as goal
 pub returns-then-m-eq0 : goal.returns-then-m-eq0
 returns-then-m-eq0 c = let a = c.args in way-none a.tail a.d a.m c.if-m-eq0.true
 
-pub returns : goal.returns
-returns c = let a = c.args in way-some a.tail a.d a.m c.if-m-eq0.false c.later.ensures
+pub returns-else-m-eq0 : goal.returns-else-m-eq0
+returns-else-m-eq0 c = let a = c.args in way-some a.tail a.d a.m c.if-m-eq0.false c.max.ensures

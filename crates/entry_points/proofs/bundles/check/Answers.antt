@@ -1,9 +1,12 @@
 -- `check` (src/bundles.rt) keeps its contract.
 use Rattle.entry_points.proofs.Running.{check-good, check-refused}
+use Rattle.std.proofs.lemmas.Result.{err_from_is_err_and}
 use Rattle.entry_points.proofs.bundles.check.Goals as goal
 
-pub returns-in-Refused : goal.returns-in-Refused
-returns-in-Refused c = check-refused _ _ _ _ c.check.ensures _ _ c.in-Refused.is
+pub returns-in_err-check : goal.returns-in_err-check
+returns-in_err-check c =
+    let p = err_from_is_err_and c.from_residual.result c.from_residual.ensures.1 in
+    rw (p.1, p.2) (check-refused _ _ _ _ c.check.ensures _ c.in_err-check.was)
 
-pub returns-in-Good : goal.returns-in-Good
-returns-in-Good c = check-good _ _ _ _ c.check.ensures c.in-Good.is
+pub returns : goal.returns
+returns c = check-good _ _ _ _ c.check.ensures c.in_ok-check.was

@@ -1,5 +1,4 @@
 -- `number` (src/operands.rt) keeps its contract.
-use Prim.Native.Nat.{◌-◌}
 use lib.ListN.{get_or}
 use native.Mathlib.Omega.{arith}
 use mathlib.Core.Path.{sym, ◌∙◌}
@@ -21,15 +20,12 @@ bounds-text-at c =
     let a = c.args in
     (digit-true a.text.now a.from c.loop-value.at (sym c.digit_at.ensures ∙ c.loop-value-test.true)).0
 
-pub overflow_sub-value : goal.overflow_sub-value
-overflow_sub-value c =
+pub overflow_sub-text : goal.overflow_sub-text
+overflow_sub-text c =
     let a = c.args in
     let at = c.loop-value.at in
     let d = digit-true a.text.now a.from at (sym c.digit_at.ensures ∙ c.loop-value-test.true) in
     omega (arith, digit-range (get_or a.text.now at 0) d.2)
-
-pub overflow_cast-value : goal.overflow_cast-value
-overflow_cast-value c = omega (arith, c.type_inv.text c.loop-value.at)
 
 pub overflow_add-value : goal.overflow_add-value
 overflow_add-value c = let loop = c.loop-value in omega (arith, bounded loop.invariant, c.type_inv.text loop.at)
@@ -40,7 +36,7 @@ loop-value-smaller c =
     omega (arith, digit-true a.text.now a.from c.loop-value.at (sym c.digit_at.ensures ∙ c.loop-value-test.true))
 
 pub loop-value-preserved : goal.loop-value-preserved
-loop-value-preserved c = counting_more c.loop-value.invariant (sym c.digit_at.ensures ∙ c.loop-value-test.true)
+loop-value-preserved c = rw c.from.ensures (counting_more c.loop-value.invariant (sym c.digit_at.ensures ∙ c.loop-value-test.true))
 
 pub returns : goal.returns
-returns c = number_read c.loop-value.invariant c.requires (sym c.digit_at.ensures ∙ c.loop-value-test.false)
+returns c = number_read _ c.loop-value.invariant c.limited.ensures c.requires (sym c.digit_at.ensures ∙ c.loop-value-test.false)

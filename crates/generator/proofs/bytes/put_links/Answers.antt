@@ -1,5 +1,5 @@
 -- `put_links` (src/bytes.rt) keeps its contract.
-use Rattle.std.proofs.Common.{◌-◌, List, refl, ap, ◌∙◌, arith}
+use Rattle.std.proofs.Common.{List, refl, ap, ◌∙◌, arith}
 use Rattle.numbers.specs.Number.{stored}
 use Rattle.sheet.specs.Sheet.{Link}
 use Rattle.sheet.specs.Tables.{link_in}
@@ -9,25 +9,22 @@ use Rattle.sheet_writer.proofs.Stores.{links-next, links-none}
 use Rattle.generator.proofs.bytes.put_links.Goals as goal
 
 pub loop-l-init : goal.loop-l-init
-loop-l-init c = (omega arith, refl, links-none (link_in c.args.w.now) _)
+loop-l-init c = (refl, links-none (link_in c.args.w.now) _)
 
 pub put_link-requires : goal.put_link-requires
 put_link-requires c =
-    let n = c.links-m.ensures.0 in
-    let k = c.loop-l.invariant.1 in
+    let n = c.links-l-end.ensures.0 in
+    let k = c.loop-l.invariant.0 in
     let i = c.loop-l-test.true in
     record { loaded = c.requires.loaded; l_bound = (omega (arith, n, i), omega (arith, n, i, k, c.requires.w_in_bounds)) }
 
-pub loop-l-smaller : goal.loop-l-smaller
-loop-l-smaller c = omega arith
-
 pub loop-l-preserved : goal.loop-l-preserved
-loop-l-preserved c = (omega (arith, c.loop-l-test.true), c.put_link.auto.out ∙ c.loop-l.invariant.1, links-next (link_in c.args.w.now) _ _ _ c.loop-l.l c.loop-l.invariant.2 c.put_link.ensures)
+loop-l-preserved c = (c.put_link.auto.out ∙ c.loop-l.invariant.0, links-next (link_in c.args.w.now) _ _ _ c.loop-l.l c.loop-l.invariant.1 c.put_link.ensures)
 
 pub shape_of-out : goal.shape_of-out
-shape_of-out c = c.loop-l.invariant.1
+shape_of-out c = c.loop-l.invariant.0
 
 pub returns : goal.returns
 returns c =
     let w = c.args.w.now in
-    c.loop-l.invariant.2 ∙ ap (λ (ls : List Link). stored c.args.out.now 0 (link_bytes ls)) (all-links w c.loop-l.l (omega (arith, c.links-m.ensures.0, c.loop-l-test.false, c.loop-l.invariant.0)))
+    c.loop-l.invariant.1 ∙ ap (λ (ls : List Link). stored c.args.out.now 0 (link_bytes ls)) (all-links w c.loop-l.l (omega (arith, c.links-l-end.ensures.0, c.loop-l-test.false)))

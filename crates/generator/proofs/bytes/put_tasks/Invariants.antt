@@ -1,5 +1,5 @@
 -- `put_tasks` (src/bytes.rt) keeps its contract: its loops.
-use Rattle.std.proofs.Common.{◌≡◌, ◌-◌, ◌≤◌, length}
+use Rattle.std.proofs.Common.{◌≡◌, length}
 use Rattle.folds.specs.Folds.{listed}
 use Rattle.numbers.specs.Number.{stored}
 use Rattle.sheet.specs.Tables.{task_in}
@@ -7,7 +7,4 @@ use Rattle.sheet.specs.Writing.{task_bytes}
 use Rattle.generator.proofs.bytes.put_tasks.Given as goal
 
 abbrev pub invariant-loop-i : goal.invariant-loop-i
-invariant-loop-i l = (l.i ≤ l.n) × (length l.out ≡ length l.initial.out) × (l.out ≡ stored l.initial.out 0 (task_bytes (listed l.i (task_in l.w))))
-
-abbrev pub decreases-loop-i : goal.decreases-loop-i
-decreases-loop-i l = l.n - l.i
+invariant-loop-i l = (length l.out ≡ length l.initial.out) × (l.out ≡ stored l.initial.out 0 (task_bytes (listed l.i (task_in l.w))))

@@ -2,14 +2,14 @@
 use Rattle.levelling.proofs.Opens.{open-circle, open-levels}
 use Rattle.levelling.proofs.open.level.Goals as goal
 
-pub shape_of-w-in-At : goal.shape_of-w-in-At
-shape_of-w-in-At c = c.levels.ensures.kept.long
+pub shape_of-w-in-Some : goal.shape_of-w-in-Some
+shape_of-w-in-Some c = c.levels.ensures.kept.long
 
-pub returns-in-At : goal.returns-in-At
-returns-in-At c = open-circle c.args.w.now _ _ c.requires c.levels.ensures _ c.in-At.is
+pub returns-in-Some : goal.returns-in-Some
+returns-in-Some c = open-circle c.args.w.now _ _ c.requires c.levels.ensures _ c.in-Some.is
 
-pub shape_of-w-in-Nothing : goal.shape_of-w-in-Nothing
-shape_of-w-in-Nothing c = c.levels.ensures.kept.long
+pub shape_of-w-in-None : goal.shape_of-w-in-None
+shape_of-w-in-None c = c.levels.ensures.kept.long
 
-pub returns-in-Nothing : goal.returns-in-Nothing
-returns-in-Nothing c = open-levels c.args.w.now _ _ c.requires c.levels.ensures c.in-Nothing.is
+pub returns-in-None : goal.returns-in-None
+returns-in-None c = open-levels c.args.w.now _ _ c.requires c.levels.ensures c.in-None.is

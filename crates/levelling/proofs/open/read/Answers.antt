@@ -1,19 +1,15 @@
 -- `read` (src/open.rt) keeps its contract.
 use Rattle.levelling.proofs.Opens.{form-loaded, form-opened, form-refused}
-use mathlib.Core.Path.{◌∙◌}
+use Rattle.std.proofs.lemmas.Result.{err_from_is_err_and}
 use Rattle.levelling.proofs.open.read.Goals as goal
 
 pub level-requires : goal.level-requires
-level-requires c = form-loaded c.args.bytes.now _ _ _ c.read.ensures c.in-Read.is
+level-requires c = form-loaded c.args.bytes.now _ _ _ c.read.ensures c.in_ok-read.was
 
-pub shape_of-w-in-Refused : goal.shape_of-w-in-Refused
-shape_of-w-in-Refused c = c.read.ensures.long
+pub returns-in_err-read : goal.returns-in_err-read
+returns-in_err-read c =
+    let p = err_from_is_err_and c.from_residual.result c.from_residual.ensures.1 in
+    rw (p.1, p.2) (form-refused c.args.bytes.now _ _ _ c.read.ensures _ c.in_err-read.was)
 
-pub returns-in-Refused : goal.returns-in-Refused
-returns-in-Refused c = form-refused c.args.bytes.now _ _ _ c.read.ensures _ _ c.in-Refused.is
-
-pub shape_of-w-in-Read : goal.shape_of-w-in-Read
-shape_of-w-in-Read c = c.level.ensures.long ∙ c.read.ensures.long
-
-pub returns-in-Read : goal.returns-in-Read
-returns-in-Read c = form-opened c.args.bytes.now _ _ _ c.read.ensures c.in-Read.is _ _ c.level.ensures
+pub returns : goal.returns
+returns c = form-opened c.args.bytes.now _ _ _ c.read.ensures c.in_ok-read.was _ _ c.level.ensures

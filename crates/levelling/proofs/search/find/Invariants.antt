@@ -1,6 +1,5 @@
 -- `find` (src/search.rt) keeps its contract: its loops.
 use Rattle.topological_order.specs.Words.{Outside}
-use Prim.Native.Nat.{◌-◌, ◌≤◌}
 use mathlib.Core.Path.{◌≡◌}
 use Rattle.folds.specs.Folds.{first}
 use mathlib.Core.Option.{none}
@@ -9,7 +8,4 @@ use Rattle.sheet.specs.Tables.{sheet_in}
 use Rattle.levelling.proofs.search.find.Given as goal
 
 abbrev pub invariant-loop-t : goal.invariant-loop-t
-invariant-loop-t l = (l.t ≤ l.n) × Outside l.initial.w l.w × (first l.t (on_circle (sheet_in l.initial.w)) ≡ none)
-
-abbrev pub decreases-loop-t : goal.decreases-loop-t
-decreases-loop-t l = l.n - l.t
+invariant-loop-t l = Outside l.initial.w l.w × (first l.t (on_circle (sheet_in l.initial.w)) ≡ none)

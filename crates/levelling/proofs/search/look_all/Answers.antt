@@ -1,5 +1,4 @@
 -- `look_all` (src/search.rt) keeps its contract.
-use Prim.Native.Nat.{◌-◌}
 use mathlib.Core.Path.{◌∙◌}
 use native.Mathlib.Omega.{arith}
 use Rattle.topological_order.proofs.Frames.{outside-none, outside_trans}
@@ -15,11 +14,11 @@ look-requires c =
     let all = look-asks c.requires.held c.requires.chained v.0 c.loop-i-test.true v.1 in
     record { held = all.0; chained = all.1.0; i_lt_k = all.1.1.0; searched = all.1.1.1 }
 
-pub shape_of-w-in-Back : goal.shape_of-w-in-Back
-shape_of-w-in-Back c = c.look.auto.w ∙ c.loop-i.invariant.0.kept.long
+pub shape_of-w-in-None : goal.shape_of-w-in-None
+shape_of-w-in-None c = c.look.auto.w ∙ c.loop-i.invariant.0.kept.long
 
-pub returns-in-Back : goal.returns-in-Back
-returns-in-Back c = let v = c.loop-i.invariant in (outside_trans v.0 c.look.ensures.0, look-back c.requires.held v.0 c.in-Back.is c.look.ensures.1)
+pub returns-in-None : goal.returns-in-None
+returns-in-None c = let v = c.loop-i.invariant in (outside_trans v.0 c.look.ensures.0, look-back c.requires.held v.0 c.in-None.is c.look.ensures.1)
 
 pub overflow_add-i : goal.overflow_add-i
 overflow_add-i c = omega (arith, look-index c.loop-i.invariant.1 c.loop-i-test.true, c.requires.held.few_tasks)
@@ -28,7 +27,7 @@ pub loop-i-smaller : goal.loop-i-smaller
 loop-i-smaller c = omega (arith, look-index c.loop-i.invariant.1 c.loop-i-test.true)
 
 pub loop-i-preserved : goal.loop-i-preserved
-loop-i-preserved c = let v = c.loop-i.invariant in (outside_trans v.0 c.look.ensures.0, look-on c.requires.held v.0 c.in-On.is c.look.ensures.1)
+loop-i-preserved c = let v = c.loop-i.invariant in (outside_trans v.0 c.look.ensures.0, look-on c.requires.held v.0 c.in-Some.is c.look.ensures.1)
 
 pub shape_of-w : goal.shape_of-w
 shape_of-w c = c.loop-i.invariant.0.kept.long

@@ -12,5 +12,5 @@ push-requires c = (c.requires.held.long, note-room c.args.w.now c.requires.held 
 pub overflow_add-result : goal.overflow_add-result
 overflow_add-result c = omega (arith, note-room c.args.w.now c.requires.held c.args.k c.args.u c.requires.u_bound c.requires.queued c.word.ensures.0 c.if-word-ge65536.false)
 
-pub returns : goal.returns
-returns c = note-goes c.args.w.now c.requires.held c.args.k c.args.u c.requires.u_bound c.requires.queued c.word.ensures.0 c.if-word-ge65536.false _ c.push.ensures
+pub returns-else-word-ge65536 : goal.returns-else-word-ge65536
+returns-else-word-ge65536 c = note-goes c.args.w.now c.requires.held c.args.k c.args.u c.requires.u_bound c.requires.queued c.word.ensures.0 c.if-word-ge65536.false _ c.push.ensures

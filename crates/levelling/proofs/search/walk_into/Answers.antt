@@ -1,6 +1,5 @@
 -- `walk_into` (src/search.rt) keeps its contract.
 use Rattle.levelling.proofs.Spreads.{spread-asks, spread-closes, spread-ends, spread-goes, spread-is-back, spread-is-on, spread-less, spread-source, spread-starts}
-use Prim.Native.Nat.{◌-◌}
 use native.Mathlib.Omega.{arith}
 use Rattle.topological_order.proofs.Frames.{outside-held, outside_trans}
 use Rattle.topological_order.proofs.Turns.{next-asks}

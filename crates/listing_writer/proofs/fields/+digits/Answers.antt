@@ -14,8 +14,8 @@ digits-requires t c = (omega (arith, c.decreases), tt)
 pub overflow_add-result : goal.overflow_add-result
 overflow_add-result t c = omega (arith, c.digits.ensures.1)
 
-pub returns : goal.returns
-returns t c =
+pub returns-else-n-lt10 : goal.returns-else-n-lt10
+returns-else-n-lt10 t c =
     let n = c.args.n in
     let e = length-large n c.if-n-lt10.false (omega (arith, c.ranges.n)) in
     (omega (arith, c.digits.ensures.0, e), omega (arith, c.digits.ensures.0, e, decimal-length n))

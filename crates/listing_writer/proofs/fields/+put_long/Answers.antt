@@ -19,8 +19,8 @@ put_long-end-requires t c = (omega (arith, c.decreases), high-room c.args.out.no
 pub put_four-requires : goal.put_four-requires
 put_four-requires t c = (omega arith, low-room c.args.out.now c.args.at c.args.n c.if-n-lt10000.false (omega (arith, c.ranges.n)) c.requires _ c.put_long-end.auto.out c.put_long-end.ensures)
 
-pub shape_of-out : goal.shape_of-out
-shape_of-out t c = c.put_four.auto.out ∙ c.put_long-end.auto.out
+pub shape_of-out-else-n-lt10000 : goal.shape_of-out-else-n-lt10000
+shape_of-out-else-n-lt10000 t c = c.put_four.auto.out ∙ c.put_long-end.auto.out
 
-pub returns : goal.returns
-returns t c = put-more c.args.out.now c.args.at c.args.n c.if-n-lt10000.false (omega (arith, c.ranges.n)) c.requires _ c.put_long-end.ensures c.put_four.ensures
+pub returns-else-n-lt10000 : goal.returns-else-n-lt10000
+returns-else-n-lt10000 t c = put-more c.args.out.now c.args.at c.args.n c.if-n-lt10000.false (omega (arith, c.ranges.n)) c.requires _ c.put_long-end.ensures c.put_four.ensures

@@ -37,5 +37,5 @@ returns-then-n-lt1000 c = put-three-digits c.args.out.now c.args.at c.args.n _ _
 pub put_four-requires : goal.put_four-requires
 put_four-requires c = (c.requires.0, four-room c.args.out.now c.args.at c.args.n c.if-n-lt1000.false c.requires.0 c.requires.1)
 
-pub returns : goal.returns
-returns c = put_as (sym (decimal-four c.args.n c.if-n-lt1000.false c.requires.0)) c.put_four.ensures
+pub returns-else-n-lt1000 : goal.returns-else-n-lt1000
+returns-else-n-lt1000 c = put_as (sym (decimal-four c.args.n c.if-n-lt1000.false c.requires.0)) c.put_four.ensures

@@ -1,5 +1,4 @@
 -- `listing_writer::rows::put_tasks` meets its contract: its loops.
-use Prim.Native.Nat.{◌-◌, ◌≤◌}
 use mathlib.Core.Path.{◌≡◌}
 use lib.ListN.{length}
 use Rattle.listing.specs.Listing.{task_line}
@@ -9,7 +8,4 @@ use Rattle.numbers.specs.Number.{Put}
 use Rattle.listing_writer.proofs.rows.put_tasks.Given as goal
 
 abbrev pub invariant-loop-t : goal.invariant-loop-t
-invariant-loop-t l = (l.t ≤ l.n) × (length l.out ≡ length l.initial.out) × Put l.initial.out l.at (gather l.t (task_line (schedule_in l.w))) l.out l.end
-
-abbrev pub decreases-loop-t : goal.decreases-loop-t
-decreases-loop-t l = l.n - l.t
+invariant-loop-t l = (length l.out ≡ length l.initial.out) × Put l.initial.out l.at (gather l.t (task_line (schedule_in l.w))) l.out l.end

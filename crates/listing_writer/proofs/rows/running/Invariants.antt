@@ -1,5 +1,5 @@
 -- `running` (src/rows.rt) keeps its contract: its loops.
-use Prim.Native.Nat.{◌-◌, ◌≤◌}
+use Prim.Native.Nat.{◌≤◌}
 use mathlib.Core.Path.{◌≡◌}
 use Rattle.folds.specs.Folds.{bit, sum}
 use Rattle.planner.specs.Placing.{is_open}
@@ -8,7 +8,4 @@ use Rattle.sheet.specs.Tables.{sheet_in}
 use Rattle.listing_writer.proofs.rows.running.Given as goal
 
 abbrev pub invariant-loop-k : goal.invariant-loop-k
-invariant-loop-k l = (l.k ≤ l.n) × (l.found ≤ l.k) × (l.found ≡ sum l.k (λ j. bit (is_open (sheet_in l.w) (schedule_in l.w) j)))
-
-abbrev pub decreases-loop-k : goal.decreases-loop-k
-decreases-loop-k l = l.n - l.k
+invariant-loop-k l = (l.found ≤ l.k) × (l.found ≡ sum l.k (λ j. bit (is_open (sheet_in l.w) (schedule_in l.w) j)))

@@ -1,5 +1,5 @@
 -- `runs_of` (src/rows.rt) keeps its contract.
-use Prim.Native.Nat.{ℕ, ◌-◌}
+use Prim.Native.Nat.{ℕ}
 use mathlib.Core.Path.{refl}
 use native.Mathlib.Omega.{arith}
 use Rattle.folds.proofs.Lists.{get_d_replicate}
@@ -7,7 +7,7 @@ use Rattle.listing_writer.proofs.Running.{marks-none, marks-more, marks-end}
 use Rattle.listing_writer.proofs.rows.runs_of.Goals as goal
 
 pub loop-t-init : goal.loop-t-init
-loop-t-init c = (omega arith, marks-none _ _ refl (λ k l. get_d_replicate {A = ℕ} 16 k 0))
+loop-t-init c = marks-none _ _ refl (λ k l. get_d_replicate {A = ℕ} 16 k 0)
 
 pub place-k-requires : goal.place-k-requires
 place-k-requires c = record { loaded = c.requires.loaded; t_bound = omega (arith, c.loop-t-test.true, c.tasks-n.ensures.0) }
@@ -22,7 +22,7 @@ pub loop-t-preserved : goal.loop-t-preserved
 loop-t-preserved c =
     let loop = c.loop-t in
     let below = c.requires.standing.places loop.t (omega (arith, c.loop-t-test.true, c.tasks-n.ensures.0)) in
-    (omega (arith, c.loop-t-test.true), marks-more loop.invariant.1 c.place-k.ensures.0 (omega (arith, below, c.place-k.ensures.0)))
+    marks-more loop.invariant c.place-k.ensures.0 (omega (arith, below, c.place-k.ensures.0))
 
 pub returns : goal.returns
-returns c = marks-end c.loop-t.invariant.1 (omega (arith, c.loop-t.invariant.0, c.loop-t-test.false, c.tasks-n.ensures.0))
+returns c = marks-end c.loop-t.invariant (omega (arith, c.loop-t.auto.t-end, c.loop-t-test.false, c.tasks-n.ensures.0))

@@ -1,11 +1,7 @@
 -- `runs_of` (src/rows.rt) keeps its contract: its loops.
-use Prim.Native.Nat.{◌-◌, ◌≤◌}
 use Rattle.schedule.specs.Layout.{schedule_in}
 use Rattle.listing_writer.proofs.Running.{Marks}
 use Rattle.listing_writer.proofs.rows.runs_of.Given as goal
 
 abbrev pub invariant-loop-t : goal.invariant-loop-t
-invariant-loop-t l = (l.t ≤ l.n) × Marks (schedule_in l.w) l.t l.r.at
-
-abbrev pub decreases-loop-t : goal.decreases-loop-t
-decreases-loop-t l = l.n - l.t
+invariant-loop-t l = Marks (schedule_in l.w) l.t l.r.at

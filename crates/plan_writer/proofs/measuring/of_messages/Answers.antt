@@ -1,5 +1,4 @@
 -- `of_messages` (src/measuring.rt) keeps its contract.
-use Prim.Native.Nat.{◌-◌}
 use mathlib.Core.Path.{sym}
 use native.Mathlib.Omega.{arith}
 use Rattle.folds.proofs.Loops.{sum-at, sum_more, sum-zero}
@@ -10,10 +9,10 @@ use Rattle.plan_writer.specs.Bytes.{message_length}
 use Rattle.plan_writer.proofs.measuring.of_messages.Goals as goal
 
 pub loop-l-init : goal.loop-l-init
-loop-l-init c = (omega arith, sym (sum-zero _), omega arith)
+loop-l-init c = (sym (sum-zero _), omega arith)
 
 pub loop-l-preserved : goal.loop-l-preserved
-loop-l-preserved c = let a = c.args in (omega arith, sum_more c.loop-l.l (message_length (sheet_in a.w.now) (schedule_in a.w.now)) c.loop-l.invariant.1 c.of_message-n.ensures.0, omega (arith, c.of_message-n.ensures.1, c.loop-l.invariant.2))
+loop-l-preserved c = let a = c.args in (sum_more c.loop-l.l (message_length (sheet_in a.w.now) (schedule_in a.w.now)) c.loop-l.invariant.0 c.of_message-n.ensures.0, omega (arith, c.of_message-n.ensures.1, c.loop-l.invariant.1))
 
 pub returns : goal.returns
-returns c = let a = c.args in (sum-at (message_length (sheet_in a.w.now) (schedule_in a.w.now)) c.loop-l.l (link_count (sheet_in a.w.now)) c.loop-l.invariant.1 (omega (arith, c.loop-l.invariant.0, c.loop-l-test.false, c.links-m.ensures.0)), omega (arith, c.loop-l.invariant, c.links-m.ensures))
+returns c = let a = c.args in (sum-at (message_length (sheet_in a.w.now) (schedule_in a.w.now)) c.loop-l.l (link_count (sheet_in a.w.now)) c.loop-l.invariant.0 (omega (arith, c.loop-l.auto.l-end, c.loop-l-test.false, c.links-m.ensures.0)), omega (arith, c.loop-l.auto.l-end, c.loop-l.invariant, c.links-m.ensures))

@@ -1,5 +1,5 @@
 -- `of_messages` (src/measuring.rt) keeps its contract: its loops.
-use Prim.Native.Nat.{◌*◌, ◌-◌, ◌≤◌}
+use Prim.Native.Nat.{◌*◌, ◌≤◌}
 use mathlib.Core.Path.{◌≡◌}
 use Rattle.folds.specs.Folds.{sum}
 use Rattle.schedule.specs.Layout.{schedule_in}
@@ -8,7 +8,4 @@ use Rattle.plan_writer.specs.Bytes.{message_length}
 use Rattle.plan_writer.proofs.measuring.of_messages.Given as goal
 
 abbrev pub invariant-loop-l : goal.invariant-loop-l
-invariant-loop-l l = (l.l ≤ l.m) × (l.n ≡ sum l.l (message_length (sheet_in l.w) (schedule_in l.w))) × (l.n ≤ 3 * l.l)
-
-abbrev pub decreases-loop-l : goal.decreases-loop-l
-decreases-loop-l l = l.m - l.l
+invariant-loop-l l = (l.n ≡ sum l.l (message_length (sheet_in l.w) (schedule_in l.w))) × (l.n ≤ 3 * l.l)

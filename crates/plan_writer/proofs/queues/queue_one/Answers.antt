@@ -21,4 +21,4 @@ bounds-queues-k-2 c = simp length-set (omega (arith, c.requires.queued.long, pla
 pub returns : goal.returns
 returns c =
     let σ = schedule_in c.args.w.now in
-    queued-more σ c.args.queues.now c.args.i c.requires.i_in_bounds c.requires.scheduled.few_placed c.requires.queued c.place-k.result (place_is σ c.args.i c.turn.ensures.0 c.place-k.ensures.0) (place-few c.requires.scheduled c.turn.result (turn-task c.requires.scheduled c.args.i c.requires.i_in_bounds c.turn.ensures.0) c.place-k.ensures.0) _ refl c.narrow.ensures refl
+    queued-more σ c.args.queues.now c.args.i c.requires.i_in_bounds c.requires.scheduled.few_placed c.requires.queued c.place-k.result (place_is σ c.args.i c.turn.ensures.0 c.place-k.ensures.0) (place-few c.requires.scheduled c.turn.result (turn-task c.requires.scheduled c.args.i c.requires.i_in_bounds c.turn.ensures.0) c.place-k.ensures.0) _ refl refl refl

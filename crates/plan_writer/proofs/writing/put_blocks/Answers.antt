@@ -1,7 +1,7 @@
 -- `put_blocks` (src/writing.rt) keeps its contract.
 use native.Mathlib.Omega.{arith}
 use Rattle.schedule.specs.Layout.{schedule_in}
-use Prim.Native.Nat.{◌-◌, ◌<◌}
+use Prim.Native.Nat.{◌<◌}
 use mathlib.Core.Path.{ap}
 use lib.ListN.{length}
 use Rattle.plan_writer.proofs.Lays.{laid_as}

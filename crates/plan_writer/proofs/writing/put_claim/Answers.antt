@@ -12,4 +12,4 @@ pub shape_of-out : goal.shape_of-out
 shape_of-out c = simp length-set at c.put32.auto.s
 
 pub returns : goal.returns
-returns c = let a = c.args in stored-number 4 a.out.now _ a.at 0x5A _ 0x5A a.claim (omega arith) refl c.narrow.ensures c.put32.ensures
+returns c = let a = c.args in stored-number 4 a.out.now _ a.at 0x5A _ 0x5A a.claim (omega arith) refl refl c.put32.ensures

@@ -1,6 +1,6 @@
 -- `put_messages` (src/writing.rt) keeps its contract.
 use Rattle.plan_writer.proofs.Puts.{putting-done, putting-on, putting-room, putting-starts}
-use Prim.Native.Nat.{◌-◌, ◌<◌}
+use Prim.Native.Nat.{◌<◌}
 use native.Mathlib.Omega.{arith}
 use Rattle.plan_writer.proofs.Measures.{chained-of}
 use Rattle.sheet.specs.Sheet.{link_count}

@@ -9,4 +9,4 @@ pub bounds-q-b-2 : goal.bounds-q-b-2
 bounds-q-b-2 c = omega (arith, length-set c.args.q.now c.args.i c.args.x, c.requires.blocked.long, c.requires.i_bound.0)
 
 pub returns : goal.returns
-returns c = changed-by c.requires.blocked c.args.i c.args.x c.requires.i_bound.0 _ (c.greater.ensures ∙ raised c.requires.blocked c.args.i c.args.x c.requires.i_bound.0 c.requires.i_bound.1)
+returns c = changed-by c.requires.blocked c.args.i c.args.x c.requires.i_bound.0 _ (c.max.ensures ∙ raised c.requires.blocked c.args.i c.args.x c.requires.i_bound.0 c.requires.i_bound.1)

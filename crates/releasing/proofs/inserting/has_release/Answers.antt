@@ -1,5 +1,4 @@
 -- `has_release` (src/inserting.rt) keeps its contract.
-use Prim.Native.Nat.{◌-◌}
 use mathlib.Core.Path.{◌∙◌, ap}
 use native.Mathlib.Omega.{arith}
 use Rattle.bundle.specs.Kinds.{size_by}
@@ -10,25 +9,21 @@ use Rattle.releasing.proofs.inserting.has_release.Goals as goal
 pub loop-at-init : goal.loop-at-init
 loop-at-init c = finding-starts _
 
-pub get8-c-requires : goal.get8-c-requires
-get8-c-requires c = omega (arith, c.minus-end.ensures)
+pub bounds-bundle-at : goal.bounds-bundle-at
+bounds-bundle-at c = omega (arith, c.saturating_sub-end.ensures)
 
 pub returns-then-c-lt80 : goal.returns-then-c-lt80
-returns-then-c-lt80 c = finding-found _ c.minus-end.ensures c.loop-at.invariant c.loop-at-test.true (omega (arith, c.get8-c.ensures.0, c.if-c-lt80.true))
-
-pub overflow_cast-c : goal.overflow_cast-c
-overflow_cast-c c = omega (arith, c.get8-c.ensures.1)
+returns-then-c-lt80 c = finding-found _ c.saturating_sub-end.ensures c.loop-at.invariant c.loop-at-test.true c.if-c-lt80.true
 
 pub overflow_add-at : goal.overflow_add-at
-overflow_add-at c = omega (arith, c.size_of-at.ensures, size-between c.get8-c.result, c.minus-end.ensures, c.loop-at-test.true)
+overflow_add-at c = omega (arith, c.size_of-at.ensures, size-between c.from.result, c.saturating_sub-end.ensures, c.loop-at-test.true)
 
 pub loop-at-smaller : goal.loop-at-smaller
-loop-at-smaller c = omega (arith, c.size_of-at.ensures, size-between c.get8-c.result, c.loop-at-test.true)
+loop-at-smaller c = omega (arith, c.size_of-at.ensures, size-between c.from.result, c.loop-at-test.true)
 
 pub loop-at-preserved : goal.loop-at-preserved
 loop-at-preserved c =
-    let b = c.get8-c.ensures.0 in
-    finding-on _ c.minus-end.ensures c.loop-at.invariant c.loop-at-test.true (λ q. omega (arith, q, b, c.if-c-lt80.false)) _ (c.size_of-at.ensures ∙ ap size_by b)
+    finding-on _ c.saturating_sub-end.ensures c.loop-at.invariant c.loop-at-test.true (λ q. omega (arith, q, c.if-c-lt80.false)) _ (c.size_of-at.ensures ∙ ap size_by c.from.ensures)
 
 pub returns : goal.returns
-returns c = finding-ends _ c.minus-end.ensures c.loop-at.invariant c.loop-at-test.false
+returns c = finding-ends _ c.saturating_sub-end.ensures c.loop-at.invariant c.loop-at-test.false

@@ -9,5 +9,5 @@ returns-then-word-note c =
     let p = c.put_release.ensures in
     (is-due _ _ _ _ c.word.ensures.0 c.if-word-note.true p.0, p.1)
 
-pub returns : goal.returns
-returns c = (not-due _ _ c.args.out.now _ _ (λ q. c.if-word-note.false (c.word.ensures.0 ∙ q)), omega arith)
+pub returns-else-word-note : goal.returns-else-word-note
+returns-else-word-note c = (not-due _ _ c.args.out.now _ _ (λ q. c.if-word-note.false (c.word.ensures.0 ∙ q)), omega arith)

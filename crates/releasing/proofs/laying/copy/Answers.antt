@@ -1,5 +1,4 @@
 -- `copy` (src/laying.rt) keeps its contract.
-use Prim.Native.Nat.{◌-◌}
 use mathlib.Core.Path.{◌≡◌, sym, ap}
 use native.Mathlib.Omega.{arith}
 use Rattle.releasing.specs.Inserting.{part}
@@ -9,7 +8,7 @@ use Rattle.releasing.proofs.laying.copy.Goals as goal
 pub loop-i-init : goal.loop-i-init
 loop-i-init c =
     let a = c.args in
-    (omega arith, omega arith, omega arith, lay-as (sym (part_none a.bundle.now a.from)) (lay-none a.out.now a.start))
+    (omega arith, lay-as (sym (part_none a.bundle.now a.from)) (lay-none a.out.now a.start))
 
 pub loop-i-preserved : goal.loop-i-preserved
 loop-i-preserved c =
@@ -17,15 +16,13 @@ loop-i-preserved c =
     let a = c.args in
     let pre = c.requires in (
       omega arith,
-      omega arith,
-      omega arith,
-      lay-as (sym (part-more a.bundle.now a.from c.loop-i.i i.0 (omega (arith, pre.1, c.loop-i-test.true)))) (lay-one _ i.3 c.put.ensures),
+      lay-as (sym (part-more a.bundle.now a.from c.loop-i.i c.loop-i.auto.i (omega (arith, pre.1, c.loop-i-test.true)))) (lay-one _ i.1 c.put.ensures),
     )
 
 pub shape_of-out : goal.shape_of-out
-shape_of-out c = lay-long c.loop-i.invariant.3
+shape_of-out c = lay-long c.loop-i.invariant.1
 
 pub returns : goal.returns
 returns c =
-    let e : c.loop-i.i ≡ c.args.to = omega (arith, c.loop-i-test.false, c.loop-i.invariant.1) in
-    lay-as (ap (part c.args.bundle.now c.args.from) e) c.loop-i.invariant.3
+    let e : c.loop-i.i ≡ c.args.to = omega (arith, c.loop-i-test.false, c.loop-i.auto.i-end) in
+    lay-as (ap (part c.args.bundle.now c.args.from) e) c.loop-i.invariant.1

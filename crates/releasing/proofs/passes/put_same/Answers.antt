@@ -6,4 +6,4 @@ pub returns-then-out-bundle : goal.returns-then-out-bundle
 returns-then-out-bundle c = let a = c.args in same-short a.bundle.now a.out.now c.if-out-bundle.true
 
 pub returns : goal.returns
-returns c = same-fits c.args.bundle.now _ c.if-out-bundle.false c.copy-n.ensures
+returns c = same-fits c.args.bundle.now _ c.if-out-bundle.false c.copy.ensures

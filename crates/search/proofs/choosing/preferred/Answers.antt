@@ -1,12 +1,9 @@
 -- `preferred` (src/choosing.rt) keeps its contract.
-use Rattle.search.proofs.Keeping.{keep-less, keep-equal, keep-greater}
+use Rattle.search.proofs.Keeping.{keep-first, keep-second}
 use Rattle.search.proofs.choosing.preferred.Goals as goal
 
-pub returns-in-Less : goal.returns-in-Less
-returns-in-Less c = keep-less c.requires.3 c.requires.4 c.order_of.ensures c.in-Less.is
+pub returns-then-is_le : goal.returns-then-is_le
+returns-then-is_le c = keep-first c.requires.3 c.requires.4 c.order_of.ensures c.is_le.ensures c.if-is_le.true
 
-pub returns-in-Equal : goal.returns-in-Equal
-returns-in-Equal c = keep-equal c.requires.3 c.requires.4 c.order_of.ensures c.in-Equal.is
-
-pub returns-in-Greater : goal.returns-in-Greater
-returns-in-Greater c = keep-greater c.requires.3 c.requires.4 c.order_of.ensures c.in-Greater.is
+pub returns-else-is_le : goal.returns-else-is_le
+returns-else-is_le c = keep-second c.requires.3 c.requires.4 c.order_of.ensures c.is_le.ensures c.if-is_le.false

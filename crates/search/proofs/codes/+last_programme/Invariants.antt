@@ -1,5 +1,4 @@
 -- `last_programme` (src/codes.rt) keeps its contract.
-use Prim.Native.Nat.{◌-◌}
 use Rattle.search.proofs.codes.+last_programme.Given as goal
 
 abbrev pub decreases-last_programme : goal.decreases-last_programme

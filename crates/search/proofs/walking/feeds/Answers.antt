@@ -1,6 +1,5 @@
 -- `feeds` (src/walking.rt) keeps its contract.
 use native.Mathlib.Omega.{arith}
-use Prim.Native.Nat.{◌-◌}
 use mathlib.Core.Path.{sym, ◌∙◌}
 use Rattle.search.proofs.Steps.{none-first-of, none_more, feeds-one, feeds-none}
 use Rattle.search.proofs.walking.feeds.Goals as goal
@@ -13,12 +12,6 @@ feeds_by-requires c = (c.requires, omega (arith, c.loop-l-test.true))
 
 pub returns-then-feeds_by : goal.returns-then-feeds_by
 returns-then-feeds_by c = feeds-one _ _ _ _ _ _ (omega (arith, c.loop-l-test.true)) c.feeds_by.ensures c.if-feeds_by.true
-
-pub overflow_add-l : goal.overflow_add-l
-overflow_add-l c = omega (arith, c.loop-l-test.true, c.requires.links)
-
-pub loop-l-smaller : goal.loop-l-smaller
-loop-l-smaller c = omega (arith, c.loop-l-test.true)
 
 pub loop-l-preserved : goal.loop-l-preserved
 loop-l-preserved c = none_more _ _ _ (omega (arith, c.loop-l-test.true)) c.loop-l.invariant (λ s k. sym (c.feeds_by.ensures.is s k) ∙ c.if-feeds_by.false)

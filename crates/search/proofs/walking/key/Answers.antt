@@ -1,6 +1,5 @@
 -- `key` (src/walking.rt) keeps its contract.
 use native.Mathlib.Omega.{arith}
-use Prim.Native.Nat.{◌-◌}
 use Rattle.search.proofs.Steps.{none-first-of, none_more, not-to, key-receive, key-run}
 use Rattle.search.proofs.walking.key.Goals as goal
 
@@ -8,19 +7,13 @@ pub loop-l-init : goal.loop-l-init
 loop-l-init c = none-first-of _ _ _
 
 pub end_of-requires : goal.end_of-requires
-end_of-requires c = (c.requires.0.bounded, omega (arith, c.loop-l-test.true, c.requires.0.links))
+end_of-requires c = omega (arith, c.loop-l-test.true, c.requires.0.links)
 
 pub overflow_add-result : goal.overflow_add-result
 overflow_add-result c = omega (arith, c.loop-l-test.true, c.requires.0.links)
 
 pub returns-then-end_of-t : goal.returns-then-end_of-t
 returns-then-end_of-t c = key-receive _ _ _ _ _ c.requires.0.links (omega (arith, c.loop-l-test.true)) c.loop-l.invariant c.end_of.ensures (omega (arith, c.if-end_of-t.true))
-
-pub overflow_add-l : goal.overflow_add-l
-overflow_add-l c = omega (arith, c.loop-l-test.true, c.requires.0.links)
-
-pub loop-l-smaller : goal.loop-l-smaller
-loop-l-smaller c = omega (arith, c.loop-l-test.true)
 
 pub loop-l-preserved : goal.loop-l-preserved
 loop-l-preserved c = none_more _ _ _ (omega (arith, c.loop-l-test.true)) c.loop-l.invariant (not-to _ _ _ _ (omega (arith, c.loop-l-test.true)) c.end_of.ensures (λ q. omega (arith, c.if-end_of-t.false)))

@@ -1,10 +1,6 @@
 -- `key` (src/walking.rt) keeps its contract: its loops.
-use Prim.Native.Nat.{◌-◌}
 use Rattle.search.proofs.Steps.{Leads}
 use Rattle.search.proofs.walking.key.Given as goal
 
 abbrev pub invariant-loop-l : goal.invariant-loop-l
 invariant-loop-l l = Leads l.sheet l.v l.t l.l
-
-abbrev pub decreases-loop-l : goal.decreases-loop-l
-decreases-loop-l l = l.v.links - l.l

@@ -1,5 +1,4 @@
 -- `put_programmes` (src/writing.rt) keeps its contract.
-use Prim.Native.Nat.{◌-◌}
 use Rattle.search.proofs.writing.+put_programmes.Given as goal
 
 abbrev pub decreases-put_programmes : goal.decreases-put_programmes

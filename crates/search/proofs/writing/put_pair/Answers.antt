@@ -3,4 +3,4 @@ use Rattle.search.proofs.Fronts.{pair-done}
 use Rattle.search.proofs.writing.put_pair.Goals as goal
 
 pub returns : goal.returns
-returns c = pair-done c.put_byte-a.ensures c.put_byte.ensures
+returns c = pair-done _ _ _ _ c.requires.0

@@ -1,5 +1,6 @@
 -- `put_task` (src/tables.rt) keeps its contract.
 use native.Mathlib.Omega.{arith}
+use mathlib.Core.Path.{refl}
 use lib.ListN.{length-set}
 use Rattle.sheet.specs.Tables.{task_words}
 use Rattle.sheet.proofs.tables.put_task.Goals as goal
@@ -9,4 +10,4 @@ bounds-w-0 c = simp length-set (omega arith)
 
 pub returns : goal.returns
 unfolding task_words
-returns c = simp c.narrow.ensures
+returns c = refl

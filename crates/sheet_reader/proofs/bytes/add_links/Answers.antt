@@ -1,5 +1,4 @@
 -- `add_links` (src/bytes.rt) keeps its contract.
-use Prim.Native.Nat.{◌-◌}
 use Rattle.sheet_reader.proofs.Scans.{link-added, link-comes, link-few, links_end, walk-room, walk-single}
 use Rattle.sheet.specs.Format.{link}
 use mathlib.Core.Path.{◌∙◌, sym}

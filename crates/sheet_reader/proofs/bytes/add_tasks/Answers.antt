@@ -1,5 +1,4 @@
 -- `add_tasks` (src/bytes.rt) keeps its contract.
-use Prim.Native.Nat.{◌-◌}
 use Rattle.sheet_reader.proofs.Scans.{task-added, task-comes, task-few, tasks-end, walk-room}
 use Rattle.sheet.specs.Format.{task}
 use mathlib.Core.Path.{◌∙◌, sym}

@@ -4,16 +4,19 @@ use Rattle.sheet.specs.Faults.{begun}
 use Rattle.sheet.specs.Format.{wire, sheet_format}
 use Rattle.sheet.specs.Tables.{sheet_in}
 use Rattle.sheet_reader.specs.Answers.{is_cube}
-use Rattle.sheet_reader.proofs.Scans.{cube-by, cube-comes, other_byte}
-use mathlib.Core.Path.{◌∙◌, ap, sym}
+use Rattle.sheet_reader.proofs.Scans.{other_byte, its-byte, cube-comes}
+use Rattle.std.specs.Prelude.{Ok, Err}
+use mathlib.Core.Path.{◌∙◌, ap, refl, sym}
 use native.Mathlib.Omega.{arith}
 use Rattle.sheet_reader.proofs.bytes.is_cube.Goals as goal
 
 pub returns-then-bytes-at : goal.returns-then-bytes-at
 returns-then-bytes-at c = sym (ap is_cube (judge-end sheet_format (begun (sheet_in c.args.w.now)) c.args.bytes.now c.args.at (omega arith)))
 
-pub returns-then-get8-ne72 : goal.returns-then-get8-ne72
-returns-then-get8-ne72 c = sym (other_byte is_cube (begun (sheet_in c.args.w.now)) c.args.bytes.now c.args.at c.get8.ensures.0 wire cube-comes c.if-get8-ne72.true)
+pub returns-then-bytes-at-ne-CUBE_BYTE : goal.returns-then-bytes-at-ne-CUBE_BYTE
+returns-then-bytes-at-ne-CUBE_BYTE c = sym (other_byte is_cube (begun (sheet_in c.args.w.now)) c.args.bytes.now c.args.at refl wire cube-comes c.if-bytes-at-ne-CUBE_BYTE.true)
 
 pub returns : goal.returns
-returns c = c.unwired.ensures ∙ sym (cube-by (sheet_in c.args.w.now) c.args.bytes.now c.args.at c.if-bytes-at.false (sym c.get8.ensures.0 ∙ c.if-get8-ne72.false))
+returns c =
+    c.is_ok.ensures.value
+    ∙ its-byte is_cube (begun (sheet_in c.args.w.now)) c.args.bytes.now c.args.at wire (elim [ Ok x ↦ refl | Err n ↦ refl ]) refl c.if-bytes-at.false c.if-bytes-at-ne-CUBE_BYTE.false c.cube_at.result c.cube_at.ensures

@@ -5,30 +5,18 @@ use Rattle.sheet.specs.Format.{link, sheet_format}
 use Rattle.sheet.specs.Tables.{sheet_in}
 use Rattle.sheet_reader.specs.Answers.{is_link}
 use Rattle.sheet_reader.proofs.Scans.{other_byte, its-byte, link-comes}
-use mathlib.Core.Path.{ap, sym}
+use Rattle.std.specs.Prelude.{Ok, Err}
+use mathlib.Core.Path.{◌∙◌, ap, refl, sym}
 use native.Mathlib.Omega.{arith}
 use Rattle.sheet_reader.proofs.bytes.is_link.Goals as goal
 
 pub returns-then-bytes-at : goal.returns-then-bytes-at
 returns-then-bytes-at c = sym (ap is_link (judge-end sheet_format (begun (sheet_in c.args.w.now)) c.args.bytes.now c.args.at (omega arith)))
 
-pub returns-then-get8-ne69 : goal.returns-then-get8-ne69
-returns-then-get8-ne69 c = sym (other_byte is_link (begun (sheet_in c.args.w.now)) c.args.bytes.now c.args.at c.get8.ensures.0 link link-comes c.if-get8-ne69.true)
+pub returns-then-bytes-at-ne-LINK_BYTE : goal.returns-then-bytes-at-ne-LINK_BYTE
+returns-then-bytes-at-ne-LINK_BYTE c = sym (other_byte is_link (begun (sheet_in c.args.w.now)) c.args.bytes.now c.args.at refl link link-comes c.if-bytes-at-ne-LINK_BYTE.true)
 
-pub returns-in-Unpacking : goal.returns-in-Unpacking
-returns-in-Unpacking c = its-byte is_link (begun (sheet_in c.args.w.now)) c.args.bytes.now c.args.at c.get8.ensures.0 0x45 c.if-bytes-at.false c.if-get8-ne69.false c.link_at.ensures c.in-Unpacking.is
-
-pub returns-in-Cube : goal.returns-in-Cube
-returns-in-Cube c = its-byte is_link (begun (sheet_in c.args.w.now)) c.args.bytes.now c.args.at c.get8.ensures.0 0x45 c.if-bytes-at.false c.if-get8-ne69.false c.link_at.ensures c.in-Cube.is
-
-pub returns-in-Task : goal.returns-in-Task
-returns-in-Task c = its-byte is_link (begun (sheet_in c.args.w.now)) c.args.bytes.now c.args.at c.get8.ensures.0 0x45 c.if-bytes-at.false c.if-get8-ne69.false c.link_at.ensures c.in-Task.is
-
-pub returns-in-Link : goal.returns-in-Link
-returns-in-Link c = its-byte is_link (begun (sheet_in c.args.w.now)) c.args.bytes.now c.args.at c.get8.ensures.0 0x45 c.if-bytes-at.false c.if-get8-ne69.false c.link_at.ensures c.in-Link.is
-
-pub returns-in-End : goal.returns-in-End
-returns-in-End c = its-byte is_link (begun (sheet_in c.args.w.now)) c.args.bytes.now c.args.at c.get8.ensures.0 0x45 c.if-bytes-at.false c.if-get8-ne69.false c.link_at.ensures c.in-End.is
-
-pub returns-in-No : goal.returns-in-No
-returns-in-No c = its-byte is_link (begun (sheet_in c.args.w.now)) c.args.bytes.now c.args.at c.get8.ensures.0 0x45 c.if-bytes-at.false c.if-get8-ne69.false c.link_at.ensures c.in-No.is
+pub returns : goal.returns
+returns c =
+    c.is_ok.ensures.value
+    ∙ its-byte is_link (begun (sheet_in c.args.w.now)) c.args.bytes.now c.args.at link (elim [ Ok x ↦ refl | Err n ↦ refl ]) refl c.if-bytes-at.false c.if-bytes-at-ne-LINK_BYTE.false c.link_at.result c.link_at.ensures

@@ -6,13 +6,17 @@ use Rattle.sheet.specs.Writing.{cube_of, task_value_bytes}
 use mathlib.Core.Path.{◌∙◌, ap, sym}
 use mathlib.Core.Logic.{inl, inr}
 use native.Mathlib.Omega.{arith}
+use Rattle.sheet_reader.proofs.values.load.Goals.{then-processors-lt1-via-then-processors-lt1, then-processors-lt1-via-else-processors-lt1+then-processors-gt16}
 use Rattle.sheet_reader.proofs.values.load.Goals as goal
 
 pub returns-then-processors-lt1 : goal.returns-then-processors-lt1
-returns-then-processors-lt1 c = let a = c.args in board-refused a.processors a.limit a.unpacking (cube_of a.cube) a.tasks.now a.links.now a.w.now (inl c.if-processors-lt1.true)
-
-pub returns-then-processors-gt16 : goal.returns-then-processors-gt16
-returns-then-processors-gt16 c = let a = c.args in board-refused a.processors a.limit a.unpacking (cube_of a.cube) a.tasks.now a.links.now a.w.now (inr c.if-processors-gt16.true)
+returns-then-processors-lt1 c =
+    let a = c.args in
+    let refused = board-refused a.processors a.limit a.unpacking (cube_of a.cube) a.tasks.now a.links.now a.w.now in
+    elim c.then-processors-lt1.branch [
+      | then-processors-lt1-via-then-processors-lt1 w ↦ refused (inl w.if-processors-lt1.true)
+      | then-processors-lt1-via-else-processors-lt1+then-processors-gt16 w ↦ refused (inr w.if-processors-gt16.true)
+    ]
 
 pub load_board-requires : goal.load_board-requires
 load_board-requires c = (c.requires, c.if-processors-gt16.false)

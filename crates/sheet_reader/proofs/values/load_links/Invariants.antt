@@ -13,6 +13,3 @@ use Rattle.sheet_reader.proofs.values.load_links.Given as goal
 
 abbrev pub invariant-loop-j : goal.invariant-loop-j
 invariant-loop-j l = (l.m ≡ length l.links / 4) × (l.j ≤ l.m) × Filling l.w × Scanning (read_on l.initial.w (link_value_bytes l.links) l.start) (link_bytes (rest l.j (length l.links / 4 - l.j) (link_value l.links)) ++ link_tail l.links) l.initial.w l.w l.tasks l.j (l.start + link_size * l.j)
-
-abbrev pub decreases-loop-j : goal.decreases-loop-j
-decreases-loop-j l = l.m - l.j

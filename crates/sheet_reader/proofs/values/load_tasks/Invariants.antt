@@ -12,6 +12,3 @@ use Rattle.sheet_reader.proofs.values.load_tasks.Given as goal
 
 abbrev pub invariant-loop-i : goal.invariant-loop-i
 invariant-loop-i l = (l.n ≡ length l.tasks / 2) × (l.i ≤ l.n) × Scanning (read_on l.initial.w (task_value_bytes l.tasks l.links) l.start) (task_bytes (rest l.i (length l.tasks / 2 - l.i) (task_value l.tasks)) ++ task_tail l.tasks l.links) l.initial.w l.w l.i 0 (l.start + task_size * l.i)
-
-abbrev pub decreases-loop-i : goal.decreases-loop-i
-decreases-loop-i l = l.n - l.i

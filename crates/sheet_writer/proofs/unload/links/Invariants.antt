@@ -1,5 +1,4 @@
 -- `links` (src/unload.rt) keeps its contract: its loops.
-use Prim.Native.Nat.{◌-◌, ◌≤◌}
 use Rattle.folds.specs.Folds.{listed}
 use Rattle.numbers.specs.Number.{stored}
 use Rattle.sheet.specs.Tables.{link_in}
@@ -9,7 +8,4 @@ use mathlib.Core.Path.{◌≡◌}
 use Rattle.sheet_writer.proofs.unload.links.Given as goal
 
 abbrev pub invariant-loop-l : goal.invariant-loop-l
-invariant-loop-l l = (l.l ≤ l.m) × (length l.out ≡ length l.initial.out) × (l.out ≡ stored l.initial.out 0 (link_values (listed l.l (link_in l.w))))
-
-abbrev pub decreases-loop-l : goal.decreases-loop-l
-decreases-loop-l l = l.m - l.l
+invariant-loop-l l = (length l.out ≡ length l.initial.out) × (l.out ≡ stored l.initial.out 0 (link_values (listed l.l (link_in l.w))))

@@ -1,5 +1,4 @@
 -- `tasks` (src/unload.rt) keeps its contract: its loops.
-use Prim.Native.Nat.{◌-◌, ◌≤◌}
 use Rattle.folds.specs.Folds.{listed}
 use Rattle.numbers.specs.Number.{stored}
 use Rattle.sheet.specs.Tables.{task_in}
@@ -9,7 +8,4 @@ use mathlib.Core.Path.{◌≡◌}
 use Rattle.sheet_writer.proofs.unload.tasks.Given as goal
 
 abbrev pub invariant-loop-i : goal.invariant-loop-i
-invariant-loop-i l = (l.i ≤ l.n) × (length l.out ≡ length l.initial.out) × (l.out ≡ stored l.initial.out 0 (task_values (listed l.i (task_in l.w))))
-
-abbrev pub decreases-loop-i : goal.decreases-loop-i
-decreases-loop-i l = l.n - l.i
+invariant-loop-i l = (length l.out ≡ length l.initial.out) × (l.out ≡ stored l.initial.out 0 (task_values (listed l.i (task_in l.w))))

@@ -5,11 +5,7 @@ use Rattle.folds.specs.Folds.{listed}
 use Rattle.numbers.specs.Number.{stored}
 use lib.ListN.{length}
 use mathlib.Core.Path.{◌≡◌}
-use Prim.Native.Nat.{◌-◌, ◌/◌, ◌≤◌}
 use Rattle.sheet_writer.proofs.writer.put_links.Given as goal
 
 abbrev pub invariant-loop-j : goal.invariant-loop-j
-invariant-loop-j l = (l.m ≡ length l.links / 4) × (l.j ≤ l.m) × (length l.out ≡ length l.initial.out) × (l.out ≡ stored l.initial.out 0 (link_bytes (listed l.j (link_value l.links))))
-
-abbrev pub decreases-loop-j : goal.decreases-loop-j
-decreases-loop-j l = l.m - l.j
+invariant-loop-j l = (length l.out ≡ length l.initial.out) × (l.out ≡ stored l.initial.out 0 (link_bytes (listed l.j (link_value l.links))))

@@ -5,7 +5,7 @@ use Rattle.stepping_machine.proofs.Opening.{ready-still, load_fits, load-over}
 use Rattle.stepping_machine.proofs.load.load.Goals as goal
 
 pub homes-requires : goal.homes-requires
-homes-requires c = let y = c.requires in (y.bounded, y.long)
+homes-requires c = c.requires.long
 
 pub load_all-requires : goal.load_all-requires
 load_all-requires c = ready-still _ _ _ _ _ _ c.homes.ensures c.requires
@@ -19,29 +19,28 @@ pub wipe-requires : goal.wipe-requires
 wipe-requires c =
     let y = c.requires in (
       y.few,
-      omega (arith, y.bounded.few_links, y.bounded.few_tasks),
-      y.bounded.unpacks,
+      omega (arith, c.args.v.few_links, c.args.v.few_tasks),
+      c.args.v.unpacks,
       omega (arith, y.long, c.load_all.ensures.long, c.homes.ensures.long, c.rest.ensures.long),
     )
 
 pub load_needs-requires : goal.load_needs-requires
 load_needs-requires c =
     let y = c.requires in (
-      y.bounded,
       omega (arith, y.inside),
       omega (arith, y.long, c.load_all.ensures.long, c.homes.ensures.long, c.rest.ensures.long, c.wipe.ensures.long),
     )
 
-pub shape_of-w-in-At : goal.shape_of-w-in-At
-shape_of-w-in-At c = c.load_all.ensures.long ∙ c.homes.ensures.long
+pub shape_of-w-in-Some : goal.shape_of-w-in-Some
+shape_of-w-in-Some c = c.load_all.ensures.long ∙ c.homes.ensures.long
 
-pub returns-in-At : goal.returns-in-At
-returns-in-At c = load-over _ _ _ _ _ _ _ _ _ c.in-At.is c.homes.ensures c.load_all.ensures
+pub returns-in-Some : goal.returns-in-Some
+returns-in-Some c = load-over _ _ _ _ _ _ _ _ _ c.in-Some.is c.homes.ensures c.load_all.ensures
 
-pub shape_of-w-in-Nothing : goal.shape_of-w-in-Nothing
-shape_of-w-in-Nothing c = c.load_needs.ensures.long ∙ c.wipe.ensures.long ∙ c.rest.ensures.long ∙ c.load_all.ensures.long ∙ c.homes.ensures.long
+pub shape_of-w-in-None : goal.shape_of-w-in-None
+shape_of-w-in-None c = c.load_needs.ensures.long ∙ c.wipe.ensures.long ∙ c.rest.ensures.long ∙ c.load_all.ensures.long ∙ c.homes.ensures.long
 
-pub returns-in-Nothing : goal.returns-in-Nothing
-returns-in-Nothing c =
-    load_fits _ _ _ _ _ _ _ _ _ _ _ c.requires.long c.in-Nothing.is c.homes.ensures c.load_all.ensures
+pub returns-in-None : goal.returns-in-None
+returns-in-None c =
+    load_fits _ _ _ _ _ _ _ _ _ _ _ c.requires.long c.in-None.is c.homes.ensures c.load_all.ensures
     c.rest.ensures c.wipe.ensures c.load_needs.ensures

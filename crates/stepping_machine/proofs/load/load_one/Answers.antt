@@ -7,7 +7,7 @@ pub load_programme-x-requires : goal.load_programme-x-requires
 load_programme-x-requires c = (decodable-at _ _ c.args.w.now _ c.args.k _ _ c.word-o.ensures.0 c.word-e.ensures.0 c.requires.0, c.word-e.ensures.1, omega (arith, c.requires.4))
 
 pub ways-requires : goal.ways-requires
-ways-requires c = let s = c.requires in (s.0.bounded, omega (arith, s.2, c.load_programme-x.ensures.long), s.3, s.1)
+ways-requires c = let s = c.requires in (omega (arith, s.2, c.load_programme-x.ensures.long), s.3, s.1)
 
 pub open_programme-requires : goal.open_programme-requires
 open_programme-requires c =

@@ -1,6 +1,5 @@
 -- `load_programme` (src/load.rt) keeps its contract. `d` is behind the command that was decoded.
 use Rattle.stepping_machine.proofs.Loading.{loading-ends, loading-more, loading-starts}
-use Prim.Native.Nat.{◌-◌}
 use mathlib.Core.Path.{◌∙◌}
 use native.Mathlib.Omega.{arith}
 use Rattle.stepping_machine.proofs.load.load_programme.Goals as goal
@@ -26,7 +25,7 @@ pub loop-from-smaller : goal.loop-from-smaller
 loop-from-smaller c = omega (arith, c.decode-x.ensures.some, c.loop-from-test.true)
 
 pub loop-from-preserved : goal.loop-from-preserved
-loop-from-preserved c = loading-more _ _ _ _ _ _ _ _ _ _ _ _ _ _ _ _ c.loop-from.invariant c.loop-from-test.true c.decode-x.ensures c.put.ensures c.minus-store.ensures c.later-highest.ensures
+loop-from-preserved c = loading-more _ _ _ _ _ _ _ _ _ _ _ _ _ _ _ _ c.loop-from.invariant c.loop-from-test.true c.decode-x.ensures c.put.ensures c.saturating_sub-store.ensures c.max-highest.ensures
 
 pub shape_of-w : goal.shape_of-w
 shape_of-w c = c.put-2.auto.w ∙ c.loop-from.invariant.long

@@ -3,4 +3,4 @@
 use Rattle.stepping_machine.proofs.processors.advanced.Goals as goal
 
 pub returns : goal.returns
-returns c = simp c.later.ensures
+returns c = simp c.max.ensures

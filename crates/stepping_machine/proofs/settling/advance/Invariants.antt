@@ -1,11 +1,6 @@
 -- `advance` (src/settling.rt) keeps its contract: its loops.
-use Rattle.stepping_machine.specs.Layout as lay
 use Rattle.stepping_machine.proofs.Going.{Advancing}
-use Prim.Native.Nat.{◌-◌, ◌≤◌}
 use Rattle.stepping_machine.proofs.settling.advance.Given as goal
 
 abbrev pub invariant-loop-n : goal.invariant-loop-n
-invariant-loop-n l = (Advancing l.initial.w l.w l.n) × (l.n ≤ lay.longest)
-
-abbrev pub decreases-loop-n : goal.decreases-loop-n
-decreases-loop-n l = lay.longest - l.n
+invariant-loop-n l = Advancing l.initial.w l.w l.n

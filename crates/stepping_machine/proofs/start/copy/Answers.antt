@@ -1,30 +1,9 @@
 -- `copy` (src/start.rt) keeps its contract.
-use Prim.Native.Nat.{◌-◌}
-use mathlib.Core.Path.{◌≡◌, refl}
-use native.Mathlib.Omega.{arith}
-use Rattle.stepping_machine.proofs.Starting.{copy_more, copy-starts}
+use Rattle.stepping_machine.proofs.Starting.{copied}
 use Rattle.stepping_machine.proofs.start.copy.Goals as goal
 
-pub loop-i-init : goal.loop-i-init
-loop-i-init c = (copy-starts _ _ _, omega arith, omega (arith, c.requires.0))
-
-pub bounds-from-i : goal.bounds-from-i
-bounds-from-i c = omega (arith, c.loop-i-test.true, c.requires.1)
-
-pub bounds-w-i : goal.bounds-w-i
-bounds-w-i c = omega (arith, c.loop-i-test.true, c.requires.2, c.loop-i.invariant.0.long)
-
-pub overflow_add-i : goal.overflow_add-i
-overflow_add-i c = omega (arith, c.loop-i-test.true, c.requires.1)
-
-pub loop-i-smaller : goal.loop-i-smaller
-loop-i-smaller c = omega (arith, c.loop-i-test.true)
-
-pub loop-i-preserved : goal.loop-i-preserved
-loop-i-preserved c = (copy_more _ _ _ _ _ _ c.loop-i.invariant.1 (omega (arith, c.loop-i-test.true, c.requires.2)) c.loop-i.invariant.0 refl, omega (arith, c.loop-i.invariant.1), omega (arith, c.loop-i-test.true))
+pub returns : goal.returns
+returns c = copied c.args.from.now c.args.w.now _ _ _ c.requires.0 c.requires.1 c.requires.2 c.copy_from_slice.ensures.after
 
 pub shape_of-w : goal.shape_of-w
-shape_of-w c = c.loop-i.invariant.0.long
-
-pub returns : goal.returns
-returns c = let e : c.loop-i.i ≡ c.args.e = omega (arith, c.loop-i.invariant.2, c.loop-i-test.false) in rw e at c.loop-i.invariant.0
+shape_of-w c = (copied c.args.from.now c.args.w.now _ _ _ c.requires.0 c.requires.1 c.requires.2 c.copy_from_slice.ensures.after).long

@@ -3,7 +3,7 @@ use Rattle.stepping_machine.proofs.Raising.{homes-cube, homes-flat}
 use Rattle.stepping_machine.proofs.ways.homes.Goals as goal
 
 pub note_homes-requires : goal.note_homes-requires
-note_homes-requires c = let s = c.requires in (s.0.few_tasks, s.1)
+note_homes-requires c = (c.args.v.few_tasks, c.requires)
 
 pub shape_of-w : goal.shape_of-w
 shape_of-w c = c.note_homes.ensures.long

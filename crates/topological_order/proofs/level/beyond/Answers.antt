@@ -1,5 +1,5 @@
 -- `beyond` (src/level.rt) keeps its contract.
-use Prim.Native.Nat.{◌-◌, ◌<◌}
+use Prim.Native.Nat.{◌<◌}
 use mathlib.Core.Path.{◌≡◌, sym}
 use native.Mathlib.Omega.{arith}
 use Rattle.sheet.specs.Sheet.{link_count}
@@ -50,7 +50,7 @@ loop-l-preserved c =
     let value = beyond-own x c.args.w.now c.args.v in-loop.l out c.target.ensures.0 c.word-x.ensures.0 c.cost-c.ensures.0 in (
       omega (arith, next.1, c.links-m.ensures.0),
       own-next d c.args.v c.requires.v_bound (level_by x (level_in c.args.w.now) c.args.v) (λ l h e. level-other x (level_in c.args.w.now) c.args.v l e) h out next.0 next.2 next.1,
-      omega (arith, c.later-best.ensures, in-loop.invariant.2, value, greatest-next d c.args.v c.requires.v_bound (level_by x (level_in c.args.w.now) c.args.v) (λ l h e. level-other x (level_in c.args.w.now) c.args.v l e) h out next.0 next.2 next.1),
+      omega (arith, c.max-best.ensures, in-loop.invariant.2, value, greatest-next d c.args.v c.requires.v_bound (level_by x (level_in c.args.w.now) c.args.v) (λ l h e. level-other x (level_in c.args.w.now) c.args.v l e) h out next.0 next.2 next.1),
     )
 
 pub returns : goal.returns

@@ -14,5 +14,5 @@ overflow_add-result c = omega (arith, offer-room (sheet_in c.args.w.now) c.args.
 pub returns-then-word-eq0 : goal.returns-then-word-eq0
 returns-then-word-eq0 c = offer-goes (sheet_in c.args.w.now) c.args.w.now c.args.k c.args.t (loaded-declared c.requires.held.loaded) c.requires.held.few_tasks c.requires.held.long c.requires.t_bound c.requires.filled _ c.word.ensures.0 c.if-word-eq0.true c.push.ensures
 
-pub returns : goal.returns
-returns c = offer-stays (sheet_in c.args.w.now) c.args.w.now c.args.k c.args.t (loaded-declared c.requires.held.loaded) c.requires.held.few_tasks c.requires.held.long c.requires.t_bound c.requires.filled c.word.ensures.0 c.if-word-eq0.false
+pub returns-else-word-eq0 : goal.returns-else-word-eq0
+returns-else-word-eq0 c = offer-stays (sheet_in c.args.w.now) c.args.w.now c.args.k c.args.t (loaded-declared c.requires.held.loaded) c.requires.held.few_tasks c.requires.held.long c.requires.t_bound c.requires.filled c.word.ensures.0 c.if-word-eq0.false

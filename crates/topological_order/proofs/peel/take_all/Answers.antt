@@ -1,5 +1,4 @@
 -- `take_all` (src/peel.rt) keeps its contract.
-use Prim.Native.Nat.{◌-◌}
 use native.Mathlib.Omega.{arith}
 use Rattle.topological_order.proofs.Turns.{peeled-few, take-asks, take_ends, take-starts, take-turns}
 use Rattle.topological_order.proofs.peel.take_all.Goals as goal

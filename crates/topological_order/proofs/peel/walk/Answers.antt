@@ -1,6 +1,5 @@
 -- `walk` (src/peel.rt) keeps its contract.
 use Rattle.topological_order.proofs.Turns.{next-asks, walk-asks, walk_ends, walk-less, walk-starts, walk-turns}
-use Prim.Native.Nat.{◌-◌}
 use native.Mathlib.Omega.{arith}
 use Rattle.topological_order.proofs.Frames.{outside_trans, grown-outside}
 use Rattle.topological_order.proofs.peel.walk.Goals as goal

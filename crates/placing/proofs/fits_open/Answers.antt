@@ -1,7 +1,0 @@
--- `fits_open` (src/lib.rt) keeps its contract.
-use mathlib.Core.Path.{◌∙◌, ap₂}
-use Rattle.folds.specs.Folds.{both}
-use Rattle.placing.proofs.fits_open.Goals as goal
-
-pub returns : goal.returns
-returns c = c.are_both.ensures ∙ ap₂ both c.is_open.ensures c.fits_on.ensures
