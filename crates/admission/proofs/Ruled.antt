@@ -23,9 +23,10 @@ use Rattle.admission.specs.Fields.{source_at, target_at}
 use Rattle.admission.specs.declared.view.View.{View}
 use Rattle.admission.specs.Rules.{Given, OnceIs, LinkIs, MessageIs}
 use Rattle.std.specs.Prelude.{Some, None}
-use Rattle.refusals.specs.Refusals.{fault_of}
+use Rattle.refusals.specs.Refusals.{number, fault_of}
 use Rattle.refusals.specs.Refusals.{placed as at_place}
 use Rattle.refusals.specs.declared.Refusal.{Refusal}
+use Rattle.refusals.specs.declared.Fault.{Fault}
 use Rattle.refusals.proofs.Results.{fault-by, found-by}
 use Rattle.std.specs.Prelude.{⊤, Result, Ok, Err}
 use Rattle.admission.proofs.Messages.{run-once}
@@ -193,7 +194,7 @@ byte-there b i j x e f = e ∙ ap (λ (k : ℕ). get_or b k 0) f
 
 -- by the numbers that the code reads
 pub link-by :
-    (sheet w : List ℕ) (v : View) (l source target a t sent got : ℕ) (r : Result ⊤ ℕ) → source ≡ get_or sheet (source_at v.middle l) 0 → target ≡ get_or sheet (target_at v.middle l) 0
+    (sheet w : List ℕ) (v : View) (l source target a t sent got : ℕ) (r : Result ⊤ Fault) → source ≡ get_or sheet (source_at v.middle l) 0 → target ≡ get_or sheet (target_at v.middle l) 0
     → a ≡ get_or w (slots_at + source) 0 → t ≡ get_or w (slots_at + target) 0 → sent ≡ get_or w (slots_at + (256 + l)) 0 → got ≡ get_or w (slots_at + (1280 + l)) 0 → fault_of r ≡ fault_by a t sent got
     → LinkIs sheet w v l r
 link-by sheet w v l source target a t sent got r es et ea eb ec ed e =
@@ -213,7 +214,7 @@ pub record Clear (sheet w : List ℕ) (v : View) (l : ℕ) : Type 0 where
 pub clear-start : (sheet w : List ℕ) (v : View) → Clear sheet w v 0
 clear-start sheet w v = record { clear = λ i l. absurd (omega arith) }
 
-pub clear-more : {sheet w : List ℕ} {v : View} {l : ℕ} (r : Result ⊤ ℕ) → Clear sheet w v l → Ok tt ≡ at_place l r → LinkIs sheet w v l r → Clear sheet w v (l + 1)
+pub clear-more : {sheet w : List ℕ} {v : View} {l : ℕ} (r : Result ⊤ Fault) → Clear sheet w v l → Ok tt ≡ at_place l r → LinkIs sheet w v l r → Clear sheet w v (l + 1)
 clear-more {sheet} {w} {v} {l} r g e h =
     record {
       clear =
@@ -221,7 +222,7 @@ clear-more {sheet} {w} {v} {l} r g e h =
           ⊎_elim (λ (k : i < l). g.clear i k) (λ (q : i ≡ l). subst (λ (x : ℕ). LinkIs sheet w v x (Ok tt)) (sym q) (subst (LinkIs sheet w v l) (found-by l r tt e) h)) (below_suc (rw add-one at m));
     }
 
-pub clear-found : (sheet w : List ℕ) (v : View) (l : ℕ) (r : Result ⊤ ℕ) (x : Refusal) → Clear sheet w v l → l < v.links → Err x ≡ at_place l r → LinkIs sheet w v l r → MessageIs sheet w v (Err x)
+pub clear-found : (sheet w : List ℕ) (v : View) (l : ℕ) (r : Result ⊤ Fault) (x : Refusal) → Clear sheet w v l → l < v.links → Err x ≡ at_place l r → LinkIs sheet w v l r → MessageIs sheet w v (Err x)
 unfolding at_message
 clear-found sheet w v l r x g k e h =
     let f = fault-by l r x e in
@@ -231,7 +232,7 @@ clear-found sheet w v l r x g k e h =
           λ s b i o.
           let d = i.known.links in
           sym
-          (with-found (link_count s) (message_fault s b) l f.number (λ j q. sym ((g.clear j q).is_fault s b (omega arith) i o))
+          (with-found (link_count s) (message_fault s b) l (number f.fault) (λ j q. sym ((g.clear j q).is_fault s b (omega arith) i o))
           (sym (h.is_fault s b (omega arith) i o) ∙ ap fault_of f.found) (omega arith));
     })
 

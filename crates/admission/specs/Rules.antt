@@ -5,6 +5,7 @@ use Rattle.workspace.specs.Found.{found_of}
 use Rattle.workspace.specs.Found.{Found}
 use Rattle.refusals.specs.Refusals.{fault_of, refusal_of}
 use Rattle.refusals.specs.declared.Refusal.{Refusal}
+use Rattle.refusals.specs.declared.Fault.{Fault}
 use Rattle.std.specs.Prelude.{⊤, Result}
 use Rattle.sheet.specs.Sheet.{Sheet, task_count, link_count}
 use Rattle.bundle.specs.Bundle.{Bundle, programme_count}
@@ -24,7 +25,7 @@ pub record OnceIs (w : List ℕ) (n : ℕ) (r : Found) : Type 0 where
   pub is_26 : (s : Sheet) (b : Bundle) (count : ℕ) → task_count s ≡ n → Notes s b (programme_count b) 0 count w → found_of r ≡ at26 s b
 
 -- link l
-pub record LinkIs (sheet w : List ℕ) (v : View) (l : ℕ) (r : Result ⊤ ℕ) : Type 0 where
+pub record LinkIs (sheet w : List ℕ) (v : View) (l : ℕ) (r : Result ⊤ Fault) : Type 0 where
   pub is_fault : (s : Sheet) (b : Bundle) → l < link_count s → Given s b sheet w v → at26 s b ≡ none → fault_of r ≡ message_fault s b l
 
 -- all links

@@ -8,7 +8,7 @@ use crate::releases::wrong_release;
 use crate::rules::{not_once, wrong_message};
 use crate::view::View;
 use bundle_reader::bytes::Outline;
-use refusals::Refusal;
+use refusals::{Fault, Refusal};
 
 // 37, or a bundle of this outline. Where all commands were met as runs, sends and receives there is no release.
 fn freed(
@@ -26,10 +26,7 @@ fn freed(
         return Ok(outline);
     }
     match wrong_release(sheet, bundle, w, v) {
-        Some(at) => Err(Refusal {
-            number: 37,
-            place: at,
-        }),
+        Some(at) => Err(Fault::WrongRelease.at(at)),
         None => Ok(outline),
     }
 }
@@ -63,10 +60,7 @@ fn rules(
 {
     let met = note_all(bundle, w, v.tasks, v.links);
     match not_once(w, v.tasks) {
-        Some(t) => Err(Refusal {
-            number: 26,
-            place: t,
-        }),
+        Some(t) => Err(Fault::RunCount.at(t)),
         None => messages(sheet, bundle, w, v, outline, met),
     }
 }

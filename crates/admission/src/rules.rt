@@ -7,7 +7,7 @@ ghost use Rattle.refusals.specs.Refusals.{fault_of};
 
 use crate::notes::NOTES;
 use crate::view::View;
-use refusals::Refusal;
+use refusals::{Fault, Refusal};
 
 // 26: the lowest of n tasks that does not run just once.
 pub fn not_once(w: &[u32], n: usize) -> Option<usize>
@@ -58,23 +58,23 @@ fn order_fault(inside: bool, source: usize, target: usize) -> bool
     inside && target <= source
 }
 
-// The number of the first of three faults, if there is one: of the send, then of the receive, then of the order.
-fn first_fault(send: bool, receive: bool, order: bool) -> Result<(), u8>
+// The first of three faults, if there is one: of the send, then of the receive, then of the order.
+fn first_fault(send: bool, receive: bool, order: bool) -> Result<(), Fault>
     ensures { fault_of result ≡ first_of ((send, 31) ∷ (receive, 32) ∷ (order, 33) ∷ []) }
 {
     if send {
-        Err(31)
+        Err(Fault::WrongSend)
     } else if receive {
-        Err(32)
+        Err(Fault::WrongReceive)
     } else if order {
-        Err(33)
+        Err(Fault::LocalOrder)
     } else {
         Ok(())
     }
 }
 
 // The number of a link's fault by its notes, if it has one.
-fn fault_by(source: usize, target: usize, sent: usize, got: usize) -> Result<(), u8>
+fn fault_by(source: usize, target: usize, sent: usize, got: usize) -> Result<(), Fault>
     ensures { fault_of result ≡ fault_by source target sent got }
 {
     let inside = source / 4096 == target / 4096;
@@ -85,7 +85,7 @@ fn fault_by(source: usize, target: usize, sent: usize, got: usize) -> Result<(),
 }
 
 // What is wrong with the messages of link l: 31, 32, 33, or nothing.
-fn link_fault(sheet: &[u8], w: &[u32], v: View, l: usize) -> Result<(), u8>
+fn link_fault(sheet: &[u8], w: &[u32], v: View, l: usize) -> Result<(), Fault>
     requires { (l < 1024) × (slots_end ≤ length w.now) }
     ensures { LinkIs sheet.now w.now v l result }
 {

@@ -10,7 +10,7 @@ ghost use Rattle.better.specs.Parts.{rank_in, lent_of, choice_of, ComparedIs, Ch
 use crate::standings::{Standing, judge};
 use admission::view::View;
 use levelling::open;
-use refusals::Refusal;
+use refusals::{Fault, Refusal};
 use std::cmp::Ordering;
 use stepping_machine::BOARD;
 
@@ -43,10 +43,7 @@ fn ranked(
 {
     match a {
         None => match b {
-            None => Err(Refusal {
-                number: 34,
-                place: 0,
-            }),
+            None => Err(Fault::BothRefused.at(0)),
             Some(_) => Ok(Lent::Second),
         },
         Some(x) => match b {
@@ -92,10 +89,7 @@ pub fn choose(sheet: &[u8], first: &[u8], second: &[u8], work: &mut [u32]) -> Re
     ensures { (result ≡ choice_of (better_answer sheet.now first.now second.now (length work.old))) × (work.new ≡ cleared fixed work.old) }
 {
     if work.len() < workspace::LENGTH {
-        return Err(Refusal {
-            number: 13,
-            place: workspace::LENGTH,
-        });
+        return Err(Fault::ShortWorkArea.at(workspace::LENGTH));
     }
     let c = opened(sheet, first, second, work);
     workspace::clear(work);

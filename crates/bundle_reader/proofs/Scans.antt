@@ -28,8 +28,9 @@ use Rattle.bundle_reader.specs.ReadIs.{ReadIs}
 use Rattle.bundle_reader.specs.declared.bytes.Next.{Next}
 use Rattle.bundle_reader.specs.declared.bytes.Next.TheVariants.{Step, Open, Claim}
 use Rattle.bundle_reader.specs.declared.bytes.Outline.{Outline}
-use Rattle.refusals.specs.Refusals.{refusal, fault_of, placed}
+use Rattle.refusals.specs.Refusals.{number, numbered, refusal, fault_of, placed}
 use Rattle.refusals.specs.declared.Refusal.{Refusal}
+use Rattle.refusals.specs.declared.Fault.{Fault}
 use Rattle.refusals.proofs.Results.{fault-by}
 use Rattle.std.specs.Prelude.{⊤, Result, Ok, Err}
 use Rattle.bundle.proofs.Parts.{byte_of, kind-byte, open-facts, task-facts, link-facts, length-within, width_some}
@@ -308,15 +309,15 @@ module _ (p t l n : ℕ) (b : List ℕ) (at : ℕ) (more : at < length b) (x : �
   kind-next : (o : Option Kind) → kind_of x ≡ o → next_of (judge_kind (count_format p t l) n o (drop (at + 1) b)) ≡ next_of (judge (count_format p t l) n (drop at b))
   kind-next o e = sym (ap next_of (judge-kind p t l n b at more o (ap kind_of (sym here) ∙ e)))
 
-  verdict-next : (k : Kind) (r : Result ⊤ ℕ) → judged_of r (kind_next k) ≡ next_of (verdict (count_format p t l) k (fault_of r))
+  verdict-next : (k : Kind) (r : Result ⊤ Fault) → judged_of r (kind_next k) ≡ next_of (verdict (count_format p t l) k (fault_of r))
   verdict-next k (Ok y) = refl
   verdict-next k (Err n) = refl
 
-  pub known_next : (k : Kind) (r : Result ⊤ ℕ) → kind_of x ≡ some k → fault_of r ≡ fault_below (limit_of p t l k) n k (drop (at + 1) b) → judged_of r (kind_next k) ≡ next_of (judge (count_format p t l) n (drop at b))
+  pub known_next : (k : Kind) (r : Result ⊤ Fault) → kind_of x ≡ some k → fault_of r ≡ fault_below (limit_of p t l k) n k (drop (at + 1) b) → judged_of r (kind_next k) ≡ next_of (judge (count_format p t l) n (drop at b))
   known_next k r e h = verdict-next k r ∙ ap (λ (o : Option ℕ). next_of (verdict (count_format p t l) k o)) h ∙ kind-next (some k) e
 
   -- a command of a link, and one of a task
-  pub message-next : (r : Result ⊤ ℕ) → is_message x ≡ true → fault_of r ≡ fault_below l n sending (drop (at + 1) b) → judged_of r (Step long_size) ≡ next_of (judge (count_format p t l) n (drop at b))
+  pub message-next : (r : Result ⊤ Fault) → is_message x ≡ true → fault_of r ≡ fault_below l n sending (drop (at + 1) b) → judged_of r (Step long_size) ≡ next_of (judge (count_format p t l) n (drop at b))
   message-next r e h = let f = message-kind x e in by f.among f.is
     where
       by : {k : Kind} → OfLink k → kind_of x ≡ some k → judged_of r (Step long_size) ≡ next_of (judge (count_format p t l) n (drop at b))
@@ -324,7 +325,7 @@ module _ (p t l n : ℕ) (b : List ℕ) (at : ℕ) (more : at < length b) (x : �
       by receives q = known_next receiving r q (h ∙ sym (fault-link receives l n (drop (at + 1) b)))
       by discards q = known_next discarding r q (h ∙ sym (fault-link discards l n (drop (at + 1) b)))
 
-  pub task-next : (r : Result ⊤ ℕ) → is_task x ≡ true → fault_of r ≡ fault_below t n running (drop (at + 1) b) → judged_of r (Step short_size) ≡ next_of (judge (count_format p t l) n (drop at b))
+  pub task-next : (r : Result ⊤ Fault) → is_task x ≡ true → fault_of r ≡ fault_below t n running (drop (at + 1) b) → judged_of r (Step short_size) ≡ next_of (judge (count_format p t l) n (drop at b))
   task-next r e h = let f = task-kind x e in by f.among f.is
     where
       by : {k : Kind} → OfTask k → kind_of x ≡ some k → judged_of r (Step short_size) ≡ next_of (judge (count_format p t l) n (drop at b))
@@ -359,9 +360,9 @@ tells (go discarding) = record { kind = discarding; inside = refl; goes_on = ref
 tells (go claiming) = refl
 
 -- the ways by the code's answer f
-module _ {b : List ℕ} {p t l : ℕ} {v w : List ℕ} {n m at : ℕ} (g : Scan b p t l v w n m at) (f : Result Next ℕ) (e : f ≡ next_of (judge (count_format p t l) n (drop at b))) where
-  told : (x : Result Next ℕ) → f ≡ x → Tells (judge (count_format p t l) n (drop at b)) x
-  told x q = subst (Tells (judge (count_format p t l) n (drop at b))) (sym e ∙ q) (tells (judge (count_format p t l) n (drop at b)))
+module _ {b : List ℕ} {p t l : ℕ} {v w : List ℕ} {n m at : ℕ} (g : Scan b p t l v w n m at) (f : Result Next Fault) (e : numbered f ≡ next_of (judge (count_format p t l) n (drop at b))) where
+  told : (x : Result Next Fault) → f ≡ x → Tells (judge (count_format p t l) n (drop at b)) (numbered x)
+  told x q = subst (Tells (judge (count_format p t l) n (drop at b))) (sym e ∙ ap numbered q) (tells (judge (count_format p t l) n (drop at b)))
 
   pub step-on : (size : ℕ) → f ≡ Ok (Step size) → Scan b p t l v w n (m + 1) (at + size) × (0 < size)
   step-on size q =
@@ -383,4 +384,4 @@ module _ {b : List ℕ} {p t l : ℕ} {v w : List ℕ} {n m at : ℕ} (g : Scan 
   pub refused-at : (r : Refusal) → Err r ≡ placed at f → ReadIs b p t l v w (Err r)
   refused-at r h =
       let q = fault-by at f r h in
-      subst (λ (x : Refusal). ReadIs b p t l v w (Err x)) (sym q.is) (scan-refused g q.number (told (Err q.number) q.found))
+      subst (λ (x : Refusal). ReadIs b p t l v w (Err x)) (sym q.is) (scan-refused g (number q.fault) (told (Err q.fault) q.found))

@@ -11,8 +11,9 @@ use Rattle.bundle.specs.Format.{Kind, opening, running, sending, receiving, rele
 use Rattle.bundle_reader.specs.declared.bytes.Next.{Next}
 use Rattle.bundle_reader.specs.declared.bytes.Next.TheVariants.{Step, Open, Claim}
 use Rattle.bundle_reader.specs.declared.bytes.Outline.{Outline}
-use Rattle.refusals.specs.Refusals.{refusal, result_of}
+use Rattle.refusals.specs.Refusals.{number, refusal, result_of}
 use Rattle.refusals.specs.declared.Refusal.{Refusal}
+use Rattle.refusals.specs.declared.Fault.{Fault}
 
 abbrev pub outline : ℕ → ℕ → ℕ → Outline
 outline n m c = record { programmes = n; commands = m; claim = c }
@@ -43,6 +44,6 @@ next_of (refuse r) = Err r
 next_of (go k) = Ok (kind_next k)
 
 -- a command, by the test of it
-abbrev pub judged_of : Result ⊤ ℕ → Next → Result Next ℕ
+abbrev pub judged_of : Result ⊤ Fault → Next → Result Next ℕ
 judged_of (Ok y) x = Ok x
-judged_of (Err r) x = Err r
+judged_of (Err f) x = Err (number f)

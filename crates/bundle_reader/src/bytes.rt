@@ -3,7 +3,7 @@ ghost use Rattle.std.specs.Prelude.{◌≡◌, ◌+◌, ◌≤◌, ◌<◌, leng
 ghost use Rattle.folds.specs.Folds.{both};
 ghost use Rattle.bundle.specs.Format.{opening, running, sending, claiming};
 ghost use Rattle.commands.specs.Commands.{judge};
-ghost use Rattle.refusals.specs.Refusals.{fault_of};
+ghost use Rattle.refusals.specs.Refusals.{numbered, fault_of};
 ghost use Rattle.bundle.specs.Sizes.{claim_size};
 ghost use Rattle.bundle.specs.Counts.{fault_below, count_format};
 ghost use Rattle.bundle_reader.specs.Answers.{closed_of, next_of};
@@ -11,7 +11,7 @@ ghost use Rattle.bundle_reader.specs.ReadIs.{ReadIs};
 
 use bundle::kinds::{is_message, is_task};
 use bundle::{CLAIM_BYTE, CLAIM_SIZE, LONG_SIZE, OPEN_BYTE, SHORT_SIZE};
-use refusals::Refusal;
+use refusals::{Fault, Refusal};
 
 // How many programmes a bundle has, how many commands stand in them, and the time that it claims.
 #[derive(Clone, Copy)]
@@ -29,49 +29,49 @@ pub enum Next {
     Claim,
 }
 
-// The command at `at` that opens a programme: the number that refuses it, if one does.
-fn open_at(bytes: &[u8], at: usize, opened: usize, processors: usize) -> Result<(), u8>
+// The command at `at` that opens a programme: what refuses it, if anything does.
+fn open_at(bytes: &[u8], at: usize, opened: usize, processors: usize) -> Result<(), Fault>
     requires { at < length bytes.now }
     ensures { fault_of result ≡ fault_below processors opened opening (drop (at + 1) bytes.now) }
 {
     if bytes.len() - (at + 1) < 1 {
-        return Err(21);
+        return Err(Fault::CutBundle);
     }
     let k = reader::get8(bytes, at + 1);
     if k != opened || processors <= k {
-        Err(23)
+        Err(Fault::BundleOutOfTurn)
     } else {
         Ok(())
     }
 }
 
 // The command of a task at `at`.
-fn task_at(bytes: &[u8], at: usize, opened: usize, tasks: usize) -> Result<(), u8>
+fn task_at(bytes: &[u8], at: usize, opened: usize, tasks: usize) -> Result<(), Fault>
     requires { at < length bytes.now }
     ensures { fault_of result ≡ fault_below tasks opened running (drop (at + 1) bytes.now) }
 {
     if opened == 0 {
-        Err(23)
+        Err(Fault::BundleOutOfTurn)
     } else if bytes.len() - (at + 1) < 1 {
-        Err(21)
+        Err(Fault::CutBundle)
     } else if tasks <= reader::get8(bytes, at + 1) {
-        Err(25)
+        Err(Fault::UnknownNumber)
     } else {
         Ok(())
     }
 }
 
 // The command of a link at `at`.
-fn message_at(bytes: &[u8], at: usize, opened: usize, links: usize) -> Result<(), u8>
+fn message_at(bytes: &[u8], at: usize, opened: usize, links: usize) -> Result<(), Fault>
     requires { at < length bytes.now }
     ensures { fault_of result ≡ fault_below links opened sending (drop (at + 1) bytes.now) }
 {
     if opened == 0 {
-        Err(23)
+        Err(Fault::BundleOutOfTurn)
     } else if bytes.len() - (at + 1) < 2 {
-        Err(21)
+        Err(Fault::CutBundle)
     } else if links <= reader::get16(bytes, at + 1) as usize {
-        Err(25)
+        Err(Fault::UnknownNumber)
     } else {
         Ok(())
     }
@@ -85,14 +85,14 @@ pub fn is_early(opened: usize, tasks: usize) -> bool
 }
 
 // The claim at `at`.
-fn claim_at(bytes: &[u8], at: usize, opened: usize, tasks: usize) -> Result<(), u8>
+fn claim_at(bytes: &[u8], at: usize, opened: usize, tasks: usize) -> Result<(), Fault>
     requires { at < length bytes.now }
     ensures { fault_of result ≡ fault_below tasks opened claiming (drop (at + 1) bytes.now) }
 {
     if is_early(opened, tasks) {
-        Err(23)
+        Err(Fault::BundleOutOfTurn)
     } else if bytes.len() - (at + 1) < 4 {
-        Err(21)
+        Err(Fault::CutBundle)
     } else {
         Ok(())
     }
@@ -105,10 +105,7 @@ fn closing(bytes: &[u8], at: usize, opened: usize, commands: usize) -> Result<Ou
 {
     let past = at + CLAIM_SIZE;
     if past < bytes.len() {
-        return Err(Refusal {
-            number: 24,
-            place: past,
-        });
+        return Err(Fault::BundleTail.at(past));
     }
     Ok(Outline {
         programmes: opened,
@@ -117,7 +114,7 @@ fn closing(bytes: &[u8], at: usize, opened: usize, commands: usize) -> Result<Ou
     })
 }
 
-// The command at `at`, behind so many programmes that are open; or the number that refuses it.
+// The command at `at`, behind so many programmes that are open; or what refuses it.
 fn next_at(
     bytes: &[u8],
     at: usize,
@@ -125,12 +122,12 @@ fn next_at(
     processors: usize,
     tasks: usize,
     links: usize,
-) -> Result<Next, u8>
+) -> Result<Next, Fault>
     requires { at ≤ length bytes.now }
-    ensures { result ≡ next_of (judge (count_format processors tasks links) opened (drop at bytes.now)) }
+    ensures { numbered result ≡ next_of (judge (count_format processors tasks links) opened (drop at bytes.now)) }
 {
     if bytes.len() <= at {
-        return Err(21);
+        return Err(Fault::CutBundle);
     }
     let c = reader::get8(bytes, at) as u16;
     if is_message(c) {
@@ -146,7 +143,7 @@ fn next_at(
         claim_at(bytes, at, opened, tasks)?;
         Ok(Next::Claim)
     } else {
-        Err(22)
+        Err(Fault::StrangeBundleCommand)
     }
 }
 

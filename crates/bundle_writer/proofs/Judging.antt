@@ -28,8 +28,10 @@ use Rattle.bundle_writer.specs.Writes.{judged_of, RefusalIs, known_fault, open_f
 use Rattle.bundle_writer.specs.Judges.{Judging, Judges, NextIs, went_on, spot}
 use Rattle.bundle_writer.specs.declared.writer.Spot.{Spot}
 use Rattle.std.specs.Prelude.{⊤, Result, Ok, Err}
-use Rattle.refusals.specs.Refusals.{refusal, fault_of, placed}
+use Rattle.refusals.specs.Refusals.{number, refusal, fault_of, placed}
 use Rattle.refusals.specs.declared.Refusal.{Refusal}
+use Rattle.refusals.specs.declared.Fault.{Fault}
+use Rattle.refusals.specs.declared.Fault.TheVariants.{BundleOutOfTurn}
 use Rattle.bundle.proofs.Steps.{on-claim}
 use Rattle.bundle.proofs.Parts.{drop-operand, length-within}
 use Rattle.bundle.proofs.Faults.{judge-sized, fault-link, fault-task, message-kind, task-kind, strange-kind}
@@ -256,7 +258,7 @@ module _ {vs : List ℕ} {p t l n at i : ℕ} (g : Judges vs p t l n at i) (more
       ∙ ap (λ (q : Option Kind). judge_kind (count_format p t l) n (some k) (operand_bytes q x ++ r)) e
       ∙ ap (verdict (count_format p t l) k) (sym (h r))
 
-  on-kind : (k : Kind) → closes k ≡ false → kind_of (get_or vs i 0) ≡ some k → (r : Result ⊤ ℕ) → r ≡ Ok tt
+  on-kind : (k : Kind) → closes k ≡ false → kind_of (get_or vs i 0) ≡ some k → (r : Result ⊤ Fault) → r ≡ Ok tt
       → ((b : List ℕ) → fault_of r ≡ fault_below (limit_of p t l k) n k (operand_bytes (some k) (get_or vs (i + 1) 0) ++ b))
       → Judges vs p t l (opened_behind n k) (at + (1 + width k)) (i + 2)
   on-kind k c e r z h =
@@ -264,16 +266,16 @@ module _ {vs : List ℕ} {p t l n at i : ℕ} (g : Judges vs p t l n at i) (more
         place = omega arith;
         near = omega (arith, g.near, width-most k c);
         few = omega (arith, g.few, opened-most n k);
-        each = λ s q claim m. judging-on q (g.each s q claim m) k c more (judged-kind k e (fault_of r) h claim ∙ ap (λ (x : Result ⊤ ℕ). verdict (count_format p t l) k (fault_of x)) z);
+        each = λ s q claim m. judging-on q (g.each s q claim m) k c more (judged-kind k e (fault_of r) h claim ∙ ap (λ (x : Result ⊤ Fault). verdict (count_format p t l) k (fault_of x)) z);
       }
 
-  refused-kind : (k : Kind) → kind_of (get_or vs i 0) ≡ some k → (r : Result ⊤ ℕ) (m : ℕ) → r ≡ Err m
-      → ((b : List ℕ) → fault_of r ≡ fault_below (limit_of p t l k) n k (operand_bytes (some k) (get_or vs (i + 1) 0) ++ b)) → RefusalIs vs p t l (Err (refusal m at))
+  refused-kind : (k : Kind) → kind_of (get_or vs i 0) ≡ some k → (r : Result ⊤ Fault) (m : Fault) → r ≡ Err m
+      → ((b : List ℕ) → fault_of r ≡ fault_below (limit_of p t l k) n k (operand_bytes (some k) (get_or vs (i + 1) 0) ++ b)) → RefusalIs vs p t l (Err (refusal (number m) at))
   refused-kind k e r m z h =
-      record { answer = λ s q claim few. judging-refused q (g.each s q claim few) m (judged-kind k e (fault_of r) h claim ∙ ap (λ (x : Result ⊤ ℕ). verdict (count_format p t l) k (fault_of x)) z) }
+      record { answer = λ s q claim few. judging-refused q (g.each s q claim few) (number m) (judged-kind k e (fault_of r) h claim ∙ ap (λ (x : Result ⊤ Fault). verdict (count_format p t l) k (fault_of x)) z) }
 
   -- a command of a link, and one of a task
-  judges-message : get_or vs (i + 1) 0 < 65536 → is_message (get_or vs i 0) ≡ true → (r : Result ⊤ ℕ) → fault_of r ≡ known_fault l n (get_or vs (i + 1) 0) → r ≡ Ok tt → Judges vs p t l n (at + long_size) (i + 2)
+  judges-message : get_or vs (i + 1) 0 < 65536 → is_message (get_or vs i 0) ≡ true → (r : Result ⊤ Fault) → fault_of r ≡ known_fault l n (get_or vs (i + 1) 0) → r ≡ Ok tt → Judges vs p t l n (at + long_size) (i + 2)
   judges-message s e r h z = let f = message-kind (get_or vs i 0) e in by f.among f.is
     where
       by : {k : Kind} → OfLink k → kind_of (get_or vs i 0) ≡ some k → Judges vs p t l n (at + long_size) (i + 2)
@@ -281,51 +283,51 @@ module _ {vs : List ℕ} {p t l n at i : ℕ} (g : Judges vs p t l n at i) (more
       by receives q = on-kind receiving refl q r z (λ b. h ∙ sym (fault-of-link l n (get_or vs (i + 1) 0) b receives s))
       by discards q = on-kind discarding refl q r z (λ b. h ∙ sym (fault-of-link l n (get_or vs (i + 1) 0) b discards s))
 
-  judges-message-no : get_or vs (i + 1) 0 < 65536 → is_message (get_or vs i 0) ≡ true → (r : Result ⊤ ℕ) → fault_of r ≡ known_fault l n (get_or vs (i + 1) 0) → (m : ℕ) → r ≡ Err m → RefusalIs vs p t l (Err (refusal m at))
+  judges-message-no : get_or vs (i + 1) 0 < 65536 → is_message (get_or vs i 0) ≡ true → (r : Result ⊤ Fault) → fault_of r ≡ known_fault l n (get_or vs (i + 1) 0) → (m : Fault) → r ≡ Err m → RefusalIs vs p t l (Err (refusal (number m) at))
   judges-message-no s e r h m z = let f = message-kind (get_or vs i 0) e in by f.among f.is
     where
-      by : {k : Kind} → OfLink k → kind_of (get_or vs i 0) ≡ some k → RefusalIs vs p t l (Err (refusal m at))
+      by : {k : Kind} → OfLink k → kind_of (get_or vs i 0) ≡ some k → RefusalIs vs p t l (Err (refusal (number m) at))
       by sends q = refused-kind sending q r m z (λ b. h ∙ sym (fault-of-link l n (get_or vs (i + 1) 0) b sends s))
       by receives q = refused-kind receiving q r m z (λ b. h ∙ sym (fault-of-link l n (get_or vs (i + 1) 0) b receives s))
       by discards q = refused-kind discarding q r m z (λ b. h ∙ sym (fault-of-link l n (get_or vs (i + 1) 0) b discards s))
 
-  judges-task : is_task (get_or vs i 0) ≡ true → (r : Result ⊤ ℕ) → fault_of r ≡ known_fault t n (get_or vs (i + 1) 0) → r ≡ Ok tt → Judges vs p t l n (at + short_size) (i + 2)
+  judges-task : is_task (get_or vs i 0) ≡ true → (r : Result ⊤ Fault) → fault_of r ≡ known_fault t n (get_or vs (i + 1) 0) → r ≡ Ok tt → Judges vs p t l n (at + short_size) (i + 2)
   judges-task e r h z = let f = task-kind (get_or vs i 0) e in by f.among f.is
     where
       by : {k : Kind} → OfTask k → kind_of (get_or vs i 0) ≡ some k → Judges vs p t l n (at + short_size) (i + 2)
       by runs q = on-kind running refl q r z (λ b. h ∙ sym (fault-of-task t n (get_or vs (i + 1) 0) b runs))
       by releases q = on-kind releasing refl q r z (λ b. h ∙ sym (fault-of-task t n (get_or vs (i + 1) 0) b releases))
 
-  judges-task-no : is_task (get_or vs i 0) ≡ true → (r : Result ⊤ ℕ) → fault_of r ≡ known_fault t n (get_or vs (i + 1) 0) → (m : ℕ) → r ≡ Err m → RefusalIs vs p t l (Err (refusal m at))
+  judges-task-no : is_task (get_or vs i 0) ≡ true → (r : Result ⊤ Fault) → fault_of r ≡ known_fault t n (get_or vs (i + 1) 0) → (m : Fault) → r ≡ Err m → RefusalIs vs p t l (Err (refusal (number m) at))
   judges-task-no e r h m z = let f = task-kind (get_or vs i 0) e in by f.among f.is
     where
-      by : {k : Kind} → OfTask k → kind_of (get_or vs i 0) ≡ some k → RefusalIs vs p t l (Err (refusal m at))
+      by : {k : Kind} → OfTask k → kind_of (get_or vs i 0) ≡ some k → RefusalIs vs p t l (Err (refusal (number m) at))
       by runs q = refused-kind running q r m z (λ b. h ∙ sym (fault-of-task t n (get_or vs (i + 1) 0) b runs))
       by releases q = refused-kind releasing q r m z (λ b. h ∙ sym (fault-of-task t n (get_or vs (i + 1) 0) b releases))
 
-  judges-open : get_or vs i 0 ≡ 0x50 → (r : Result ⊤ ℕ) → fault_of r ≡ open_fault p n (get_or vs (i + 1) 0) → r ≡ Ok tt → Judges vs p t l (n + 1) (at + 2) (i + 2)
+  judges-open : get_or vs i 0 ≡ 0x50 → (r : Result ⊤ Fault) → fault_of r ≡ open_fault p n (get_or vs (i + 1) 0) → r ≡ Ok tt → Judges vs p t l (n + 1) (at + 2) (i + 2)
   judges-open e r h z = on-kind opening refl (ap kind_of e) r z (λ b. h ∙ sym (fault-opening p n (get_or vs (i + 1) 0) b))
 
-  judges-open-no : get_or vs i 0 ≡ 0x50 → (r : Result ⊤ ℕ) → fault_of r ≡ open_fault p n (get_or vs (i + 1) 0) → (m : ℕ) → r ≡ Err m → RefusalIs vs p t l (Err (refusal m at))
+  judges-open-no : get_or vs i 0 ≡ 0x50 → (r : Result ⊤ Fault) → fault_of r ≡ open_fault p n (get_or vs (i + 1) 0) → (m : Fault) → r ≡ Err m → RefusalIs vs p t l (Err (refusal (number m) at))
   judges-open-no e r h m z = refused-kind opening (ap kind_of e) r m z (λ b. h ∙ sym (fault-opening p n (get_or vs (i + 1) 0) b))
 
   -- .. and what a fault makes of each
-  went_on_lem : (r : Result ⊤ ℕ) (behind m : ℕ) → (r ≡ Ok tt → Judges vs p t l m behind (i + 2)) → ((x : ℕ) → r ≡ Err x → RefusalIs vs p t l (Err (refusal x at))) → {q : Result Spot Refusal} → q ≡ went_on r at behind m → NextIs vs p t l i q
+  went_on_lem : (r : Result ⊤ Fault) (behind m : ℕ) → (r ≡ Ok tt → Judges vs p t l m behind (i + 2)) → ((x : Fault) → r ≡ Err x → RefusalIs vs p t l (Err (refusal (number x) at))) → {q : Result Spot Refusal} → q ≡ went_on r at behind m → NextIs vs p t l i q
   went_on_lem (Ok x) behind m f g e = subst (NextIs vs p t l i) (sym e) (only-on (f refl))
   went_on_lem (Err x) behind m f g e = subst (NextIs vs p t l i) (sym e) (only_out (g x refl))
 
-  pub next-message : get_or vs (i + 1) 0 < 65536 → is_message (get_or vs i 0) ≡ true → (r : Result ⊤ ℕ) → fault_of r ≡ known_fault l n (get_or vs (i + 1) 0) → {q : Result Spot Refusal} → q ≡ went_on r at (at + long_size) n → NextIs vs p t l i q
+  pub next-message : get_or vs (i + 1) 0 < 65536 → is_message (get_or vs i 0) ≡ true → (r : Result ⊤ Fault) → fault_of r ≡ known_fault l n (get_or vs (i + 1) 0) → {q : Result Spot Refusal} → q ≡ went_on r at (at + long_size) n → NextIs vs p t l i q
   next-message s e r h = went_on_lem r (at + long_size) n (judges-message s e r h) (judges-message-no s e r h)
 
-  pub next-task : is_task (get_or vs i 0) ≡ true → (r : Result ⊤ ℕ) → fault_of r ≡ known_fault t n (get_or vs (i + 1) 0) → {q : Result Spot Refusal} → q ≡ went_on r at (at + short_size) n → NextIs vs p t l i q
+  pub next-task : is_task (get_or vs i 0) ≡ true → (r : Result ⊤ Fault) → fault_of r ≡ known_fault t n (get_or vs (i + 1) 0) → {q : Result Spot Refusal} → q ≡ went_on r at (at + short_size) n → NextIs vs p t l i q
   next-task e r h = went_on_lem r (at + short_size) n (judges-task e r h) (judges-task-no e r h)
 
-  pub next-open : get_or vs i 0 ≡ 0x50 → (r : Result ⊤ ℕ) → fault_of r ≡ open_fault p n (get_or vs (i + 1) 0) → {q : Result Spot Refusal} → q ≡ went_on r at (at + 2) (n + 1) → NextIs vs p t l i q
+  pub next-open : get_or vs i 0 ≡ 0x50 → (r : Result ⊤ Fault) → fault_of r ≡ open_fault p n (get_or vs (i + 1) 0) → {q : Result Spot Refusal} → q ≡ went_on r at (at + 2) (n + 1) → NextIs vs p t l i q
   next-open e r h = went_on_lem r (at + 2) (n + 1) (judges-open e r h) (judges-open-no e r h)
 
   -- a claim among the commands
   pub judges-claim-no : get_or vs i 0 ≡ 0x5A → both (ltb 0 t) (eqb n 0) ≡ true → RefusalIs vs p t l (Err (refusal 23 at))
-  judges-claim-no e z = refused-kind claiming (ap kind_of e) (Err 23) 23 refl (λ b. sym (fault-claiming t n (get_or vs (i + 1) 0) b ∙ rw z))
+  judges-claim-no e z = refused-kind claiming (ap kind_of e) (Err BundleOutOfTurn) BundleOutOfTurn refl (λ b. sym (fault-claiming t n (get_or vs (i + 1) 0) b ∙ rw z))
 
   pub judges-tail : get_or vs i 0 ≡ 0x5A → both (ltb 0 t) (eqb n 0) ≡ false → RefusalIs vs p t l (Err (refusal 24 (at + 5)))
   judges-tail e z =
@@ -367,10 +369,10 @@ module _ {vs : List ℕ} {p t l n at i : ℕ} (g : Judges vs p t l n at i) where
       record { answer = λ s z claim m. judging-end z (g.each s z claim m) h begun m }
 
 -- a fault, by the code's test
-pub went-out : (r : Result ⊤ ℕ) (at behind n : ℕ) (x : Refusal) → Err x ≡ placed at r → Err x ≡ went_on r at behind n
+pub went-out : (r : Result ⊤ Fault) (at behind n : ℕ) (x : Refusal) → Err x ≡ placed at r → Err x ≡ went_on r at behind n
 went-out (Ok y) at behind n x h = absurd cc
-went-out (Err m) at behind n x h = let q : x ≡ refusal m at = cc in ap Err q
+went-out (Err m) at behind n x h = let q : x ≡ refusal (number m) at = cc in ap Err q
 
-pub went-in : (r : Result ⊤ ℕ) (at behind n : ℕ) → Ok tt ≡ placed at r → Ok (spot behind n) ≡ went_on r at behind n
+pub went-in : (r : Result ⊤ Fault) (at behind n : ℕ) → Ok tt ≡ placed at r → Ok (spot behind n) ≡ went_on r at behind n
 went-in (Ok y) at behind n h = refl
 went-in (Err m) at behind n h = absurd cc

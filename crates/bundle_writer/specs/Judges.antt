@@ -8,8 +8,9 @@ use Rattle.bundle.specs.Writing.{value_bytes}
 use Rattle.bundle.specs.Counts.{Sized}
 use Rattle.bundle_writer.specs.Writes.{RefusalIs}
 use Rattle.std.specs.Prelude.{⊤, Result, Ok, Err}
-use Rattle.refusals.specs.Refusals.{refusal}
+use Rattle.refusals.specs.Refusals.{number, refusal}
 use Rattle.refusals.specs.declared.Refusal.{Refusal}
+use Rattle.refusals.specs.declared.Fault.{Fault}
 use Rattle.bundle_writer.specs.declared.writer.Spot.{Spot}
 
 -- for one sheet and one claim: the programmes of the values so far, and that reading on gives the whole answer
@@ -35,6 +36,6 @@ abbrev pub spot : ℕ → ℕ → Spot
 spot at n = record { at = at; opened = n }
 
 -- the command at an offset, by the test of it: behind it stand so many bytes, and so many programmes are open there
-abbrev pub went_on : Result ⊤ ℕ → ℕ → ℕ → ℕ → Result Spot Refusal
+abbrev pub went_on : Result ⊤ Fault → ℕ → ℕ → ℕ → Result Spot Refusal
 went_on (Ok x) at behind opened = Ok (spot behind opened)
-went_on (Err n) at behind opened = Err (refusal n at)
+went_on (Err f) at behind opened = Err (refusal (number f) at)

@@ -6,7 +6,7 @@ ghost use Rattle.bundle_writer.specs.Copies.{Copyable, CopyIs, ValuesIs, operand
 use bundle::CLAIM_SIZE;
 use bundle::kinds::{is_message, size_of};
 use bundle_reader::bytes::read;
-use refusals::Refusal;
+use refusals::{Fault, Refusal};
 
 // How many values a bundle has, and the time that it claims.
 #[derive(Clone, Copy)]
@@ -61,10 +61,7 @@ pub fn read_values(
     let outline = read(bytes, processors, tasks, links, words)?;
     let values = 2 * (outline.programmes + outline.commands);
     if out.len() < values {
-        return Err(Refusal {
-            number: 12,
-            place: values,
-        });
+        return Err(Fault::ShortOutput.at(values));
     }
     copy(bytes, out);
     Ok(Copied {

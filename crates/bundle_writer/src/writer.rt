@@ -2,7 +2,7 @@
 ghost use Rattle.std.specs.Prelude.{◌≡◌, ◌++◌, ◌+◌, ◌<◌, ◌≤◌, length, drop, eqb, ltb};
 ghost use Rattle.folds.specs.Folds.{pick, both};
 ghost use Rattle.bundle.specs.Writing.{value_bytes};
-ghost use Rattle.refusals.specs.Refusals.{fault_of};
+ghost use Rattle.refusals.specs.Refusals.{number, fault_of};
 ghost use Rattle.bundle_writer.specs.Writes.{Counted, WriteIs, RefusalIs, known_fault, open_fault, cut_number, Writable, PutIs};
 ghost use Rattle.bundle_writer.specs.Judges.{Judges, NextIs};
 
@@ -12,7 +12,7 @@ use bundle::{
     RUN_BYTE, SEND_BYTE, SHORT_SIZE,
 };
 use bundle_reader::bytes::is_early;
-use refusals::Refusal;
+use refusals::{Fault, Refusal};
 
 // Where the next command stands, and how many programmes are open before it.
 #[derive(Clone, Copy)]
@@ -21,55 +21,63 @@ pub struct Spot {
     pub opened: usize,
 }
 
-// A command in a programme of this number, of which `limit` are declared: the number that refuses it, if one does.
-fn known_fault(operand: u16, opened: usize, limit: usize) -> Result<(), u8>
+// A command in a programme of this number, of which `limit` are declared: what refuses it, if anything does.
+fn known_fault(operand: u16, opened: usize, limit: usize) -> Result<(), Fault>
     ensures { fault_of result ≡ known_fault limit opened operand }
 {
     if opened == 0 {
-        Err(23)
+        Err(Fault::BundleOutOfTurn)
     } else if limit <= operand as usize {
-        Err(25)
+        Err(Fault::UnknownNumber)
     } else {
         Ok(())
     }
 }
 
 // A command that opens this processor's programme.
-fn open_fault(operand: u16, opened: usize, processors: usize) -> Result<(), u8>
+fn open_fault(operand: u16, opened: usize, processors: usize) -> Result<(), Fault>
     ensures { fault_of result ≡ open_fault processors opened operand }
 {
     let k = operand as usize;
     if k != opened || processors <= k {
-        Err(23)
+        Err(Fault::BundleOutOfTurn)
     } else {
         Ok(())
     }
 }
 
-// The number that refuses a command of a programme whose operand is missing.
-fn cut_inside(opened: usize) -> u8
-    ensures { result ≡ pick (eqb opened 0) 23 21 }
+// What refuses a command of a programme whose operand is missing.
+fn cut_inside(opened: usize) -> Fault
+    ensures { number result ≡ pick (eqb opened 0) 23 21 }
 {
-    if opened == 0 { 23 } else { 21 }
+    if opened == 0 {
+        Fault::BundleOutOfTurn
+    } else {
+        Fault::CutBundle
+    }
 }
 
-// The number that refuses a claim whose operand is missing.
-fn cut_claim(opened: usize, tasks: usize) -> u8
-    ensures { result ≡ pick (both (ltb 0 tasks) (eqb opened 0)) 23 21 }
+// What refuses a claim whose operand is missing.
+fn cut_claim(opened: usize, tasks: usize) -> Fault
+    ensures { number result ≡ pick (both (ltb 0 tasks) (eqb opened 0)) 23 21 }
 {
-    if is_early(opened, tasks) { 23 } else { 21 }
+    if is_early(opened, tasks) {
+        Fault::BundleOutOfTurn
+    } else {
+        Fault::CutBundle
+    }
 }
 
-// The number that refuses any command whose operand is missing.
+// What refuses any command whose operand is missing.
 #[tactic(auto, unfolding(crate::specs::Writes::cut_number))]
-fn cut_number(command: u16, opened: usize, tasks: usize) -> u8
-    ensures { result ≡ cut_number tasks opened command }
+fn cut_fault(command: u16, opened: usize, tasks: usize) -> Fault
+    ensures { number result ≡ cut_number tasks opened command }
 {
     match command {
         RUN_BYTE | SEND_BYTE | RECEIVE_BYTE | RELEASE_BYTE | DISCARD_BYTE => cut_inside(opened),
-        OPEN_BYTE => 21,
+        OPEN_BYTE => Fault::CutBundle,
         CLAIM_BYTE => cut_claim(opened, tasks),
-        _ => 22,
+        _ => Fault::StrangeBundleCommand,
     }
 }
 
@@ -108,20 +116,11 @@ fn next_at(
             opened: opened + 1,
         })
     } else if c != CLAIM_BYTE {
-        Err(Refusal {
-            number: 22,
-            place: at,
-        })
+        Err(Fault::StrangeBundleCommand.at(at))
     } else if is_early(opened, tasks) {
-        Err(Refusal {
-            number: 23,
-            place: at,
-        })
+        Err(Fault::BundleOutOfTurn.at(at))
     } else {
-        Err(Refusal {
-            number: 24,
-            place: at + CLAIM_SIZE,
-        })
+        Err(Fault::BundleTail.at(at + CLAIM_SIZE))
     }
 }
 
@@ -140,15 +139,9 @@ pub fn refusal(
     }
     if commands.len() % 2 == 1 {
         let cut = commands[commands.len() - 1];
-        Err(Refusal {
-            number: cut_number(cut, spot.opened, tasks),
-            place: spot.at,
-        })
+        Err(cut_fault(cut, spot.opened, tasks).at(spot.at))
     } else if is_early(spot.opened, tasks) {
-        Err(Refusal {
-            number: 23,
-            place: spot.at,
-        })
+        Err(Fault::BundleOutOfTurn.at(spot.at))
     } else {
         Ok(spot.at + CLAIM_SIZE)
     }
@@ -196,10 +189,7 @@ pub fn write(
 {
     let need = refusal(commands, processors, tasks, links)?;
     if out.len() < need {
-        return Err(Refusal {
-            number: 12,
-            place: need,
-        });
+        return Err(Fault::ShortOutput.at(need));
     }
     put(commands, claim, out);
     Ok(need)

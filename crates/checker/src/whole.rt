@@ -6,7 +6,7 @@ ghost use Rattle.stepping_machine.specs.Layout.{extent};
 ghost use Rattle.checker.specs.Verdicts.{UnfinishedIs, LatestIs, FinishIs, JudgementIs, CheckIs};
 
 use admission::view::View;
-use refusals::Refusal;
+use refusals::{Fault, Refusal};
 use stepping_machine::settling::settle;
 use stepping_machine::start::admit;
 use stepping_machine::{BOARD, CLOCKS, COUNT, LASTS};
@@ -41,19 +41,13 @@ pub fn finish(w: &[u32], claim: usize) -> Result<(), Refusal>
     ensures { FinishIs w.now claim result }
 {
     match unfinished(w) {
-        Some(k) => Err(Refusal {
-            number: 29,
-            place: k,
-        }),
+        Some(k) => Err(Fault::Stuck.at(k)),
         None => {
             let clock = latest(w);
             if clock == claim {
                 Ok(())
             } else {
-                Err(Refusal {
-                    number: 30,
-                    place: clock,
-                })
+                Err(Fault::WrongClaim.at(clock))
             }
         }
     }

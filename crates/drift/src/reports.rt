@@ -12,7 +12,7 @@ use crate::{ENDS, STEPS};
 use admission::view::View;
 use checker::whole::finish;
 use levelling::open;
-use refusals::Refusal;
+use refusals::{Fault, Refusal};
 use stepping_machine::BOARD;
 use stepping_machine::start::admit;
 
@@ -41,10 +41,7 @@ fn put_report(
 {
     let need = 4 * n;
     if out.len() < need {
-        return Err(Refusal {
-            number: 12,
-            place: need,
-        });
+        return Err(Fault::ShortOutput.at(need));
     }
     trace(w, order, slots, steps, claim);
     put_slots(slots, n, out);

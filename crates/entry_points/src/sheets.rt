@@ -14,7 +14,7 @@ ghost use Rattle.entry_points.specs.Parts.{PartIs, SheetIs};
 
 use generator::{bytes, loads};
 use levelling::open;
-use refusals::Refusal;
+use refusals::{Fault, Refusal};
 use sheet::{LINK_SIZE, TASK_SIZE, tables};
 use sheet_writer::{unload, writer};
 use workspace::{LEVELS, LIMIT, LINK_COUNT, PROCESSORS, TASK_COUNT, UNPACKING};
@@ -38,10 +38,7 @@ pub fn levels(sheet: &[u8], work: &mut [u32], out: &mut [u32]) -> Result<usize, 
     open::read(sheet, work)?;
     let n = tables::tasks(work);
     if out.len() < n {
-        return Err(Refusal {
-            number: 12,
-            place: n,
-        });
+        return Err(Fault::ShortOutput.at(n));
     }
     copy_levels(work, out);
     Ok(n)
@@ -66,10 +63,7 @@ pub fn write(
     let start = sheet::front(unpacking as usize, wired);
     let need = start + TASK_SIZE * (tasks.len() / 2) + LINK_SIZE * (links.len() / 4) + 1;
     if out.len() < need {
-        return Err(Refusal {
-            number: 12,
-            place: need,
-        });
+        return Err(Fault::ShortOutput.at(need));
     }
     writer::put_sheet(out, processors, limit, unpacking, wired, tasks, links);
     Ok(need)
@@ -89,18 +83,12 @@ pub fn generate(
     ensures { PartIs (and_then (generated seed tasks tries processors limit) (λ s. fitting (length out.old) (sheet_bytes s))) work.old work.new out.old out.new result }
 {
     if loads::are_outside(seed, tasks, tries, processors) {
-        return Err(Refusal {
-            number: 6,
-            place: 0,
-        });
+        return Err(Fault::Range.at(0));
     }
     loads::fill(seed, tasks, tries, processors, limit, work);
     let need = bytes::byte_count(work);
     if out.len() < need {
-        return Err(Refusal {
-            number: 12,
-            place: need,
-        });
+        return Err(Fault::ShortOutput.at(need));
     }
     bytes::put_sheet(work, out);
     Ok(need)
@@ -135,17 +123,11 @@ pub fn read(
     open::read(sheet, work)?;
     let n = 2 * tables::tasks(work);
     if tasks.len() < n {
-        return Err(Refusal {
-            number: 12,
-            place: n,
-        });
+        return Err(Fault::ShortOutput.at(n));
     }
     let m = 4 * tables::links(work);
     if links.len() < m {
-        return Err(Refusal {
-            number: 12,
-            place: m,
-        });
+        return Err(Fault::ShortOutput.at(m));
     }
     unload::tasks(work, tasks);
     unload::links(work, links);

@@ -11,7 +11,7 @@ ghost use Rattle.formulas.specs.Parts.{SumIs, ProductIs, AtomIs, answer_of};
 
 use crate::operands::{Part, closed, simple, stands};
 use crate::values::{added, multiplied};
-use refusals::Refusal;
+use refusals::{Fault, Refusal};
 
 mod operands;
 mod values;
@@ -85,7 +85,7 @@ fn is_weight(letters: usize, v: u32) -> bool
 fn outside(place: usize) -> Refusal
     ensures { result ≡ refusal 35 place }
 {
-    Refusal { number: 35, place }
+    Fault::NoFormula.at(place)
 }
 
 // The weight of a formula, with the values of the letters a to z.
@@ -98,9 +98,6 @@ pub fn weigh(text: &[u8], letters: &[u32]) -> Result<u64, Refusal>
     }
     match whole.value {
         Some(v) if is_weight(letters.len(), v) => Ok(u64::from(v)),
-        _ => Err(Refusal {
-            number: 36,
-            place: 0,
-        }),
+        _ => Err(Fault::WrongValue.at(0)),
     }
 }

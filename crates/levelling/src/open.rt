@@ -7,7 +7,7 @@ ghost use Rattle.sheet.specs.Tables.{sheet_in, Loaded};
 ghost use Rattle.graph.specs.Graph.{circle, read_sheet};
 ghost use Rattle.levelling.specs.Opened.{OpenIs};
 
-use refusals::Refusal;
+use refusals::{Fault, Refusal};
 use sheet_reader::values;
 
 // Refusal 10 for a sheet that has the form, or its levels beside it.
@@ -16,10 +16,7 @@ fn level(w: &mut [u32]) -> Result<(), Refusal>
     ensures { OpenIs (unless 10 (circle (sheet_in w.old)) (value (sheet_in w.old))) w.old w.new result }
 {
     match crate::levels(w) {
-        Some(t) => Err(Refusal {
-            number: 10,
-            place: t,
-        }),
+        Some(t) => Err(Fault::Loop.at(t)),
         None => Ok(()),
     }
 }

@@ -12,7 +12,7 @@ ghost use Rattle.listing_writer.specs.Lines.{Standing, Stands};
 ghost use Rattle.listing_writer.specs.Listed.{FitIs, ListIs, planned_lines};
 
 use levelling::open;
-use refusals::Refusal;
+use refusals::{Fault, Refusal};
 
 mod fields;
 mod rows;
@@ -25,10 +25,7 @@ fn list_refusal(refusal: Refusal, out: &mut [u8]) -> Result<usize, Refusal>
     let place = refusal.place;
     let need = rows::refusal_length(number, place);
     if out.len() < need {
-        return Err(Refusal {
-            number: 12,
-            place: need,
-        });
+        return Err(Fault::ShortOutput.at(need));
     }
     rows::put_refusal(out, number, place);
     Ok(need)
@@ -42,10 +39,7 @@ fn list_counted(w: &[u32], out: &mut [u8]) -> Result<usize, Refusal>
 {
     let need = rows::needed(w);
     if out.len() < need {
-        return Err(Refusal {
-            number: 12,
-            place: need,
-        });
+        return Err(Fault::ShortOutput.at(need));
     }
     rows::put_schedule(w, out);
     Ok(need)

@@ -17,7 +17,7 @@ pub mod whole;
 mod writing;
 
 use adjacency::End;
-use refusals::Refusal;
+use refusals::{Fault, Refusal};
 use sheet::tables;
 
 // The task at the other end of link l.
@@ -48,10 +48,7 @@ pub fn write(w: &[u32], out: &mut [u8]) -> Result<usize, Refusal>
 {
     let need = measuring::of_bundle(w);
     if out.len() < need {
-        return Err(Refusal {
-            number: 12,
-            place: need,
-        });
+        return Err(Fault::ShortOutput.at(need));
     }
     writing::put_bundle(w, out);
     Ok(need)

@@ -1,8 +1,9 @@
 -- The answer behind what code answers.
 use Rattle.std.specs.Prelude.{ℕ, ◌≡◌, Result, Ok, Err}
 use Rattle.folds.specs.Answers.{Answer, value, refused}
-use Rattle.refusals.specs.Refusals.{refusal, result_of, placed}
+use Rattle.refusals.specs.Refusals.{number, refusal, result_of, placed}
 use Rattle.refusals.specs.declared.Refusal.{Refusal}
+use Rattle.refusals.specs.declared.Fault.{Fault}
 use mathlib.Core.Path.{refl, sym, ap}
 
 module _ {A T : Type 0} (f : A → T) where
@@ -22,15 +23,15 @@ module _ {A T : Type 0} (f : A → T) where
   value-by (refused n at) t e = absurd cc
 
 -- what a test found, by its fault at a place
-pub record Faulted {T : Type 0} (at : ℕ) (t : Result T ℕ) (r : Refusal) : Type 0 where
-  pub number : ℕ
-  pub found : t ≡ Err number
-  pub is : r ≡ refusal number at
+pub record Faulted {T : Type 0} (at : ℕ) (t : Result T Fault) (r : Refusal) : Type 0 where
+  pub fault : Fault
+  pub found : t ≡ Err fault
+  pub is : r ≡ refusal (number fault) at
 
-pub fault-by : {T : Type 0} (at : ℕ) (t : Result T ℕ) (r : Refusal) → Err r ≡ placed at t → Faulted at t r
+pub fault-by : {T : Type 0} (at : ℕ) (t : Result T Fault) (r : Refusal) → Err r ≡ placed at t → Faulted at t r
 fault-by at (Ok x) r e = absurd cc
-fault-by at (Err n) r e = record { number = n; found = refl; is = cc }
+fault-by at (Err f) r e = record { fault = f; found = refl; is = cc }
 
-pub found-by : {T : Type 0} (at : ℕ) (t : Result T ℕ) (x : T) → Ok x ≡ placed at t → t ≡ Ok x
+pub found-by : {T : Type 0} (at : ℕ) (t : Result T Fault) (x : T) → Ok x ≡ placed at t → t ≡ Ok x
 found-by at (Ok y) x e = let q : x ≡ y = cc in ap Ok (sym q)
-found-by at (Err n) x e = absurd cc
+found-by at (Err f) x e = absurd cc

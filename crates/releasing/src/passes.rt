@@ -17,7 +17,7 @@ use admission::releases::keep_lasts;
 use admission::view::View;
 use checker::whole::judgement;
 use levelling::open;
-use refusals::Refusal;
+use refusals::{Fault, Refusal};
 use stepping_machine::BOARD;
 
 // A bundle as it is.
@@ -25,10 +25,7 @@ fn put_same(bundle: &[u8], out: &mut [u8]) -> Result<usize, Refusal>
     ensures { WriteIs (fitting (length out.old) bundle.now) out.old out.new result }
 {
     if out.len() < bundle.len() {
-        return Err(Refusal {
-            number: 12,
-            place: bundle.len(),
-        });
+        return Err(Fault::ShortOutput.at(bundle.len()));
     }
     Ok(copy(bundle, 0, bundle.len(), out, 0))
 }
@@ -41,10 +38,7 @@ fn put_released(bundle: &[u8], w: &[u32], out: &mut [u8]) -> Result<usize, Refus
     let mut own: [u8; 1] = [0; 1];
     let need = insert(bundle, w, &mut own);
     if out.len() < need {
-        return Err(Refusal {
-            number: 12,
-            place: need,
-        });
+        return Err(Fault::ShortOutput.at(need));
     }
     insert(bundle, w, out);
     Ok(need)

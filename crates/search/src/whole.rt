@@ -13,7 +13,7 @@ use crate::walking::Begun;
 use crate::writing::{ROOM, put_bundle};
 use admission::view::View;
 use levelling::open;
-use refusals::Refusal;
+use refusals::{Fault, Refusal};
 use stepping_machine::BOARD;
 
 // The most tasks for which the least time is sought.
@@ -44,17 +44,11 @@ fn search(sheet: &[u8], w: &mut [u32], v: View, out: &mut [u8]) -> Result<usize,
     let mut buf = [0u8; ROOM];
     let mut other = [0u8; ROOM];
     let Some(best) = best_of(sheet, w, &mut buf, &mut other, v) else {
-        return Err(Refusal {
-            number: 11,
-            place: v.tasks.saturating_sub(1),
-        });
+        return Err(Fault::NoStore.at(v.tasks.saturating_sub(1)));
     };
     let n = put_bundle(sheet, &mut buf, v, best.code, v.tasks, best.claim);
     if out.len() < n {
-        return Err(Refusal {
-            number: 12,
-            place: n,
-        });
+        return Err(Fault::ShortOutput.at(n));
     }
     out[..n].copy_from_slice(&buf[..n]);
     Ok(n)
@@ -68,10 +62,7 @@ pub fn least(sheet: &[u8], work: &mut [u32], out: &mut [u8]) -> Result<usize, Re
     open::read(sheet, work)?;
     let v = View::of_tables(work);
     if v.cube || MOST < v.tasks {
-        return Err(Refusal {
-            number: 38,
-            place: v.tasks,
-        });
+        return Err(Fault::NotSmall.at(v.tasks));
     }
     search(sheet, &mut work[BOARD..], v, out)
 }

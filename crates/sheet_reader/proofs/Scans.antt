@@ -30,9 +30,10 @@ use Rattle.sheet_reader.specs.Answers.{outcome, outcome_of, is_unpacking, is_cub
 use Rattle.sheet_reader.specs.Scanning.{Absent, BoardRead, Scanning, Walking, Linking, added_words}
 use Rattle.sheet_reader.specs.declared.bytes.Next.{Next}
 use Rattle.std.specs.Prelude.{⊤, Result, Ok, Err, is_ok}
-use Rattle.refusals.specs.Refusals.{refusal, fault_of, placed}
+use Rattle.refusals.specs.Refusals.{number, refusal, fault_of, placed}
 use Rattle.refusals.proofs.Results.{fault-by}
 use Rattle.refusals.specs.declared.Refusal.{Refusal}
+use Rattle.refusals.specs.declared.Fault.{Fault}
 use Rattle.sheet.proofs.Rows.{tasks-in, links-in}
 use Rattle.sheet.proofs.Fills.{task-long, task-count, task-away, sheet-task, link-long, link-count, link-away, pair-long, pair-away, unpacking-away, unpacking-long, sheet-unpacking, cube-away, cube-long, sheet-cube}
 use Rattle.sheet.proofs.Joins.{unpacking-loaded, cube-loaded, task-loaded, filling-link, link-sheet, blank-sheet, blank-filling}
@@ -101,12 +102,12 @@ module _ (f : Outcome Kind → Bool) (p : Progress) (b : List ℕ) (at : ℕ) {c
       by false q = q
 
 -- a test of a command of kind k tells what becomes of it
-pub told : (k : Kind) (r : Result ⊤ ℕ) → outcome k r ≡ verdict sheet_format k (fault_of r)
+pub told : (k : Kind) (r : Result ⊤ Fault) → outcome k r ≡ verdict sheet_format k (fault_of r)
 told k (Ok x) = refl
 told k (Err n) = refl
 
 -- f asks for commands of kind k, whose first byte stands at `at`: it is what nothing refuses there
-pub its-byte : (f : Outcome Kind → Bool) (p : Progress) (b : List ℕ) (at : ℕ) (k : Kind) → ((r : Result ⊤ ℕ) → f (outcome k r) ≡ is_ok r) → kind_of (byte_of k) ≡ some k → at < length b → get_or b at 0 ≡ byte_of k → (r : Result ⊤ ℕ)
+pub its-byte : (f : Outcome Kind → Bool) (p : Progress) (b : List ℕ) (at : ℕ) (k : Kind) → ((r : Result ⊤ Fault) → f (outcome k r) ≡ is_ok r) → kind_of (byte_of k) ≡ some k → at < length b → get_or b at 0 ≡ byte_of k → (r : Result ⊤ Fault)
     → outcome k r ≡ judge_kind sheet_format p (some k) (drop (at + 1) b) → is_ok r ≡ f (judge sheet_format p (drop at b))
 its-byte f p b at k tells known h q r found =
     sym (tells r) ∙ ap f (found ∙ ap (λ (x : Option Kind). judge_kind sheet_format p x (drop (at + 1) b)) (sym known) ∙ sym (judge-known p b at (byte_of k) h q))
@@ -251,10 +252,10 @@ module _ {a : Answer Sheet} {d w₀ w : List ℕ} {n m e : ℕ} (s : Scanning a 
   pub scan-refuse : (r : ℕ) → judge sheet_format (begun (sheet_in w)) d ≡ refuse r → ReadIs a w₀ w (Err (refusal r e))
   scan-refuse r j = read-refused a w₀ w r e s.long (refuses sheet_format s.going r j)
 
-  pub scan-refused : (t : Result Next ℕ) (r : Refusal) → outcome_of t ≡ judge sheet_format (begun (sheet_in w)) d → Err r ≡ placed e t → ReadIs a w₀ w (Err r)
+  pub scan-refused : (t : Result Next Fault) (r : Refusal) → outcome_of t ≡ judge sheet_format (begun (sheet_in w)) d → Err r ≡ placed e t → ReadIs a w₀ w (Err r)
   scan-refused t r j h =
       let f = fault-by e t r h in
-      subst (λ (x : Refusal). ReadIs a w₀ w (Err x)) (sym f.is) (scan-refuse f.number (sym j ∙ ap outcome_of f.found))
+      subst (λ (x : Refusal). ReadIs a w₀ w (Err x)) (sym f.is) (scan-refuse (number f.fault) (sym j ∙ ap outcome_of f.found))
 
   -- the end: bytes behind it, or the sheet
   scan-end : judge sheet_format (begun (sheet_in w)) d ≡ go end → a ≡ ended (begun (sheet_in w)) e (drop 1 d)
@@ -466,14 +467,14 @@ scan-board v w p l long f g =
     }
 
 -- the board command: refused, or read
-pub open-refuse : (b w : List ℕ) (o : Result ⊤ ℕ) (r : Refusal) → outcome board o ≡ judge sheet_format fresh b → Err r ≡ placed 0 o → ReadIs (read_form b) w w (Err r)
+pub open-refuse : (b w : List ℕ) (o : Result ⊤ Fault) (r : Refusal) → outcome board o ≡ judge sheet_format fresh b → Err r ≡ placed 0 o → ReadIs (read_form b) w w (Err r)
 unfolding read_form
 open-refuse b w o r e h =
     let f = fault-by 0 o r h in
     subst (λ (x : Refusal). ReadIs (read_form b) w w (Err x)) (sym f.is)
-    (read-refused _ w w f.number 0 refl (refuses sheet_format (starts sheet_format fresh b) f.number (sym e ∙ ap (outcome board) f.found)))
+    (read-refused _ w w (number f.fault) 0 refl (refuses sheet_format (starts sheet_format fresh b) (number f.fault) (sym e ∙ ap (outcome board) f.found)))
 
-pub open-go : (b : List ℕ) (o : Result ⊤ ℕ) (x : ⊤) → outcome board o ≡ judge sheet_format fresh b → o ≡ Ok x → judge sheet_format fresh b ≡ go board
+pub open-go : (b : List ℕ) (o : Result ⊤ Fault) (x : ⊤) → outcome board o ≡ judge sheet_format fresh b → o ≡ Ok x → judge sheet_format fresh b ≡ go board
 open-go b o x e h = sym e ∙ ap (outcome board) h
 
 pub open-room : (b : List ℕ) → judge sheet_format fresh b ≡ go board → (board_size ≤ length b) × (get_or b 1 0 ≤ 16)

@@ -9,13 +9,14 @@ use Rattle.sheet.specs.Format.{Kind, board, unpack, wire, task, link, end}
 use Rattle.sheet.specs.Tables.{sheet_in, Loaded}
 use Rattle.sheet_reader.specs.declared.bytes.Next.{Next}
 use Rattle.sheet_reader.specs.declared.bytes.Next.TheVariants.{Unpacking, Cube, Task, Link, End}
-use Rattle.refusals.specs.Refusals.{refusal, result_of}
+use Rattle.refusals.specs.Refusals.{number, refusal, result_of}
 use Rattle.refusals.specs.declared.Refusal.{Refusal}
+use Rattle.refusals.specs.declared.Fault.{Fault}
 
 -- a command of kind k is refused, or is the next one
-abbrev pub outcome : Kind → Result ⊤ ℕ → Outcome Kind
+abbrev pub outcome : Kind → Result ⊤ Fault → Outcome Kind
 outcome k (Ok x) = go k
-outcome k (Err r) = refuse r
+outcome k (Err f) = refuse (number f)
 
 abbrev pub kind : Next → Kind
 kind Unpacking = unpack
@@ -24,9 +25,9 @@ kind Task = task
 kind Link = link
 kind End = end
 
-abbrev pub outcome_of : Result Next ℕ → Outcome Kind
+abbrev pub outcome_of : Result Next Fault → Outcome Kind
 outcome_of (Ok n) = go (kind n)
-outcome_of (Err r) = refuse r
+outcome_of (Err f) = refuse (number f)
 
 -- whether an unpacking time comes, a cube, a task, a link
 abbrev pub is_unpacking : Outcome Kind → Bool

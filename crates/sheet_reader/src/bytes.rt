@@ -12,7 +12,7 @@ ghost use Rattle.sheet.specs.Faults.{begun, task_fault, link_fault};
 ghost use Rattle.sheet_reader.specs.Answers.{outcome, outcome_of, is_unpacking, is_cube, is_task, is_link, closed_of, ReadIs};
 ghost use Rattle.sheet_reader.specs.Scanning.{Absent, BoardRead, Walking, Linking, added_words};
 
-use refusals::Refusal;
+use refusals::{Fault, Refusal};
 use sheet::{
     BOARD_BYTE, BOARD_SIZE, CUBE_BYTE, CUBE_SIZE, END_BYTE, LINK_BYTE, LINK_SIZE, TASK_BYTE,
     TASK_SIZE, UNPACKING_BYTE, UNPACKING_SIZE, pairs, tables,
@@ -28,42 +28,42 @@ pub enum Next {
     End,
 }
 
-// The number that refuses a task of this work behind so many others, if one does.
-pub fn task_fault(tasks: usize, work: u16) -> Result<(), u8>
+// What refuses a task of this work behind so many others, if anything does.
+pub fn task_fault(tasks: usize, work: u16) -> Result<(), Fault>
     ensures { fault_of result ≡ task_fault tasks work }
 {
     if 256 <= tasks {
-        return Err(5);
+        return Err(Fault::OverFull);
     }
     if work == 0 {
-        return Err(6);
+        return Err(Fault::Range);
     }
     Ok(())
 }
 
-// The number that refuses a link between these tasks, if one does.
+// What refuses a link between these tasks, if anything does.
 pub fn link_fault(
     w: &[u32],
     tasks: usize,
     links: usize,
     source: usize,
     target: usize,
-) -> Result<(), u8>
+) -> Result<(), Fault>
     requires filling { Filling w.now }
     requires tasks_value { (tasks ≡ get_or w.now task_count_at 0) × (links ≡ get_or w.now link_count_at 0) }
     ensures { fault_of result ≡ link_fault (sheet_in w.now) source target }
 {
     if 1024 <= links {
-        return Err(5);
+        return Err(Fault::OverFull);
     }
     if tasks <= source {
-        return Err(7);
+        return Err(Fault::LooseLink);
     }
     if tasks <= target {
-        return Err(7);
+        return Err(Fault::LooseLink);
     }
     if pairs::joined(w, source, target) {
-        return Err(8);
+        return Err(Fault::DoubledLink);
     }
     Ok(())
 }
@@ -83,29 +83,29 @@ fn unwired(w: &[u32], tasks: usize, links: usize) -> bool
     links == 0
 }
 
-// The unpacking time at `at`, which is in turn only directly behind the board: the number that refuses it, if one does.
-fn unpacking_at(bytes: &[u8], at: usize, w: &[u32], tasks: usize, links: usize) -> Result<(), u8>
+// The unpacking time at `at`, which is in turn only directly behind the board: what refuses it, if anything does.
+fn unpacking_at(bytes: &[u8], at: usize, w: &[u32], tasks: usize, links: usize) -> Result<(), Fault>
     requires loaded { Loaded w.now }
     requires tasks_value { (tasks ≡ get_or w.now task_count_at 0) × (links ≡ get_or w.now link_count_at 0) × (at < length bytes.now) }
     ensures { outcome unpack result ≡ judge_kind sheet_format (begun (sheet_in w.now)) (some unpack) (drop (at + 1) bytes.now) }
 {
     if tables::unpacking(w) != 0 {
-        return Err(3);
+        return Err(Fault::SheetOutOfTurn);
     }
     if !unwired(w, tasks, links) {
-        return Err(3);
+        return Err(Fault::SheetOutOfTurn);
     }
     if bytes.len() - at < UNPACKING_SIZE {
-        return Err(1);
+        return Err(Fault::CutSheet);
     }
     if reader::get16(bytes, at + 1) == 0 {
-        return Err(6);
+        return Err(Fault::Range);
     }
     Ok(())
 }
 
 // A cube, which is in turn only behind the board and its unpacking time.
-fn cube_at(bytes: &[u8], at: usize, w: &[u32], tasks: usize, links: usize) -> Result<(), u8>
+fn cube_at(bytes: &[u8], at: usize, w: &[u32], tasks: usize, links: usize) -> Result<(), Fault>
     requires loaded { Loaded w.now }
     requires tasks_value { (tasks ≡ get_or w.now task_count_at 0) × (links ≡ get_or w.now link_count_at 0) }
     ensures { outcome wire result ≡ judge_kind sheet_format (begun (sheet_in w.now)) (some wire) (drop (at + 1) bytes.now) }
@@ -113,46 +113,46 @@ fn cube_at(bytes: &[u8], at: usize, w: &[u32], tasks: usize, links: usize) -> Re
     if unwired(w, tasks, links) {
         return Ok(());
     }
-    Err(3)
+    Err(Fault::SheetOutOfTurn)
 }
 
 // The task command at `at`.
-fn task_at(bytes: &[u8], at: usize, w: &[u32], tasks: usize, links: usize) -> Result<(), u8>
+fn task_at(bytes: &[u8], at: usize, w: &[u32], tasks: usize, links: usize) -> Result<(), Fault>
     requires loaded { Loaded w.now }
     requires tasks_value { (tasks ≡ get_or w.now task_count_at 0) × (links ≡ get_or w.now link_count_at 0) × (at < length bytes.now) }
     ensures { outcome task result ≡ judge_kind sheet_format (begun (sheet_in w.now)) (some task) (drop (at + 1) bytes.now) }
 {
     if links != 0 {
-        return Err(3);
+        return Err(Fault::SheetOutOfTurn);
     }
     if bytes.len() - at < TASK_SIZE {
-        return Err(1);
+        return Err(Fault::CutSheet);
     }
     task_fault(tasks, reader::get16(bytes, at + 1))
 }
 
 // The link command at `at`.
-fn link_at(bytes: &[u8], at: usize, w: &[u32], tasks: usize, links: usize) -> Result<(), u8>
+fn link_at(bytes: &[u8], at: usize, w: &[u32], tasks: usize, links: usize) -> Result<(), Fault>
     requires filling { Filling w.now }
     requires tasks_value { (tasks ≡ get_or w.now task_count_at 0) × (links ≡ get_or w.now link_count_at 0) × (at < length bytes.now) }
     ensures { outcome link result ≡ judge_kind sheet_format (begun (sheet_in w.now)) (some link) (drop (at + 1) bytes.now) }
 {
     if bytes.len() - at < LINK_SIZE {
-        return Err(1);
+        return Err(Fault::CutSheet);
     }
     let source = reader::get8(bytes, at + 1);
     let target = reader::get8(bytes, at + 2);
     link_fault(w, tasks, links, source, target)
 }
 
-// The command at `at`, behind the board command; or the number that refuses it.
-fn next_at(bytes: &[u8], at: usize, w: &[u32], tasks: usize, links: usize) -> Result<Next, u8>
+// The command at `at`, behind the board command; or what refuses it.
+fn next_at(bytes: &[u8], at: usize, w: &[u32], tasks: usize, links: usize) -> Result<Next, Fault>
     requires filling { Filling w.now }
     requires tasks_value { (tasks ≡ get_or w.now task_count_at 0) × (links ≡ get_or w.now link_count_at 0) × (at ≤ length bytes.now) }
     ensures { outcome_of result ≡ judge sheet_format (begun (sheet_in w.now)) (drop at bytes.now) }
 {
     if bytes.len() <= at {
-        return Err(1);
+        return Err(Fault::CutSheet);
     }
     match bytes[at] {
         TASK_BYTE => {
@@ -172,41 +172,41 @@ fn next_at(bytes: &[u8], at: usize, w: &[u32], tasks: usize, links: usize) -> Re
             cube_at(bytes, at, w, tasks, links)?;
             Ok(Next::Cube)
         }
-        BOARD_BYTE => Err(3),
-        _ => Err(2),
+        BOARD_BYTE => Err(Fault::SheetOutOfTurn),
+        _ => Err(Fault::StrangeSheetCommand),
     }
 }
 
-// The board command at the head, by its operands: the number that refuses it, if one does.
-fn board_at(bytes: &[u8]) -> Result<(), u8>
+// The board command at the head, by its operands: what refuses it, if anything does.
+fn board_at(bytes: &[u8]) -> Result<(), Fault>
     requires { 0 < length bytes.now }
     ensures { outcome board result ≡ judge_kind sheet_format fresh (some board) (drop 1 bytes.now) }
 {
     if bytes.len() < BOARD_SIZE {
-        return Err(1);
+        return Err(Fault::CutSheet);
     }
     let processors = reader::get8(bytes, 1);
     if processors < 1 || 16 < processors {
-        return Err(6);
+        return Err(Fault::Range);
     }
     Ok(())
 }
 
-// The command at the head, which has to be a board's: the number that refuses it, if one does.
-fn opening(bytes: &[u8]) -> Result<(), u8>
+// The command at the head, which has to be a board's: what refuses it, if anything does.
+fn opening(bytes: &[u8]) -> Result<(), Fault>
     ensures { outcome board result ≡ judge sheet_format fresh bytes.now }
 {
     if bytes.len() == 0 {
-        return Err(1);
+        return Err(Fault::CutSheet);
     }
     match bytes[0] {
         BOARD_BYTE => board_at(bytes),
-        TASK_BYTE => Err(3),
-        LINK_BYTE => Err(3),
-        END_BYTE => Err(3),
-        UNPACKING_BYTE => Err(3),
-        CUBE_BYTE => Err(3),
-        _ => Err(2),
+        TASK_BYTE => Err(Fault::SheetOutOfTurn),
+        LINK_BYTE => Err(Fault::SheetOutOfTurn),
+        END_BYTE => Err(Fault::SheetOutOfTurn),
+        UNPACKING_BYTE => Err(Fault::SheetOutOfTurn),
+        CUBE_BYTE => Err(Fault::SheetOutOfTurn),
+        _ => Err(Fault::StrangeSheetCommand),
     }
 }
 
@@ -244,10 +244,7 @@ fn closing(bytes: &[u8], at: usize) -> Result<(), Refusal>
 {
     let past = at + 1;
     if past < bytes.len() {
-        return Err(Refusal {
-            number: 4,
-            place: past,
-        });
+        return Err(Fault::SheetTail.at(past));
     }
     Ok(())
 }
@@ -377,14 +374,8 @@ fn rest(bytes: &[u8], at: usize, w: &[u32], tasks: usize, links: usize) -> Resul
 {
     match refusals::at(next_at(bytes, at, w, tasks, links), at)? {
         Next::End => closing(bytes, at),
-        Next::Link => Err(Refusal {
-            number: 8,
-            place: at,
-        }),
-        _ => Err(Refusal {
-            number: 3,
-            place: at,
-        }),
+        Next::Link => Err(Fault::DoubledLink.at(at)),
+        _ => Err(Fault::SheetOutOfTurn.at(at)),
     }
 }
 

@@ -10,7 +10,7 @@ ghost use Rattle.sheet_reader.specs.Answers.{ReadIs, values_closed};
 ghost use Rattle.sheet_reader.specs.Scanning.{read_on};
 
 use crate::bytes;
-use refusals::Refusal;
+use refusals::{Fault, Refusal};
 use sheet::{LINK_SIZE, TASK_SIZE, pairs, tables};
 
 // Puts link j of the values into the tables.
@@ -34,10 +34,7 @@ fn closing(links: &[u16], start: usize) -> Result<(), Refusal>
 {
     let end = start + LINK_SIZE * (links.len() / 4);
     if links.len() % 4 != 0 {
-        return Err(Refusal {
-            number: 1,
-            place: end,
-        });
+        return Err(Fault::CutSheet.at(end));
     }
     Ok(())
 }
@@ -72,10 +69,7 @@ fn load_tasks(tasks: &[u16], links: &[u16], start: usize, w: &mut [u32]) -> Resu
         tables::put_task(w, i, tasks[k], tasks[k + 1]);
     }
     if tasks.len() % 2 != 0 {
-        return Err(Refusal {
-            number: 1,
-            place: start + TASK_SIZE * n,
-        });
+        return Err(Fault::CutSheet.at(start + TASK_SIZE * n));
     }
     pairs::blank(w, n);
     load_links(links, start + TASK_SIZE * n, n, w)
@@ -107,10 +101,7 @@ pub fn load(
     ensures { ReadIs (read_form (value_bytes processors limit unpacking (cube_of cube) tasks.now links.now)) w.old w.new result }
 {
     if processors < 1 || 16 < processors {
-        return Err(Refusal {
-            number: 6,
-            place: 0,
-        });
+        return Err(Fault::Range.at(0));
     }
     let wired = cube != 0;
     load_board(processors, limit, unpacking, wired, w);

@@ -11,7 +11,7 @@ use crate::{BOARD, COMMANDS, NEEDS, STAMPS};
 use admission::view::View;
 use bundle_reader::bytes::Outline;
 use levelling::open;
-use refusals::Refusal;
+use refusals::{Fault, Refusal};
 
 // 21 to 26, 31 to 33, 37 and 28 of a bundle; where none applies, the words represent the fresh state.
 pub fn admit(sheet: &[u8], bundle: &[u8], w: &mut [u32], v: View) -> Result<Outline, Refusal>
@@ -20,10 +20,7 @@ pub fn admit(sheet: &[u8], bundle: &[u8], w: &mut [u32], v: View) -> Result<Outl
 {
     let outline = admission::judge::judge(sheet, bundle, w, v)?;
     match load(sheet, bundle, w, v, outline.programmes) {
-        Some(k) => Err(Refusal {
-            number: 28,
-            place: k,
-        }),
+        Some(k) => Err(Fault::OverStore.at(k)),
         None => Ok(outline),
     }
 }

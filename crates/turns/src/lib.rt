@@ -15,7 +15,7 @@ ghost use Rattle.turns.specs.Turns.{answer_of, Going, Cleared, Emptied, Afterwar
 
 use adjacency::End;
 use arrivals::Starts;
-use refusals::Refusal;
+use refusals::{Fault, Refusal};
 use sheet::tables;
 use workspace::{FINISHES, OPENED, PLACED, PLACES};
 
@@ -60,10 +60,7 @@ fn place_surveyed(
     ensures { (answer_of result (schedule_in w.new) ≡ place_on (sheet_in w.old) (barred (sheet_in w.old)) (schedule_in w.old) t (choice (sheet_in w.old) (barred (sheet_in w.old)) true (schedule_in w.old) t)) × Going w.old (j + 1) w.new kept.new × Keyed (sheet_in w.new) (schedule_in w.new) q.new }
 {
     match placing::choice_of(w, kept, q, t, starts) {
-        None => Err(Refusal {
-            number: 11,
-            place: t,
-        }),
+        None => Err(Fault::NoStore.at(t)),
         Some(k) => {
             put_on(w, kept, q, j, t, k, starts.at[k] as usize);
             Ok(())

@@ -8,6 +8,7 @@ ghost use Rattle.zeldrupa.specs.Promises.{Gives, GivesSheet, GivesBundle, GivesC
 ghost use Rattle.zeldrupa.specs.Stepping.{GivesStart, GivesRun, GivesStep, GivesLeft, GivesProcessor, GivesStamp};
 
 use entry_points::{bundles, ending, reports, runs, sheets};
+use refusals::Fault;
 
 // Reads a sheet into its tables: two values a task, four a link; processors, limit, tasks, links, the unpacking time, and 1 for a cube into `board`.
 pub fn zeldrupa_read_sheet(
@@ -22,7 +23,7 @@ pub fn zeldrupa_read_sheet(
 {
     if work.len() < workspace::LENGTH {
         *place = workspace::LENGTH as u64;
-        return 13;
+        return Fault::ShortWorkArea as u8;
     }
     let o = sheets::read(sheet, work, tasks, links, board);
     workspace::clear(work);
@@ -45,7 +46,7 @@ pub fn zeldrupa_write_sheet(
 {
     if work.len() < workspace::LENGTH {
         *place = workspace::LENGTH as u64;
-        return 13;
+        return Fault::ShortWorkArea as u8;
     }
     let o = sheets::write(processors, limit, unpacking, cube, tasks, links, work, out);
     workspace::clear(work);
@@ -67,7 +68,7 @@ pub fn zeldrupa_generate(
 {
     if work.len() < workspace::LENGTH {
         *place = workspace::LENGTH as u64;
-        return 13;
+        return Fault::ShortWorkArea as u8;
     }
     let o = sheets::generate(seed, tasks, tries, processors, limit, work, out);
     workspace::clear(work);
@@ -80,7 +81,7 @@ pub fn zeldrupa_levels(sheet: &[u8], work: &mut [u32], out: &mut [u32], place: &
 {
     if work.len() < workspace::LENGTH {
         *place = workspace::LENGTH as u64;
-        return 13;
+        return Fault::ShortWorkArea as u8;
     }
     let o = sheets::levels(sheet, work, out);
     workspace::clear(work);
@@ -100,7 +101,7 @@ pub fn zeldrupa_read_bundle(
 {
     if work.len() < workspace::LENGTH {
         *place = workspace::LENGTH as u64;
-        return 13;
+        return Fault::ShortWorkArea as u8;
     }
     let o = bundles::read(sheet, bundle, work, commands, claim);
     workspace::clear(work);
@@ -120,7 +121,7 @@ pub fn zeldrupa_write_bundle(
 {
     if work.len() < workspace::LENGTH {
         *place = workspace::LENGTH as u64;
-        return 13;
+        return Fault::ShortWorkArea as u8;
     }
     let o = bundles::write(sheet, commands, claim, work, out);
     workspace::clear(work);
@@ -133,7 +134,7 @@ pub fn zeldrupa_check(sheet: &[u8], bundle: &[u8], work: &mut [u32], place: &mut
 {
     if work.len() < workspace::LENGTH {
         *place = workspace::LENGTH as u64;
-        return 13;
+        return Fault::ShortWorkArea as u8;
     }
     let o = bundles::check(sheet, bundle, work);
     workspace::clear(work);
@@ -152,7 +153,7 @@ pub fn zeldrupa_release(
 {
     if work.len() < workspace::LENGTH {
         *place = workspace::LENGTH as u64;
-        return 13;
+        return Fault::ShortWorkArea as u8;
     }
     let o = bundles::release(sheet, bundle, work, out);
     workspace::clear(work);
@@ -171,7 +172,7 @@ pub fn zeldrupa_drift(
 {
     if work.len() < workspace::LENGTH {
         *place = workspace::LENGTH as u64;
-        return 13;
+        return Fault::ShortWorkArea as u8;
     }
     let o = reports::drift(sheet, bundle, work, out);
     workspace::clear(work);
@@ -201,7 +202,7 @@ pub fn zeldrupa_plan(sheet: &[u8], work: &mut [u32], out: &mut [u8], place: &mut
 {
     if work.len() < workspace::LENGTH {
         *place = workspace::LENGTH as u64;
-        return 13;
+        return Fault::ShortWorkArea as u8;
     }
     let o = entry_points::plans::write(sheet, work, out);
     workspace::clear(work);
@@ -214,7 +215,7 @@ pub fn zeldrupa_least(sheet: &[u8], work: &mut [u32], out: &mut [u8], place: &mu
 {
     if work.len() < workspace::LENGTH {
         *place = workspace::LENGTH as u64;
-        return 13;
+        return Fault::ShortWorkArea as u8;
     }
     let o = entry_points::plans::least(sheet, work, out);
     workspace::clear(work);
@@ -227,7 +228,7 @@ pub fn zeldrupa_listing(sheet: &[u8], work: &mut [u32], out: &mut [u8], place: &
 {
     if work.len() < workspace::LENGTH {
         *place = workspace::LENGTH as u64;
-        return 13;
+        return Fault::ShortWorkArea as u8;
     }
     let o = entry_points::plans::list(sheet, work, out);
     workspace::clear(work);
@@ -262,11 +263,11 @@ pub fn zeldrupa_start(
 {
     if work.len() < workspace::LENGTH {
         *place = workspace::LENGTH as u64;
-        return 13;
+        return Fault::ShortWorkArea as u8;
     }
     if state.len() < workspace::LENGTH {
         *place = workspace::LENGTH as u64;
-        return 13;
+        return Fault::ShortWorkArea as u8;
     }
     let o = runs::start(sheet, bundle, work, state);
     workspace::clear(work);
@@ -286,11 +287,11 @@ pub fn zeldrupa_run(
 {
     if work.len() < workspace::LENGTH {
         *place = workspace::LENGTH as u64;
-        return 13;
+        return Fault::ShortWorkArea as u8;
     }
     if state.len() < workspace::LENGTH {
         *place = workspace::LENGTH as u64;
-        return 13;
+        return Fault::ShortWorkArea as u8;
     }
     let o = runs::run(sheet, bundle, choices, work, state);
     workspace::clear(work);
@@ -313,7 +314,7 @@ pub fn zeldrupa_step(
         return 0;
     }
     *place = workspace::LENGTH as u64;
-    13
+    Fault::ShortWorkArea as u8
 }
 
 // The commands still to do.
@@ -322,7 +323,7 @@ pub fn zeldrupa_left(bundle: &[u8], state: &[u32], place: &mut u64) -> u8
 {
     if state.len() < workspace::LENGTH {
         *place = workspace::LENGTH as u64;
-        return 13;
+        return Fault::ShortWorkArea as u8;
     }
     *place = stepping_machine::asks::left(state) as u64;
     0
@@ -340,7 +341,7 @@ pub fn zeldrupa_processor(
 {
     if state.len() < workspace::LENGTH {
         *place = workspace::LENGTH as u64;
-        return 13;
+        return Fault::ShortWorkArea as u8;
     }
     runs::numbers(state, k as usize, processor);
     *place = 0;
@@ -353,7 +354,7 @@ pub fn zeldrupa_stamp(state: &[u32], link: u64, place: &mut u64) -> u8
 {
     if state.len() < workspace::LENGTH {
         *place = workspace::LENGTH as u64;
-        return 13;
+        return Fault::ShortWorkArea as u8;
     }
     *place = stepping_machine::asks::stamp(state, link as usize) as u64;
     0

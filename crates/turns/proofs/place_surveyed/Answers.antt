@@ -25,7 +25,7 @@ put_on-requires c =
     record { going = c.requires.going; j_bound = (c.requires.j_bound.0, c.requires.j_bound.1, on, start, omega (arith, start, start_small c.args.w.now c.args.kept.now c.args.t _ can on)); t_value = (c.requires.t_value.0, c.requires.t_value.1); keyed = c.requires.keyed }
 
 pub returns-in-None : goal.returns-in-None
-returns-in-None c = (place-refused _ _ c.args.t (sym (ap found_of c.in-None.is) ∙ c.choice_of.ensures.0), later-turns (omega arith) c.requires.going, c.requires.keyed)
+returns-in-None c = (rw c.at.ensures (place-refused _ _ c.args.t (sym (ap found_of c.in-None.is) ∙ c.choice_of.ensures.0)), later-turns (omega arith) c.requires.going, c.requires.keyed)
 
 pub returns-in-Some : goal.returns-in-Some
 returns-in-Some c =

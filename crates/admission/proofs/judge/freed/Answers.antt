@@ -9,7 +9,8 @@ pub shape_of-w-in-Some : goal.shape_of-w-in-Some
 shape_of-w-in-Some c = c.wrong_release.ensures.kept.long
 
 pub returns-in-Some : goal.returns-in-Some
-returns-in-Some c = freed-wrong _ _ _ _ _ _ _ _ c.wrong_release.ensures _ c.in-Some.is
+returns-in-Some c =
+    rw c.at.ensures (freed-wrong _ _ _ _ _ _ _ _ c.wrong_release.ensures _ c.in-Some.is)
 
 pub shape_of-w-in-None : goal.shape_of-w-in-None
 shape_of-w-in-None c = c.wrong_release.ensures.kept.long

@@ -11,7 +11,8 @@ pub shape_of-w-in-Some : goal.shape_of-w-in-Some
 shape_of-w-in-Some c = c.note_all-met.ensures.kept.long
 
 pub returns-in-Some : goal.returns-in-Some
-returns-in-Some c = rule-once _ _ _ _ _ _ _ c.note_all-met.ensures _ c.not_once.ensures _ c.in-Some.is
+returns-in-Some c =
+    rw c.at.ensures (rule-once _ _ _ _ _ _ _ c.note_all-met.ensures _ c.not_once.ensures _ c.in-Some.is)
 
 pub shape_of-w-in-None : goal.shape_of-w-in-None
 shape_of-w-in-None c = c.messages.ensures.kept.long ∙ c.note_all-met.ensures.kept.long

@@ -12,7 +12,8 @@ pub overflow_mul-values : goal.overflow_mul-values
 overflow_mul-values c = omega (arith, c.read.ensures.fits _ c.in_ok-outline.was)
 
 pub returns-then-out-values : goal.returns-then-out-values
-returns-then-out-values c = values-short c.read.ensures _ _ c.in_ok-outline.was c.if-out-values.true
+returns-then-out-values c =
+    rw c.at.ensures (values-short c.read.ensures _ _ c.in_ok-outline.was c.if-out-values.true)
 
 pub copy-requires : goal.copy-requires
 copy-requires c = values-copyable c.read.ensures _ _ c.in_ok-outline.was c.requires.1 c.if-out-values.false

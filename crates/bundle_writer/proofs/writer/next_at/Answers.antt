@@ -31,10 +31,13 @@ pub returns-in_ok-at-3 : goal.returns-in_ok-at-3
 returns-in_ok-at-3 c = next-open c.requires.0 c.requires.1 c.if-c-eq-OPEN_BYTE.true c.open_fault.result c.open_fault.ensures (went-in _ _ _ _ (sym c.in_ok-at-3.was ∙ c.at-then-c-eq-OPEN_BYTE.ensures))
 
 pub returns-then-c-ne-CLAIM_BYTE : goal.returns-then-c-ne-CLAIM_BYTE
-returns-then-c-ne-CLAIM_BYTE c = only_out (judges-strange c.requires.0 c.requires.1 (sym c.is_message.ensures ∙ c.if-is_message.false) (sym c.is_task.ensures ∙ c.if-is_task.false) c.if-c-eq-OPEN_BYTE.false c.if-c-ne-CLAIM_BYTE.true)
+returns-then-c-ne-CLAIM_BYTE c =
+    rw c.at-then-c-ne-CLAIM_BYTE.ensures (only_out (judges-strange c.requires.0 c.requires.1 (sym c.is_message.ensures ∙ c.if-is_message.false) (sym c.is_task.ensures ∙ c.if-is_task.false) c.if-c-eq-OPEN_BYTE.false c.if-c-ne-CLAIM_BYTE.true))
 
 pub returns-then-is_early : goal.returns-then-is_early
-returns-then-is_early c = only_out (judges-claim-no c.requires.0 c.requires.1 c.if-c-ne-CLAIM_BYTE.false (sym c.is_early.ensures ∙ c.if-is_early.true))
+returns-then-is_early c =
+    rw c.at-then-is_early.ensures (only_out (judges-claim-no c.requires.0 c.requires.1 c.if-c-ne-CLAIM_BYTE.false (sym c.is_early.ensures ∙ c.if-is_early.true)))
 
 pub returns-else-is_early : goal.returns-else-is_early
-returns-else-is_early c = only_out (judges-tail c.requires.0 c.requires.1 c.if-c-ne-CLAIM_BYTE.false (sym c.is_early.ensures ∙ c.if-is_early.false))
+returns-else-is_early c =
+    rw c.at-else-is_early.ensures (only_out (judges-tail c.requires.0 c.requires.1 c.if-c-ne-CLAIM_BYTE.false (sym c.is_early.ensures ∙ c.if-is_early.false)))

@@ -31,11 +31,12 @@ pub returns-then-commands-eq1 : goal.returns-then-commands-eq1
 returns-then-commands-eq1 c =
     let a = c.args in
     let last : length a.commands.now - 1 ≡ 2 * c.loop-k.k = omega (arith, c.loop-k-test.false) in
-    judges-cut c.loop-k.invariant _ (omega (arith, c.loop-k-test.false))
-    (c.cut_number.ensures ∙ ap (λ (i : ℕ). cut_number a.tasks c.loop-k.spot.opened (get_or a.commands.now i 0)) last)
+    rw c.at.ensures (judges-cut c.loop-k.invariant _ (omega (arith, c.loop-k-test.false))
+    (c.cut_fault.ensures ∙ ap (λ (i : ℕ). cut_number a.tasks c.loop-k.spot.opened (get_or a.commands.now i 0)) last))
 
 pub returns-then-is_early : goal.returns-then-is_early
-returns-then-is_early c = judges-bare c.loop-k.invariant (omega (arith, c.loop-k-test.false)) (sym c.is_early.ensures ∙ c.if-is_early.true)
+returns-then-is_early c =
+    rw c.at-then-is_early.ensures (judges-bare c.loop-k.invariant (omega (arith, c.loop-k-test.false)) (sym c.is_early.ensures ∙ c.if-is_early.true))
 
 pub returns-else-is_early : goal.returns-else-is_early
 returns-else-is_early c = judges-long c.loop-k.invariant (omega (arith, c.loop-k-test.false)) (sym c.is_early.ensures ∙ c.if-is_early.false)

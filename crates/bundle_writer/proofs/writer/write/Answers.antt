@@ -5,7 +5,8 @@ use native.Mathlib.Omega.{arith}
 use Rattle.bundle_writer.proofs.writer.write.Goals as goal
 
 pub returns-then-out-need : goal.returns-then-out-need
-returns-then-out-need c = writes_short c.refusal.ensures _ (omega (arith, c.ranges.claim)) _ _ c.in_ok-need.was c.if-out-need.true
+returns-then-out-need c =
+    rw c.at.ensures (writes_short c.refusal.ensures _ (omega (arith, c.ranges.claim)) _ _ c.in_ok-need.was c.if-out-need.true)
 
 pub put-requires : goal.put-requires
 put-requires c = writes-ready c.refusal.ensures _ (omega (arith, c.ranges.claim)) _ _ c.in_ok-need.was c.requires c.if-out-need.false

@@ -4,7 +4,9 @@ use Rattle.drift.proofs.Endings.{put-short, put-done}
 use Rattle.drift.proofs.reports.put_report.Goals as goal
 
 pub returns-then-out-need : goal.returns-then-out-need
-returns-then-out-need c = let a = c.args in put-short a.w.now a.order.now a.slots.now a.steps a.n a.claim a.out.now c.if-out-need.true
+returns-then-out-need c =
+    let a = c.args in
+    rw c.at.ensures (put-short a.w.now a.order.now a.slots.now a.steps a.n a.claim a.out.now c.if-out-need.true)
 
 pub trace-requires : goal.trace-requires
 trace-requires c = c.requires.0

@@ -7,7 +7,7 @@ use Rattle.entry_points.proofs.sheets.generate.Goals as goal
 pub returns-then-are_outside : goal.returns-then-are_outside
 returns-then-are_outside c =
     let a = c.args in
-    generate-refused a.seed a.tasks a.tries a.processors a.limit a.work.now a.out.now (sym c.are_outside.ensures ∙ c.if-are_outside.true)
+    rw c.at.ensures (generate-refused a.seed a.tasks a.tries a.processors a.limit a.work.now a.out.now (sym c.are_outside.ensures ∙ c.if-are_outside.true))
 
 pub fill-requires : goal.fill-requires
 fill-requires c =
@@ -17,7 +17,7 @@ fill-requires c =
 pub returns-then-out-need : goal.returns-then-out-need
 returns-then-out-need c =
     let a = c.args in
-    generate-short a.seed a.tasks a.tries a.processors a.limit a.work.now a.out.now _ (sym c.are_outside.ensures ∙ c.if-are_outside.false) c.fill.ensures c.byte_count-need.ensures c.if-out-need.true
+    rw c.at-then-out-need.ensures (generate-short a.seed a.tasks a.tries a.processors a.limit a.work.now a.out.now _ (sym c.are_outside.ensures ∙ c.if-are_outside.false) c.fill.ensures c.byte_count-need.ensures c.if-out-need.true)
 
 pub returns : goal.returns
 returns c =

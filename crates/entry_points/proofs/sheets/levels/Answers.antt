@@ -13,7 +13,9 @@ pub tasks-n-requires : goal.tasks-n-requires
 tasks-n-requires c = open-loaded c.read.ensures c.in_ok-read.was
 
 pub returns-then-out-n : goal.returns-then-out-n
-returns-then-out-n c = let h = c.read.ensures in part-short levels_of c.args.out.now h c.in_ok-read.was _ (c.tasks-n.ensures.0 ∙ sym (levels-length _)) c.if-out-n.true
+returns-then-out-n c =
+    let h = c.read.ensures in
+    rw c.at.ensures (part-short levels_of c.args.out.now h c.in_ok-read.was _ (c.tasks-n.ensures.0 ∙ sym (levels-length _)) c.if-out-n.true)
 
 pub copy_levels-requires : goal.copy_levels-requires
 copy_levels-requires c =

@@ -11,13 +11,15 @@ pub tasks-n-requires : goal.tasks-n-requires
 tasks-n-requires c = open-loaded c.read.ensures c.in_ok-read.was
 
 pub returns-then-tasks-n : goal.returns-then-tasks-n
-returns-then-tasks-n c = tasks-short c.args.tasks.now c.args.links.now c.args.board.now c.read.ensures c.in_ok-read.was _ (ap (λ (k : ℕ). 2 * k) c.tasks-n.ensures.0) c.if-tasks-n.true
+returns-then-tasks-n c =
+    rw c.at.ensures (tasks-short c.args.tasks.now c.args.links.now c.args.board.now c.read.ensures c.in_ok-read.was _ (ap (λ (k : ℕ). 2 * k) c.tasks-n.ensures.0) c.if-tasks-n.true)
 
 pub links-m-requires : goal.links-m-requires
 links-m-requires c = open-loaded c.read.ensures c.in_ok-read.was
 
 pub returns-then-links-m : goal.returns-then-links-m
-returns-then-links-m c = links-short c.args.tasks.now c.args.links.now c.args.board.now c.read.ensures c.in_ok-read.was _ _ (ap (λ (k : ℕ). 2 * k) c.tasks-n.ensures.0) c.if-tasks-n.false (ap (λ (k : ℕ). 4 * k) c.links-m.ensures.0) c.if-links-m.true
+returns-then-links-m c =
+    rw c.at-then-links-m.ensures (links-short c.args.tasks.now c.args.links.now c.args.board.now c.read.ensures c.in_ok-read.was _ _ (ap (λ (k : ℕ). 2 * k) c.tasks-n.ensures.0) c.if-tasks-n.false (ap (λ (k : ℕ). 4 * k) c.links-m.ensures.0) c.if-links-m.true)
 
 pub tasks-requires : goal.tasks-requires
 tasks-requires c = record { loaded = open-loaded c.read.ensures c.in_ok-read.was; w_in_bounds = omega (arith, c.tasks-n.ensures.0, c.if-tasks-n.false) }

@@ -40,8 +40,8 @@ returns-then-out-need c =
     let ts : (k : ℕ) → get_or tv k 0 < 65536 = λ k. omega (arith, c.shared_slice_known-1.given k) in
     let ls : (k : ℕ) → get_or lv k 0 < 65536 = λ k. omega (arith, c.shared_slice_known-2-1.given k) in
     let v = open-value c.load.ensures c.in_ok-load.was in
-    part-short (λ x. value_bytes a.processors a.limit a.unpacking (cube_of a.cube) tv lv) a.out.now c.load.ensures c.in_ok-load.was _
-    (need-length a.processors a.limit a.unpacking (cube_of a.cube) tv lv _ ts ls (omega (arith, c.ranges.limit)) (omega (arith, c.ranges.unpacking)) v _ c.front-start.ensures.0) c.if-out-need.true
+    rw c.at.ensures (part-short (λ x. value_bytes a.processors a.limit a.unpacking (cube_of a.cube) tv lv) a.out.now c.load.ensures c.in_ok-load.was _
+    (need-length a.processors a.limit a.unpacking (cube_of a.cube) tv lv _ ts ls (omega (arith, c.ranges.limit)) (omega (arith, c.ranges.unpacking)) v _ c.front-start.ensures.0) c.if-out-need.true)
 
 pub put_sheet-requires : goal.put_sheet-requires
 put_sheet-requires c =

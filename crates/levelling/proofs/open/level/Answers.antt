@@ -6,7 +6,8 @@ pub shape_of-w-in-Some : goal.shape_of-w-in-Some
 shape_of-w-in-Some c = c.levels.ensures.kept.long
 
 pub returns-in-Some : goal.returns-in-Some
-returns-in-Some c = open-circle c.args.w.now _ _ c.requires c.levels.ensures _ c.in-Some.is
+returns-in-Some c =
+    rw c.at.ensures (open-circle c.args.w.now _ _ c.requires c.levels.ensures _ c.in-Some.is)
 
 pub shape_of-w-in-None : goal.shape_of-w-in-None
 shape_of-w-in-None c = c.levels.ensures.kept.long

@@ -15,9 +15,9 @@ pub returns-then-v : goal.returns-then-v
 returns-then-v c =
     let told = c.in_ok-read.was in
     let s = shown _ c.read.ensures (λ k. omega (arith, c.type_inv.sheet k)) told in
-    ⊎_elim
+    rw c.at.ensures (⊎_elim
     (λ q. cube-refused _ c.read.ensures _ told s c.of_tables-v.ensures (λ k. omega (arith, c.type_inv.sheet k)) q)
-    (λ l. many-refused _ c.read.ensures _ told s c.of_tables-v.ensures (λ k. omega (arith, c.type_inv.sheet k)) l.1) c.then-v.either
+    (λ l. many-refused _ c.read.ensures _ told s c.of_tables-v.ensures (λ k. omega (arith, c.type_inv.sheet k)) l.1) c.then-v.either)
 
 pub search-requires : goal.search-requires
 search-requires c =

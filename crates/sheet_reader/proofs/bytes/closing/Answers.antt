@@ -5,7 +5,7 @@ use Rattle.sheet_reader.proofs.bytes.closing.Goals as goal
 
 pub returns-then-past-bytes : goal.returns-then-past-bytes
 unfolding closed_of
-returns-then-past-bytes c = simp (lt-ltb _ _ c.if-past-bytes.true)
+returns-then-past-bytes c = simp (c.at.ensures, lt-ltb _ _ c.if-past-bytes.true)
 
 pub returns : goal.returns
 unfolding closed_of

@@ -5,7 +5,7 @@ use Rattle.sheet_reader.proofs.values.closing.Goals as goal
 
 pub returns-then-links-ne0 : goal.returns-then-links-ne0
 unfolding values_closed
-returns-then-links-ne0 c = simp (ne_eqb _ _ c.if-links-ne0.true)
+returns-then-links-ne0 c = simp (c.at.ensures, ne_eqb _ _ c.if-links-ne0.true)
 
 pub returns : goal.returns
 unfolding values_closed

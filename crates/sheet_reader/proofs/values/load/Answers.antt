@@ -13,10 +13,10 @@ pub returns-then-processors-lt1 : goal.returns-then-processors-lt1
 returns-then-processors-lt1 c =
     let a = c.args in
     let refused = board-refused a.processors a.limit a.unpacking (cube_of a.cube) a.tasks.now a.links.now a.w.now in
-    elim c.then-processors-lt1.branch [
+    rw c.at.ensures (elim c.then-processors-lt1.branch [
       | then-processors-lt1-via-then-processors-lt1 w ↦ refused (inl w.if-processors-lt1.true)
       | then-processors-lt1-via-else-processors-lt1+then-processors-gt16 w ↦ refused (inr w.if-processors-gt16.true)
-    ]
+    ])
 
 pub load_board-requires : goal.load_board-requires
 load_board-requires c = (c.requires, c.if-processors-gt16.false)

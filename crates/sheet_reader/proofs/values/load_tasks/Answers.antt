@@ -63,7 +63,7 @@ returns-then-tasks-ne0 c =
     let a = c.args in
     let v = a.tasks.now in
     let here : c.loop-i.i ≡ length v / 2 = omega (arith, c.loop-i-test.false) in
-    tasks-cut v a.links.now (scan-at (a.start + task_size * (length v / 2)) c.loop-i.invariant.2 (omega arith)) here c.if-tasks-ne0.true
+    rw c.at-then-tasks-ne0.ensures (tasks-cut v a.links.now (scan-at (a.start + task_size * (length v / 2)) c.loop-i.invariant.2 (omega arith)) here c.if-tasks-ne0.true)
 
 pub load_links-requires : goal.load_links-requires
 load_links-requires c =

@@ -20,7 +20,8 @@ pub shape_of-w-in-Some : goal.shape_of-w-in-Some
 shape_of-w-in-Some c = c.load.ensures.long ∙ c.judge.ensures.long
 
 pub returns-in-Some : goal.returns-in-Some
-returns-in-Some c = admit-over _ _ _ _ _ _ c.judge.ensures _ c.in_ok-outline.was (λ i. omega (arith, c.shared_slice_known-2-1.given i)) c.requires.1 _ _ c.load.ensures _ c.in-Some.is
+returns-in-Some c =
+    rw c.at.ensures (admit-over _ _ _ _ _ _ c.judge.ensures _ c.in_ok-outline.was (λ i. omega (arith, c.shared_slice_known-2-1.given i)) c.requires.1 _ _ c.load.ensures _ c.in-Some.is)
 
 pub shape_of-w-in-None : goal.shape_of-w-in-None
 shape_of-w-in-None c = c.load.ensures.long ∙ c.judge.ensures.long
