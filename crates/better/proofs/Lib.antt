@@ -1,5 +1,6 @@
 -- The laws of `better`.
 pub mod Bridges
+pub mod Fronts
 pub mod Chains
 pub mod Running
 pub mod Ranking

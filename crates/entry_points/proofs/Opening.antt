@@ -5,18 +5,16 @@ use Rattle.refusals.specs.declared.Refusal.{Refusal}
 use Prim.Native.Nat.{ℕ, ◌+◌, ◌*◌, ◌/◌, ◌%◌, ◌<◌, ◌≤◌}
 use mathlib.Core.Path.{◌≡◌, refl, sym, ap, ap₂, ◌∙◌}
 use mathlib.Core.Bool.{Bool, true, false}
-use mathlib.Core.List.{List, [], ◌∷◌, ◌++◌}
+use mathlib.Core.List.{List, [], ◌∷◌}
 use native.Mathlib.Omega.{arith}
-use native.Mathlib.Nat.{zero-add}
 use borrow.Author.Tests.{lt-ltb, le-ltb}
-use lib.ListN.{length, get_or, take, drop, length-take, length-drop}
-use lib.Seq.{ext_get_or}
+use lib.ListN.{length, get_or, set}
 use mir.Val.{bool_byte}
-use Rattle.std.proofs.lemmas.List.{get_or-drop, get_or-take}
 use Rattle.folds.specs.Folds.{listed, pick}
 use Rattle.folds.specs.Answers.{Answer, value, refused, and_then, fitting, written}
-use Rattle.folds.proofs.Lists.{length-listed, get_or-listed}
+use Rattle.folds.proofs.Lists.{length-listed}
 use Rattle.numbers.specs.Number.{stored}
+use Rattle.numbers.proofs.Laws.{stored_one}
 use Rattle.numbers.proofs.Puts.{kept, front, fits_not, fits-well}
 use Rattle.sheet.specs.Sheet.{Sheet, task_count, link_count}
 use Rattle.workspace.specs.Area.{limit_at, link_count_at, processors_at, task_count_at, unpacking_at}
@@ -24,6 +22,7 @@ use Rattle.sheet.specs.Sizes.{task_size, link_size, front_by}
 use Rattle.sheet.specs.Tables.{sheet_in, Loaded}
 use Rattle.sheet.specs.Writing.{task_values, link_values, sheet_of_values, value_bytes, Narrow}
 use Rattle.sheet.proofs.Rows.{ranged, tasks-in, links-in}
+use Rattle.sheet_writer.proofs.Stores.{all-next, all_none}
 use Rattle.sheet_reader.proofs.Backs.{values-tasks, values-links, values-again, values-narrow, written-length}
 use Rattle.graph.specs.Graph.{level, read_sheet}
 use Rattle.levelling.specs.Opened.{OpenIs}
@@ -71,20 +70,6 @@ module _ (g : Sheet → List ℕ) (out : List ℕ) {a : Answer Sheet} {work mid 
 pub levels-length : (s : Sheet) → length (levels_of s) ≡ task_count s
 unfolding levels_of
 levels-length s = length-listed (task_count s) (level s)
-
-pub levels-read : (s : Sheet) (w v : List ℕ) (at n : ℕ) → n ≡ task_count s → at + n ≤ length w → ((t : ℕ) → t < n → get_or w (at + t) 0 ≡ level s t) → v ≡ take n (drop at w) → v ≡ levels_of s
-unfolding levels_of
-levels-read s w v at n en few same e =
-    e ∙ ext_get_or 0 (take n (drop at w)) (listed (task_count s) (level s))
-    (omega (arith, length-take {A = ℕ}, length-drop {A = ℕ}, length-listed (task_count s) (level s)))
-    (λ i l.
-    let k : i < n = omega (arith, length-take {A = ℕ}, length-drop {A = ℕ}, l) in
-    get_or-take n (drop at w) i 0 k ∙ get_or-drop at w i 0 ∙ same i k ∙ sym (get_or-listed (task_count s) (level s) i 0 (omega arith)))
-
--- put at the front of the output
-pub levels-put : (b v u : List ℕ) (n : ℕ) → v ≡ u → n ≡ length u → v ++ drop n b ≡ stored b 0 u
-unfolding stored
-levels-put b v u n e h = ap₂ (λ (x : List ℕ) (k : ℕ). x ++ drop k b) e (h ∙ sym (zero-add (length u)))
 
 -- the written sheet: values that are read are whole, and their links narrow
 module _ (p l u : ℕ) (c : Bool) (tv lv : List ℕ) (s : Sheet) (ts : (k : ℕ) → get_or tv k 0 < 65536) (ls : (k : ℕ) → get_or lv k 0 < 65536) (small : l < 4294967296) (time : u < 65536) (e : read_sheet (value_bytes p l u c tv lv) ≡ value s) where
@@ -152,6 +137,15 @@ module _ (t l b : List ℕ) {a : Answer Sheet} {work mid : List ℕ} {o : Result
           board = c ∙ sym (ap (board_after b) v);
           long = h.long;
         }
+
+-- one level more
+pub level-next : (f : ℕ → ℕ) (b m : List ℕ) (t x : ℕ) → m ≡ stored b 0 (listed t f) → t < length m → x ≡ f t → set m t x ≡ stored b 0 (listed (t + 1) f)
+level-next f b m t x p h e =
+    all-next 1 (λ y. y ∷ []) (λ ys. ys) refl (λ ys y. refl) (λ y. refl) f b m (set m t x) t t p
+    (stored_one m t x h ∙ ap (λ (y : ℕ). stored m t (y ∷ [])) e) (omega arith)
+
+pub level-none : (f : ℕ → ℕ) (b : List ℕ) → b ≡ stored b 0 (listed 0 f)
+level-none f b = all_none 1 (λ y. y ∷ []) (λ ys. ys) refl (λ ys y. refl) (λ y. refl) f b
 
 -- 1 for a cube
 pub cube-bit : (b : Bool) → bool_byte b ≡ pick b 1 0

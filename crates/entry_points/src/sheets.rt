@@ -27,7 +27,9 @@ fn copy_levels(w: &[u32], out: &mut [u32])
     ensures { out.new ≡ stored out.old 0 (levels_of (sheet_in w.now)) }
 {
     let n = tables::tasks(w);
-    out[..n].copy_from_slice(&w[LEVELS..LEVELS + n]);
+    for t in 0..n {
+        out[t] = w[LEVELS + t];
+    }
 }
 
 // The levels of a sheet.

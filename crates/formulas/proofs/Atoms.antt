@@ -1,19 +1,18 @@
 -- The reader of an atom: a number or a letter, or a sum in parentheses.
 use Prim.Native.Nat.{ℕ, suc, ◌+◌, ◌-◌, ◌≤◌, ◌<◌}
 use native.Mathlib.Omega.{arith}
-use mathlib.Core.Path.{◌≡◌, refl, sym, ap, ◌∙◌}
+use mathlib.Core.Path.{◌≡◌, refl, ap, ◌∙◌}
 use mathlib.Core.Bool.{Bool, true, false}
 use mathlib.Core.List.{List, ◌∷◌}
 use lib.ListN.{length, get_or, drop}
 use native.Mathlib.Decide.{dec_lt}
 use x.{}
-use Rattle.std.specs.Prelude.{Ok, Err, Some, Option as Maybe}
+use Rattle.std.specs.Prelude.{Ok, Err}
 use Rattle.folds.specs.Folds.{pick}
 use Rattle.formulas.specs.Grammar.{Sum, letter, group, Kind, opens, shuts, kind_of, closer, first_letter, is_digit, is_letter, opener}
 use Rattle.formulas.specs.Scanning.{Spot, bare, want, have, step_by, stops, scan}
 use Rattle.formulas.specs.Parts.{spot_of, last_of, Outsides, AtomAt, SumAt, stands_at, part, closed_by, AtomIs}
-use Rattle.formulas.specs.Values.{greatest_value}
-use borrow.Author.Tests.{le-leb}
+use Rattle.formulas.specs.Values.{capped}
 use Rattle.formulas.specs.declared.operands.Part.{Part}
 use Rattle.formulas.proofs.Scans.{sum-again}
 use Rattle.formulas.proofs.Steps.{step-at, stop-at, end-at, no-atom, no_end}
@@ -35,11 +34,11 @@ atom-full b at n e q =
     let h = stands-true b at opener e in
     record { inside = omega (arith, h.0); stop = λ k s. stop-at b at (want n k s) h.0 (rw (h.1, q)) }
 
-pub atom-letter : (b ls : List ℕ) (at n v : ℕ) → v ≤ greatest_value → at < length b → is_digit (get_or b at 0) ≡ false → is_letter (get_or b at 0) ≡ true →
-    v ≡ get_or ls (get_or b at 0 - first_letter) 0 → AtomAt b ls at n (Some v) (at + 1)
-atom-letter b ls at n v l h x y e = record {
+pub atom-letter : (b ls : List ℕ) (at n v : ℕ) → at < length b → is_digit (get_or b at 0) ≡ false → is_letter (get_or b at 0) ≡ true →
+    v ≡ get_or ls (get_or b at 0 - first_letter) 0 → AtomAt b ls at n v (at + 1)
+atom-letter b ls at n v h x y e = record {
   atom = letter (get_or b at 0);
-  its = sym (rw (← e) (simp (le-leb v greatest_value l)));
+  its = ap capped e;
   later = omega arith;
   inside = omega arith;
   scans = λ k s. step-at b at (want n k s) (have n k s (letter (get_or b at 0))) h (ap (λ (d : Kind). step_by (want n k s) d (get_or b at 0)) (is-small (get_or b at 0) x y));
@@ -57,7 +56,7 @@ module _ (b ls : List ℕ) (at n m : ℕ) (open_at : stands_at b at opener ≡ t
   unfolding kind_of
   closes e k s x h c = step-at b e (have m (s ∷ k) (spot_of x) (last_of x)) (have n k s (group x)) h (rw (c, room, sum-again x))
 
-  group-read : (v : Maybe ℕ) (e : ℕ) → SumAt b ls (at + 1) m v e → stands_at b e closer ≡ true → AtomAt b ls at n v (e + 1)
+  group-read : (v e : ℕ) → SumAt b ls (at + 1) m v e → stands_at b e closer ≡ true → AtomAt b ls at n v (e + 1)
   group-read v e g c =
       let h = stands-true b e closer c in
       record {
@@ -70,7 +69,7 @@ module _ (b ls : List ℕ) (at n m : ℕ) (open_at : stands_at b at opener ≡ t
       }
 
   -- no `)` stands behind it: another byte does, or the text ends
-  unclosed : (v : Maybe ℕ) (e : ℕ) (g : SumAt b ls (at + 1) m v e) → stands_at b e closer ≡ false → (k : List Spot) (s : Spot) →
+  unclosed : (v e : ℕ) (g : SumAt b ls (at + 1) m v e) → stands_at b e closer ≡ false → (k : List Spot) (s : Spot) →
       scan (have m (s ∷ k) (spot_of g.sum) (last_of g.sum)) (drop e b) ≡ stops (drop e b)
   unclosed v e g c k s = go (dec_lt e (length b))
     where

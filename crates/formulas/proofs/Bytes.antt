@@ -66,6 +66,9 @@ not-kind d c h q = h (subst (λ (x : Kind). Match x c) q (matches c))
 pub digit-range : (c : ℕ) → is_digit c ≡ true → (first_digit ≤ c) × (c ≤ last_digit)
 digit-range c e = range first_digit last_digit c e
 
+pub letter-range : (c : ℕ) → is_letter c ≡ true → (first_letter ≤ c) × (c ≤ last_letter)
+letter-range c e = range first_letter last_letter c e
+
 -- the byte c stands at i, or it does not
 module _ (b : List ℕ) (i c : ℕ) where
   pub stands-true : stands_at b i c ≡ true → (i < length b) × (get_or b i 0 ≡ c)

@@ -11,8 +11,7 @@ use borrow.Author.Tests.{le-ltb}
 use Rattle.formulas.specs.Grammar.{number, Digits, first_digit, most_digits}
 use Rattle.formulas.specs.Scanning.{want, scan}
 use Rattle.formulas.specs.Parts.{NumberIs, part, digit_at}
-use Rattle.formulas.specs.Values.{capped, value_of, decimal}
-use Rattle.std.specs.Prelude.{Option as Maybe}
+use Rattle.formulas.specs.Values.{capped, decimal}
 use Rattle.formulas.proofs.Limits.{decimal-more, ten-more, ten-most}
 use Rattle.formulas.proofs.Scans.{first-scans}
 use Rattle.formulas.proofs.Sounds.{digits_more}
@@ -70,13 +69,12 @@ begun b from at l e f = go (ℕ_discrete from at)
     go (no d) = omega arith
     go (yes q) = absurd (true-not-false (sym e ∙ ap (digit_at b from) q ∙ f))
 
-pub number_read : {b : List ℕ} {from at v : ℕ} (o : Maybe ℕ) → Counting b from at v → value_of o ≡ capped v → digit_at b from from ≡ true → digit_at b from at ≡ false →
-    NumberIs b from (part o at)
-number_read {b} {from} {at} {v} o i q e f ls n =
+pub number_read : {b : List ℕ} {from at v : ℕ} → Counting b from at v → digit_at b from from ≡ true → digit_at b from at ≡ false → NumberIs b from (part v at)
+number_read {b} {from} {at} {v} i e f ls n =
     let h = begun b from at i.later e f in
     record {
       atom = number i.done;
-      its = q ∙ ap capped i.its;
+      its = ap capped i.its;
       later = h;
       inside = i.inside;
       scans = λ k s. ap (scan (want n k s)) i.split ∙ first-scans i.done n k s (drop at b) (omega (arith, i.long)) i.digits (omega (arith, i.long, i.few));

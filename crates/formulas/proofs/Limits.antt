@@ -1,76 +1,73 @@
 -- Numbers up to a limit.
-use Prim.Native.Nat.{ℕ, ◌+◌, ◌*◌, ◌-◌, ◌^◌, ◌≤◌, ◌<◌}
+use Prim.Native.Nat.{ℕ, zero, suc, ◌+◌, ◌*◌, ◌-◌, ◌^◌, ◌≤◌, ◌<◌}
 use native.Mathlib.Omega.{arith}
-use native.Mathlib.Nat.{one-mul, zero-add, pow-suc, pow-le-pow_right}
-use mathlib.Core.Path.{◌≡◌, refl, ◌∙◌}
+use native.Mathlib.Nat.{mul-le-mul, one-mul, zero-add, pow-suc, pow-le-pow_right}
+use mathlib.Core.Path.{◌≡◌, refl, ap, ◌∙◌}
 use mathlib.Core.Bool.{Bool, true, false}
 use mathlib.Core.Option.{Option, none, some}
 use mathlib.Core.List.{List, [], ◌∷◌, ◌++◌}
-use lib.ListN.{get_or}
+use lib.ListN.{length, get_or}
 use lib.Dec.{leb}
 use native.Mathlib.Numerals.{add-one}
-use borrow.Author.Tests.{leb-true, le-leb}
+use borrow.Author.Tests.{leb-true}
 use x.{}
-use Rattle.folds.specs.Folds.{pick}
-use Rattle.formulas.specs.Grammar.{Sum, term, plus, Product, factor, times, Atom, number, letter, group, first_digit, first_letter, most_digits}
-use Rattle.std.specs.Prelude.{Option as Maybe, Some}
+use Rattle.folds.specs.Folds.{pick, both}
+use Rattle.folds.proofs.Tests.{both-parts}
+use Rattle.formulas.specs.Grammar.{Sum, Product, Atom, first_digit, most_digits}
 use Rattle.formulas.specs.Scanning.{times_to, plus_to}
-use Rattle.formulas.specs.Values.{capped, capped_by, value_of, decimal, sum_value, product_value, atom_value, greatest_value}
+use Rattle.formulas.specs.Values.{capped, capped_by, decimal, sum_value, product_value, atom_value, greatest_value}
+use Rattle.formulas.proofs.Bytes.{true-not-false}
 
--- what is a value is not too large
-abbrev Small : Option ℕ → Type 0
-Small none = Unit {0}
-Small (some v) = v ≤ greatest_value
+-- two values, or not
+module _ (f : ℕ → ℕ → ℕ) (a b : ℕ) where
+  pub of_values : both (leb a greatest_value) (leb b greatest_value) ≡ true → capped (f a b) ≡ capped_by f (capped a) (capped b)
+  of_values h = let m = both-parts (leb a greatest_value) (leb b greatest_value) h in rw (m.0, m.1)
 
-capped-small : (n : ℕ) → Small (capped n)
-capped-small n = go (leb n greatest_value) refl
-  where
-    go : (t : Bool) → leb n greatest_value ≡ t → Small (pick t (some n) none)
-    go true q = leb-true n greatest_value q
-    go false q = tt
+  pub of_none : both (leb a greatest_value) (leb b greatest_value) ≡ false → none ≡ capped_by f (capped a) (capped b)
+  of_none h = go (leb a greatest_value) (leb b greatest_value) h
+    where
+      go : (t u : Bool) → both t u ≡ false → none ≡ capped_by f (pick t (some a) none) (pick u (some b) none)
+      go true true q = absurd (true-not-false q)
+      go true false q = refl
+      go false u q = refl
 
-by-small : (f : ℕ → ℕ → ℕ) (a b : Option ℕ) → Small (capped_by f a b)
-by-small f none b = tt
-by-small f (some a) none = tt
-by-small f (some a) (some b) = capped-small (f a b)
+pub values-are : (a b : ℕ) → both (leb a greatest_value) (leb b greatest_value) ≡ true → (a ≤ greatest_value) × (b ≤ greatest_value)
+values-are a b h = let m = both-parts (leb a greatest_value) (leb b greatest_value) h in (leb-true a greatest_value m.0, leb-true b greatest_value m.1)
 
-mutual
-  sum-small : (s : Sum) (ls : List ℕ) → Small (sum_value s ls)
-  sum-small (term p) ls = product-small p ls
-  sum-small (plus s p) ls = by-small ◌+◌ (sum_value s ls) (product_value p ls)
+pub product-fits : (a b : ℕ) → a ≤ greatest_value → b ≤ greatest_value → a * b < 2 ^ 64
+product-fits a b ha hb = omega (arith, mul-le-mul ha hb)
 
-  product-small : (p : Product) (ls : List ℕ) → Small (product_value p ls)
-  product-small (factor a) ls = atom-small a ls
-  product-small (times p a) ls = by-small ◌*◌ (product_value p ls) (atom_value a ls)
-
-  atom-small : (a : Atom) (ls : List ℕ) → Small (atom_value a ls)
-  atom-small (number ds) ls = capped-small (decimal 0 ds)
-  atom-small (letter c) ls = capped-small (get_or ls (c - first_letter) 0)
-  atom-small (group s) ls = sum-small s ls
+pub get_d_past : (l : List ℕ) (i : ℕ) → length l ≤ i → get_or l i 0 ≡ 0
+get_d_past [] zero h = refl
+get_d_past [] (suc i) h = refl
+get_d_past (x ∷ l) zero h = absurd (omega arith)
+get_d_past (x ∷ l) (suc i) h = get_d_past l i (omega arith)
 
 -- the value of what stands before a product: of nothing, 0; before a factor, 1
-abbrev pub Before : Option Sum → List ℕ → Maybe ℕ → Type 0
-Before none ls v = v ≡ Some 0
-Before (some s) ls v = value_of v ≡ sum_value s ls
+abbrev pub Before : Option Sum → List ℕ → ℕ → Type 0
+Before none ls v = v ≡ 0
+Before (some s) ls v = capped v ≡ sum_value s ls
 
-abbrev pub Factors : Option Product → List ℕ → Maybe ℕ → Type 0
-Factors none ls v = v ≡ Some 1
-Factors (some p) ls v = value_of v ≡ product_value p ls
+abbrev pub Factors : Option Product → List ℕ → ℕ → Type 0
+Factors none ls v = v ≡ 1
+Factors (some p) ls v = capped v ≡ product_value p ls
 
-from-unit : (f : ℕ → ℕ → ℕ) (u : ℕ) (o : Option ℕ) → Small o → ((x : ℕ) → f u x ≡ x) → capped_by f (some u) o ≡ o
-from-unit f u none h id = refl
-from-unit f u (some v) h id = rw (id v, le-leb v greatest_value h)
+from-unit : (f : ℕ → ℕ → ℕ) (u w : ℕ) → capped u ≡ some u → ((x : ℕ) → f u x ≡ x) → capped_by f (capped u) (capped w) ≡ capped w
+from-unit f u w e id = rw e (go (leb w greatest_value) refl)
+  where
+    go : (t : Bool) → leb w greatest_value ≡ t → capped_by f (some u) (pick t (some w) none) ≡ pick t (some w) none
+    go true q = rw (id w, q)
+    go false q = refl
 
-module _ (ls : List ℕ) (v w r : Maybe ℕ) where
-  pub plus-value : (o : Option Sum) (p : Product) → Before o ls v → value_of w ≡ product_value p ls → value_of r ≡ capped_by ◌+◌ (value_of v) (value_of w) →
-      value_of r ≡ sum_value (plus_to o p) ls
-  plus-value none p h e q = q ∙ rw (h, e) (from-unit ◌+◌ 0 (product_value p ls) (product-small p ls) zero-add)
-  plus-value (some s) p h e q = q ∙ rw (h, e)
+pub plus-value : (o : Option Sum) (p : Product) (ls : List ℕ) (v w r : ℕ) → Before o ls v → capped w ≡ product_value p ls → capped r ≡ capped_by ◌+◌ (capped v) (capped w) →
+    capped r ≡ sum_value (plus_to o p) ls
+plus-value none p ls v w r h e q = q ∙ ap (λ (x : ℕ). capped_by ◌+◌ (capped x) (capped w)) h ∙ from-unit ◌+◌ 0 w refl zero-add ∙ e
+plus-value (some s) p ls v w r h e q = q ∙ rw (h, e)
 
-  pub times-value : (o : Option Product) (a : Atom) → Factors o ls v → value_of w ≡ atom_value a ls → value_of r ≡ capped_by ◌*◌ (value_of v) (value_of w) →
-      value_of r ≡ product_value (times_to o a) ls
-  times-value none a h e q = q ∙ rw (h, e) (from-unit ◌*◌ 1 (atom_value a ls) (atom-small a ls) one-mul)
-  times-value (some p) a h e q = q ∙ rw (h, e)
+pub times-value : (o : Option Product) (a : Atom) (ls : List ℕ) (v w r : ℕ) → Factors o ls v → capped w ≡ atom_value a ls → capped r ≡ capped_by ◌*◌ (capped v) (capped w) →
+    capped r ≡ product_value (times_to o a) ls
+times-value none a ls v w r h e q = q ∙ ap (λ (x : ℕ). capped_by ◌*◌ (capped x) (capped w)) h ∙ from-unit ◌*◌ 1 w refl one-mul ∙ e
+times-value (some s) a ls v w r h e q = q ∙ rw (h, e)
 
 -- one digit more
 pub decimal-more : (ds : List ℕ) (n c : ℕ) → decimal n (ds ++ (c ∷ [])) ≡ 10 * decimal n ds + (c - first_digit)

@@ -3,13 +3,15 @@ use Prim.Native.Nat.{ℕ, ◌-◌, ◌≤◌, ◌<◌}
 use native.Mathlib.Omega.{arith}
 use mathlib.Core.Path.{◌≡◌, refl, sym, ap, subst, ◌∙◌}
 use mathlib.Core.Bool.{Bool, true, false}
-use mathlib.Core.Option.{Option, none}
+use mathlib.Core.Option.{Option, none, some}
 use mathlib.Core.List.{List, []}
 use lib.ListN.{length, get_or, drop, length-drop, drop_of_length-le}
-use lib.Dec.{eqb}
+use lib.Dec.{leb, eqb}
+use borrow.Author.Tests.{le-leb, leb-true}
 use x.{}
 use Rattle.folds.specs.Folds.{pick, both}
 use Rattle.folds.specs.Answers.{value, refused}
+use Rattle.folds.proofs.Tests.{both-parts}
 use Rattle.formulas.specs.Grammar.{Atom, Kind, digit, small, adds, multiplies, opens, shuts, other, kind_of, most_open, within}
 use Rattle.formulas.specs.Scanning.{Spot, bare, have, longer, having, step_by, Outcome, reads, stops, scan, read_text}
 use Rattle.formulas.specs.Weights.{as_weight, judged, weight_of}
@@ -17,8 +19,8 @@ use Rattle.formulas.specs.Parts.{spot_of, last_of, Outsides, SumAt, SumIs, answe
 use Rattle.formulas.specs.declared.operands.Part.{Part}
 use Rattle.refusals.specs.declared.Refusal.{Refusal}
 use Rattle.refusals.specs.Refusals.{refusal}
-use Rattle.std.specs.Prelude.{Result, Ok, Err, MatchResult, is_ok, Some, None, Option as Maybe}
-use Rattle.formulas.specs.Values.{value_of}
+use Rattle.std.specs.Prelude.{Result, Ok, Err, MatchResult, is_ok}
+use Rattle.formulas.specs.Values.{capped, greatest_value}
 use Rattle.formulas.specs.Meaning.{greatest_weight, letter_count}
 use Rattle.formulas.proofs.Scans.{scan-end, sum-again}
 use Rattle.formulas.proofs.Steps.{stop-at}
@@ -52,14 +54,14 @@ no-tail n s a c opens w x y = refl
 no-tail n s a c shuts w x y = refl
 no-tail n s a c other w x y = refl
 
-pub weigh-tail : (b ls : List ℕ) (v : Maybe ℕ) (e : ℕ) → SumAt b ls 0 most_open v e → e < length b → refused 35 e ≡ weight_of b ls
+pub weigh-tail : (b ls : List ℕ) (v e : ℕ) → SumAt b ls 0 most_open v e → e < length b → refused 35 e ≡ weight_of b ls
 weigh-tail b ls v e g h =
     stopped-at b ls e g.inside
     (g.scans [] ∙ stop-at b e (have most_open [] (spot_of g.sum) (last_of g.sum)) h
     (no-tail most_open (spot_of g.sum) (last_of g.sum) (get_or b e 0) (kind_of (get_or b e 0)) (g.full h) (g.no_factor h) (g.no_term h)))
 
-weighed : (b ls : List ℕ) (v : Maybe ℕ) (e : ℕ) → SumAt b ls 0 most_open v e → length b ≤ e →
-    weight_of b ls ≡ pick (eqb (length ls) letter_count) (as_weight (value_of v)) (refused 36 0)
+weighed : (b ls : List ℕ) (v e : ℕ) → SumAt b ls 0 most_open v e → length b ≤ e →
+    weight_of b ls ≡ pick (eqb (length ls) letter_count) (as_weight (capped v)) (refused 36 0)
 unfolding weight_of
 weighed b ls v e g h =
     let r : read_text b ≡ reads g.sum =
@@ -68,21 +70,25 @@ weighed b ls v e g h =
     ap (λ (o : Outcome). judged o (length b) ls) r ∙ ap (λ (o : Option ℕ). pick (eqb (length ls) letter_count) (as_weight o) (refused 36 0)) (sym g.its)
 
 -- a value that the list and the range allow, and one that they do not
-by-tests : (v : ℕ) (t u : Bool) → pick t (pick u (value v) (refused 36 0)) (refused 36 0) ≡ pick (both t u) (value v) (refused 36 0)
-by-tests v true u = refl
-by-tests v false u = refl
+allowed : (l v : ℕ) (t u : Bool) → eqb l letter_count ≡ t → within 1 greatest_weight v ≡ u → both t u ≡ true → pick t (as_weight (capped v)) (refused 36 0) ≡ value v
+allowed l v true true e f h =
+    let m = both-parts (leb 1 v) (leb v greatest_weight) f in
+    rw (le-leb v greatest_value (omega (arith, leb-true v greatest_weight m.1)), f)
+allowed l v true false e f h = absurd (true-not-false (sym h))
+allowed l v false u e f h = absurd (true-not-false (sym h))
 
-no-value : (t : Bool) → pick t (as_weight none) (refused 36 0) ≡ refused 36 0
-no-value true = refl
-no-value false = refl
+not-allowed : (l v : ℕ) (t u : Bool) → eqb l letter_count ≡ t → within 1 greatest_weight v ≡ u → both t u ≡ false → pick t (as_weight (capped v)) (refused 36 0) ≡ refused 36 0
+not-allowed l v true true e f h = absurd (true-not-false h)
+not-allowed l v false u e f h = refl
+not-allowed l v true false e f h = go (leb v greatest_value)
+  where
+    go : (c : Bool) → as_weight (pick c (some v) none) ≡ refused 36 0
+    go false = refl
+    go true = rw f
 
-module _ (b ls : List ℕ) (w : Maybe ℕ) (e : ℕ) (g : SumAt b ls 0 most_open w e) (whole : length b ≤ e) where
-  pub weigh-none : w ≡ None → refused 36 0 ≡ weight_of b ls
-  weigh-none q = sym (weighed b ls w e g whole ∙ rw q (no-value (eqb (length ls) letter_count)))
+module _ (b ls : List ℕ) (v e : ℕ) (g : SumAt b ls 0 most_open v e) (whole : length b ≤ e) where
+  pub weigh-of : both (eqb (length ls) letter_count) (within 1 greatest_weight v) ≡ true → value v ≡ weight_of b ls
+  weigh-of h = sym (weighed b ls v e g whole ∙ allowed (length ls) v (eqb (length ls) letter_count) (within 1 greatest_weight v) refl refl h)
 
-  module _ (v : ℕ) (q : w ≡ Some v) where
-    pub weigh-of : both (eqb (length ls) letter_count) (within 1 greatest_weight v) ≡ true → value v ≡ weight_of b ls
-    weigh-of h = sym (weighed b ls w e g whole ∙ rw q (by-tests v (eqb (length ls) letter_count) (within 1 greatest_weight v) ∙ rw h))
-
-    pub weigh-no : both (eqb (length ls) letter_count) (within 1 greatest_weight v) ≡ false → refused 36 0 ≡ weight_of b ls
-    weigh-no h = sym (weighed b ls w e g whole ∙ rw q (by-tests v (eqb (length ls) letter_count) (within 1 greatest_weight v) ∙ rw h))
+  pub weigh-no : both (eqb (length ls) letter_count) (within 1 greatest_weight v) ≡ false → refused 36 0 ≡ weight_of b ls
+  weigh-no h = sym (weighed b ls v e g whole ∙ not-allowed (length ls) v (eqb (length ls) letter_count) (within 1 greatest_weight v) refl refl h)

@@ -1,11 +1,11 @@
 -- What the readers of a sum, a product and an atom give: the formula that stands there, its value, and where it ends; or the place at which reading stops.
-use Rattle.std.specs.Prelude.{ℕ, ◌+◌, ◌-◌, ◌≤◌, ◌<◌, Bool, ◌≡◌, List, length, drop, get_or, ltb, eqb, Result, Ok, Err, Option as Maybe}
+use Rattle.std.specs.Prelude.{ℕ, ◌+◌, ◌-◌, ◌≤◌, ◌<◌, Bool, ◌≡◌, List, length, drop, get_or, ltb, eqb, Result, Ok, Err}
 use Rattle.std.proofs.Math.Option.{Option, none, some}
 use Rattle.folds.specs.Folds.{pick, both}
 use Rattle.folds.specs.Answers.{Answer, value, refused}
 use Rattle.formulas.specs.Grammar.{Sum, term, plus, Product, factor, times, Atom, Kind, digit, adds, multiplies, kind_of, is_digit, most_digits, closer}
 use Rattle.formulas.specs.Scanning.{Spot, bare, want, have, longer, stops, scan}
-use Rattle.formulas.specs.Values.{value_of, sum_value, product_value, atom_value}
+use Rattle.formulas.specs.Values.{capped, sum_value, product_value, atom_value}
 use Rattle.formulas.specs.declared.operands.Part.{Part}
 use Rattle.refusals.specs.declared.Refusal.{Refusal}
 
@@ -18,7 +18,7 @@ abbrev pub digit_at : List ℕ → ℕ → ℕ → Bool
 digit_at b from i = both (ltb i (length b)) (both (ltb (i - from) most_digits) (is_digit (get_or b i 0)))
 
 -- a part of the value v that ends at e
-abbrev pub part : Maybe ℕ → ℕ → Part
+abbrev pub part : ℕ → ℕ → Part
 part v e = record { value = v; end = e }
 
 -- a sum in parentheses, by what was read behind the `(`
@@ -58,17 +58,17 @@ pub record Outsides (b : List ℕ) (at n q : ℕ) (S : Type 0) (spot : S → Spo
   pub inside : q ≤ length b
   pub stop : (k : List Spot) (s : S) → scan (want n k (spot s)) (drop at b) ≡ stops (drop q b)
 
-pub record AtomAt (b ls : List ℕ) (at n : ℕ) (v : Maybe ℕ) (e : ℕ) : Type 0 where
+pub record AtomAt (b ls : List ℕ) (at n v e : ℕ) : Type 0 where
   pub atom : Atom
-  pub its : value_of v ≡ atom_value atom ls
+  pub its : capped v ≡ atom_value atom ls
   pub later : at < e
   pub inside : e ≤ length b
   pub scans : (k : List Spot) (s : Spot) → scan (want n k s) (drop at b) ≡ scan (have n k s atom) (drop e b)
   pub full : Full atom b e
 
-pub record ProductAt (b ls : List ℕ) (at n : ℕ) (v : Maybe ℕ) (e : ℕ) : Type 0 where
+pub record ProductAt (b ls : List ℕ) (at n v e : ℕ) : Type 0 where
   pub product : Product
-  pub its : value_of v ≡ product_value product ls
+  pub its : capped v ≡ product_value product ls
   pub later : at < e
   pub inside : e ≤ length b
   pub scans : (k : List Spot) (o : Option Sum) →
@@ -76,9 +76,9 @@ pub record ProductAt (b ls : List ℕ) (at n : ℕ) (v : Maybe ℕ) (e : ℕ) : 
   pub full : Full (last_in product) b e
   pub no_factor : NotNext multiplies b e
 
-pub record SumAt (b ls : List ℕ) (at n : ℕ) (v : Maybe ℕ) (e : ℕ) : Type 0 where
+pub record SumAt (b ls : List ℕ) (at n v e : ℕ) : Type 0 where
   pub sum : Sum
-  pub its : value_of v ≡ sum_value sum ls
+  pub its : capped v ≡ sum_value sum ls
   pub later : at < e
   pub inside : e ≤ length b
   pub scans : (k : List Spot) → scan (want n k bare) (drop at b) ≡ scan (have n k (spot_of sum) (last_of sum)) (drop e b)

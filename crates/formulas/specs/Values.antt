@@ -1,6 +1,5 @@
 -- The value of a formula with the letters' values, by the rules of the grammar alone.
 use Rattle.std.specs.Prelude.{ℕ, ◌+◌, ◌*◌, ◌-◌, List, [], ◌∷◌, get_or, leb}
-use Rattle.std.specs.Prelude.{Option as Maybe, Some, None}
 use Rattle.std.proofs.Math.Option.{Option, none, some}
 use Rattle.folds.specs.Folds.{pick}
 use Rattle.formulas.specs.Grammar.{Sum, term, plus, Product, factor, times, Atom, number, letter, group, first_digit, first_letter}
@@ -16,11 +15,6 @@ abbrev pub capped_by : (ℕ → ℕ → ℕ) → Option ℕ → Option ℕ → O
 capped_by f none b = none
 capped_by f (some a) none = none
 capped_by f (some a) (some b) = capped (f a b)
-
--- a value as code keeps it: none is one that is too large
-abbrev pub value_of : Maybe ℕ → Option ℕ
-value_of (Some v) = some v
-value_of None = none
 
 -- the decimal number with the digits ds behind those of n
 unfoldable pub decimal : ℕ → List ℕ → ℕ

@@ -22,7 +22,7 @@ const MOST_OPEN: usize = 32;
 // `letter_count` and `greatest_weight` of specs/Meaning.
 const LETTERS: usize = 26;
 
-const HEAVIEST: u32 = 65535;
+const HEAVIEST: u64 = 65535;
 
 // A number, a letter, or a sum in parentheses, of which `room` more may be opened.
 #[cycle(atom_product_sum)]
@@ -45,7 +45,7 @@ fn atom(text: &[u8], letters: &[u32], at: usize, room: usize) -> Result<Part, us
 fn product(text: &[u8], letters: &[u32], from: usize, room: usize) -> Result<Part, usize>
     ensures { ProductIs text.now letters.now from room result }
 {
-    let mut value = Some(1);
+    let mut value: u64 = 1;
     let mut at = from;
     loop {
         let part = atom(text, letters, at, room)?;
@@ -62,7 +62,7 @@ fn product(text: &[u8], letters: &[u32], from: usize, room: usize) -> Result<Par
 fn sum(text: &[u8], letters: &[u32], from: usize, room: usize) -> Result<Part, usize>
     ensures { SumIs text.now letters.now from room result }
 {
-    let mut value = Some(0);
+    let mut value: u64 = 0;
     let mut at = from;
     loop {
         let part = product(text, letters, at, room)?;
@@ -75,7 +75,7 @@ fn sum(text: &[u8], letters: &[u32], from: usize, room: usize) -> Result<Part, u
 }
 
 // Each letter has its value, and v may be a weight.
-fn is_weight(letters: usize, v: u32) -> bool
+fn is_weight(letters: usize, v: u64) -> bool
     ensures { result ≡ both (eqb letters letter_count) (within 1 greatest_weight v) }
 {
     letters == LETTERS && 1 <= v && v <= HEAVIEST
@@ -96,8 +96,9 @@ pub fn weigh(text: &[u8], letters: &[u32]) -> Result<u64, Refusal>
     if whole.end < text.len() {
         return Err(outside(whole.end));
     }
-    match whole.value {
-        Some(v) if is_weight(letters.len(), v) => Ok(u64::from(v)),
-        _ => Err(Fault::WrongValue.at(0)),
+    if is_weight(letters.len(), whole.value) {
+        Ok(whole.value)
+    } else {
+        Err(Fault::WrongValue.at(0))
     }
 }

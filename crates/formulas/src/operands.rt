@@ -3,17 +3,14 @@ ghost use Rattle.std.specs.Prelude.{true, false, ◌≡◌, ℕ, ◌-◌, ◌≤
 ghost use Rattle.formulas.specs.Grammar.{is_digit, is_letter, first_letter, opener};
 ghost use Rattle.formulas.specs.Parts.{stands_at, digit_at, closed_by, SimpleIs, NumberIs};
 
-use crate::values::limited;
-
 // `most_digits` of specs/Grammar.
 const MOST_DIGITS: usize = 10;
 
-// A part of the text: the offset behind it, and its value, unless that is too large (values.rt). A reader gives the part that stands at a place, or the offset at which
-// reading stops. In this order of the fields the compiled reader is shorter, and faster.
+// A part of the text: the offset behind it, and its value (values.rt says which). A reader gives the part that stands at a place, or the offset at which reading stops.
 #[derive(Clone, Copy)]
 pub struct Part {
     pub end: usize,
-    pub value: Option<u32>,
+    pub value: u64,
 }
 
 fn is_digit(c: u8) -> bool
@@ -62,10 +59,7 @@ fn number(text: &[u8], from: usize) -> Part
         value = value * 10 + u64::from(text[at] - b'0');
         at += 1;
     }
-    Part {
-        value: limited(value),
-        end: at,
-    }
+    Part { end: at, value }
 }
 
 // A number or a letter.
@@ -79,8 +73,8 @@ pub fn simple(text: &[u8], letters: &[u32], at: usize) -> Result<Part, usize>
         Ok(number(text, at))
     } else if is_letter(text[at]) {
         Ok(Part {
-            value: Some(letter_value(letters, text[at])),
             end: at + 1,
+            value: u64::from(letter_value(letters, text[at])),
         })
     } else {
         Err(at)

@@ -1,21 +1,27 @@
-// Values up to 4,294,967,295, which are those of a `u32`: none stands for one that is too large, and for whatever is made of it.
-ghost use Rattle.std.specs.Prelude.{◌≡◌, ◌+◌, ◌*◌};
-ghost use Rattle.formulas.specs.Values.{capped, capped_by, value_of};
+// Values up to 4,294,967,295. Any number above it stands for a value that is too large, and so does whatever is made of one.
+ghost use Rattle.std.specs.Prelude.{◌≡◌, ◌+◌, ◌*◌, leb};
+ghost use Rattle.folds.specs.Folds.{both};
+ghost use Rattle.formulas.specs.Values.{greatest_value, capped, capped_by};
 
-pub fn added(a: Option<u32>, b: Option<u32>) -> Option<u32>
-    ensures { value_of result ≡ capped_by ◌+◌ (value_of a) (value_of b) }
+// `greatest_value` of specs/Values, and one more.
+const GREATEST: u64 = 4294967295;
+
+const TOO_LARGE: u64 = 4294967296;
+
+fn are_values(a: u64, b: u64) -> bool
+    ensures { result ≡ both (leb a greatest_value) (leb b greatest_value) }
 {
-    a?.checked_add(b?)
+    a <= GREATEST && b <= GREATEST
 }
 
-pub fn multiplied(a: Option<u32>, b: Option<u32>) -> Option<u32>
-    ensures { value_of result ≡ capped_by ◌*◌ (value_of a) (value_of b) }
+pub fn added(a: u64, b: u64) -> u64
+    ensures { capped result ≡ capped_by ◌+◌ (capped a) (capped b) }
 {
-    a?.checked_mul(b?)
+    if are_values(a, b) { a + b } else { TOO_LARGE }
 }
 
-pub fn limited(n: u64) -> Option<u32>
-    ensures { value_of result ≡ capped n }
+pub fn multiplied(a: u64, b: u64) -> u64
+    ensures { capped result ≡ capped_by ◌*◌ (capped a) (capped b) }
 {
-    u32::try_from(n).ok()
+    if are_values(a, b) { a * b } else { TOO_LARGE }
 }

@@ -154,7 +154,7 @@ fn next_at(bytes: &[u8], at: usize, w: &[u32], tasks: usize, links: usize) -> Re
     if bytes.len() <= at {
         return Err(Fault::CutSheet);
     }
-    match bytes[at] {
+    match reader::get8(bytes, at) as u8 {
         TASK_BYTE => {
             task_at(bytes, at, w, tasks, links)?;
             Ok(Next::Task)
@@ -199,7 +199,7 @@ fn opening(bytes: &[u8]) -> Result<(), Fault>
     if bytes.len() == 0 {
         return Err(Fault::CutSheet);
     }
-    match bytes[0] {
+    match reader::get8(bytes, 0) as u8 {
         BOARD_BYTE => board_at(bytes),
         TASK_BYTE => Err(Fault::SheetOutOfTurn),
         LINK_BYTE => Err(Fault::SheetOutOfTurn),
@@ -258,7 +258,7 @@ fn is_unpacking(bytes: &[u8], at: usize, w: &[u32]) -> bool
     if bytes.len() <= at {
         return false;
     }
-    if bytes[at] != UNPACKING_BYTE {
+    if reader::get8(bytes, at) as u8 != UNPACKING_BYTE {
         return false;
     }
     unpacking_at(bytes, at, w, 0, 0).is_ok()
@@ -273,7 +273,7 @@ fn is_cube(bytes: &[u8], at: usize, w: &[u32]) -> bool
     if bytes.len() <= at {
         return false;
     }
-    if bytes[at] != CUBE_BYTE {
+    if reader::get8(bytes, at) as u8 != CUBE_BYTE {
         return false;
     }
     cube_at(bytes, at, w, 0, 0).is_ok()
@@ -288,7 +288,7 @@ fn is_task(bytes: &[u8], at: usize, w: &[u32], tasks: usize) -> bool
     if bytes.len() <= at {
         return false;
     }
-    if bytes[at] != TASK_BYTE {
+    if reader::get8(bytes, at) as u8 != TASK_BYTE {
         return false;
     }
     task_at(bytes, at, w, tasks, 0).is_ok()
@@ -303,7 +303,7 @@ fn is_link(bytes: &[u8], at: usize, w: &[u32], tasks: usize, links: usize) -> bo
     if bytes.len() <= at {
         return false;
     }
-    if bytes[at] != LINK_BYTE {
+    if reader::get8(bytes, at) as u8 != LINK_BYTE {
         return false;
     }
     link_at(bytes, at, w, tasks, links).is_ok()
@@ -399,6 +399,6 @@ pub fn read(bytes: &[u8], w: &mut [u32]) -> Result<(), Refusal>
     ensures { ReadIs (read_form bytes.now) w.old w.new result }
 {
     refusals::at(opening(bytes), 0)?;
-    tables::put_board(w, bytes[1], reader::get32(bytes, 2));
+    tables::put_board(w, reader::get8(bytes, 1) as u8, reader::get32(bytes, 2));
     walk(bytes, w)
 }

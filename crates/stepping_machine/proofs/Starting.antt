@@ -3,14 +3,14 @@ use Prim.Native.Nat.{ℕ, ◌+◌, ◌-◌, ◌≤◌, ◌<◌}
 use mathlib.Core.Path.{◌≡◌, refl, sym, ap, ◌∙◌, subst}
 use mathlib.Core.Option.{Option}
 use mathlib.Core.List.{List}
-use mathlib.Core.Logic.{inl, ⊎_elim}
+use mathlib.Core.Logic.{inl, inr, ⊎_elim}
 use native.Mathlib.Omega.{arith}
-use borrow.Author.Rules.{rules}
-use lib.ListN.{length, get_or, take, drop}
-use borrow.Rule.Slice.PartMut.{mid_of, put_mid}
-use Rattle.std.proofs.lemmas.List.{places}
+use native.Mathlib.Numerals.{add-one}
+use lib.ListN.{length, get_or, set, length-set}
+use lib.Seq.{get_or-set_same, get_or-set_other}
+use borrow.Rule.Slice.PartMut.{mid_of}
 use Rattle.folds.specs.Answers.{Answer, value, refused, unless, and_then}
-use Rattle.folds.proofs.Tests.{and_then-value, not-value}
+use Rattle.folds.proofs.Tests.{below_suc, and_then-value, not-value}
 use Rattle.numbers.specs.Number.{Bytes}
 use Rattle.workspace.specs.Area.{fixed}
 use Rattle.workspace.specs.Found.{found_of}
@@ -147,13 +147,19 @@ module _ (sheet bundle w u : List ℕ) (v : View) (f : Result Outline Refusal) (
           one z = cc
 
 -- words copied, one by one
--- the words from a up to e, copied at once
-pub copied : (from w part : List ℕ) (a e : ℕ) → a ≤ e → e ≤ length from → e ≤ length w → part ≡ take (e - a) (drop a from) → CopyIs from w (put_mid a (e - a) w part) a e
-copied from w part a e l f h q =
+pub copy-starts : (from w : List ℕ) (a : ℕ) → CopyIs from w w a a
+copy-starts from w a = record { long = refl; same = λ i k l. absurd (omega arith); other = λ i h. refl }
+
+pub copy_more : (from w u x : List ℕ) (a i : ℕ) → a ≤ i → i < length w → CopyIs from w u a i → x ≡ set u i (get_or from i 0) → CopyIs from w x a (i + 1)
+copy_more from w u x a i start below g e =
+    let else : (j : ℕ) → (j ≡ i → ⊥) → get_or x j 0 ≡ get_or u j 0 = λ j d. ap (λ (z : List ℕ). get_or z j 0) e ∙ get_or-set_other u i j _ 0 d in
     record {
-      long = search (rules, places);
-      same = λ i g k. search (rules, places);
-      other = λ i o. search (rules, places);
+      long = ap length e ∙ length-set u i _ ∙ g.long;
+      same =
+          λ j k l.
+          ⊎_elim (λ (h : j < i). else j (λ q. omega arith) ∙ g.same j k h)
+          (λ (q : j ≡ i). rw q (ap (λ (z : List ℕ). get_or z i 0) e ∙ get_or-set_same u i _ 0 (omega (arith, g.long)))) (below_suc (rw add-one at l));
+      other = λ j h. ⊎_elim (λ (q : j < a). else j (λ z. omega arith) ∙ g.other j (inl q)) (λ (q : i + 1 ≤ j). else j (λ z. omega arith) ∙ g.other j (inr (omega arith))) h;
     }
 
 -- the three parts of the words

@@ -30,7 +30,9 @@ fn copy(from: &[u32], w: &mut [u32], a: usize, e: usize)
     requires { (a ≤ e) × (e ≤ length from.now) × (e ≤ length w.old) }
     ensures { CopyIs from.now w.old w.new a e }
 {
-    w[a..e].copy_from_slice(&from[a..e]);
+    for i in a..e {
+        w[i] = from[i];
+    }
 }
 
 // The words of a machine with l links, n tasks and c commands and ends.

@@ -75,16 +75,20 @@ fn receive(w: &mut [u32], k: usize, amount: usize, i: usize) -> bool
     true
 }
 
-// One command of processor k, by its word: the kinds are told by jumps. The word that it works with is among the first 2,144, and so is there.
+// One command of processor k, by its word: the kinds are told by jumps. The end stands before the match, which would else be a jump by a table, that
+// cannot be foretold. The word that a command works with is among the first 2,144, and so is there.
 fn command(w: &mut [u32], k: usize) -> bool
     requires { (k < 16) × (extent ≤ length w.old) }
     ensures { ChoiceIs w.old w.new k result }
 {
     let x = workspace::total::word(w, workspace::word(w, k));
+    let kind = x / KINDS;
+    if kind == 0 {
+        return false;
+    }
     let amount = x % NUMBERS;
     let i = STAMPS + x / NUMBERS % SPAN;
-    match x / KINDS {
-        0 => false,
+    match kind {
         1 => {
             run(w, k, amount, i);
             true

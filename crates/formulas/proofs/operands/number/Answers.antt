@@ -39,4 +39,4 @@ pub loop-value-preserved : goal.loop-value-preserved
 loop-value-preserved c = rw c.from.ensures (counting_more c.loop-value.invariant (sym c.digit_at.ensures ∙ c.loop-value-test.true))
 
 pub returns : goal.returns
-returns c = number_read _ c.loop-value.invariant c.limited.ensures c.requires (sym c.digit_at.ensures ∙ c.loop-value-test.false)
+returns c = number_read c.loop-value.invariant c.requires (sym c.digit_at.ensures ∙ c.loop-value-test.false)

@@ -1,6 +1,5 @@
 -- `simple` (src/operands.rt) keeps its contract.
 use mathlib.Core.Path.{sym, ◌∙◌}
-use native.Mathlib.Omega.{arith}
 use Rattle.formulas.proofs.Bytes.{digit-first}
 use Rattle.formulas.proofs.Atoms.{atom-out, atom-letter, atom-dead}
 use Rattle.formulas.proofs.operands.simple.Goals as goal
@@ -20,7 +19,7 @@ letter_value-requires c = sym c.is_letter.ensures ∙ c.if-is_letter.true
 pub returns-then-is_letter : goal.returns-then-is_letter
 returns-then-is_letter c =
     let inside = c.if-text-at.false in
-    λ n. atom-letter _ _ _ n _ (omega arith) inside (sym c.is_digit.ensures ∙ c.if-is_digit.false) (sym c.is_letter.ensures ∙ c.if-is_letter.true) c.letter_value.ensures
+    λ n. atom-letter _ _ _ n _ inside (sym c.is_digit.ensures ∙ c.if-is_digit.false) (sym c.is_letter.ensures ∙ c.if-is_letter.true) (c.from.ensures ∙ c.letter_value.ensures)
 
 pub returns-else-is_letter : goal.returns-else-is_letter
 returns-else-is_letter c =

@@ -13,10 +13,10 @@ use Rattle.sheet_reader.proofs.bytes.is_cube.Goals as goal
 pub returns-then-bytes-at : goal.returns-then-bytes-at
 returns-then-bytes-at c = sym (ap is_cube (judge-end sheet_format (begun (sheet_in c.args.w.now)) c.args.bytes.now c.args.at (omega arith)))
 
-pub returns-then-bytes-at-ne-CUBE_BYTE : goal.returns-then-bytes-at-ne-CUBE_BYTE
-returns-then-bytes-at-ne-CUBE_BYTE c = sym (other_byte is_cube (begun (sheet_in c.args.w.now)) c.args.bytes.now c.args.at refl wire cube-comes c.if-bytes-at-ne-CUBE_BYTE.true)
+pub returns-then-get8-ne-CUBE_BYTE : goal.returns-then-get8-ne-CUBE_BYTE
+returns-then-get8-ne-CUBE_BYTE c = sym (other_byte is_cube (begun (sheet_in c.args.w.now)) c.args.bytes.now c.args.at refl wire cube-comes (λ q. c.if-get8-ne-CUBE_BYTE.true (c.get8.ensures.0 ∙ q)))
 
 pub returns : goal.returns
 returns c =
     c.is_ok.ensures.value
-    ∙ its-byte is_cube (begun (sheet_in c.args.w.now)) c.args.bytes.now c.args.at wire (elim [ Ok x ↦ refl | Err n ↦ refl ]) refl c.if-bytes-at.false c.if-bytes-at-ne-CUBE_BYTE.false c.cube_at.result c.cube_at.ensures
+    ∙ its-byte is_cube (begun (sheet_in c.args.w.now)) c.args.bytes.now c.args.at wire (elim [ Ok x ↦ refl | Err n ↦ refl ]) refl c.if-bytes-at.false (sym c.get8.ensures.0 ∙ c.if-get8-ne-CUBE_BYTE.false) c.cube_at.result c.cube_at.ensures

@@ -2,7 +2,7 @@
 use Rattle.refusals.proofs.Results.{found-by}
 use Rattle.sheet_reader.proofs.Scans.{open-go, open-refuse, open-room, read_through, walk-starts}
 use Rattle.std.proofs.lemmas.Result.{err_from_is_err_and}
-use mathlib.Core.Path.{◌∙◌, refl, sym}
+use mathlib.Core.Path.{◌∙◌, sym}
 use native.Mathlib.Omega.{arith}
 use Rattle.sheet_reader.proofs.bytes.read.Goals as goal
 
@@ -11,8 +11,8 @@ returns-in_err-at c =
     let p = err_from_is_err_and c.from_residual.result c.from_residual.ensures.1 in
     rw (p.1, p.2) (open-refuse c.args.bytes.now _ _ _ c.opening.ensures (sym c.in_err-at.was ∙ c.at.ensures))
 
-pub bounds-bytes-1 : goal.bounds-bytes-1
-bounds-bytes-1 c =
+pub get8-requires : goal.get8-requires
+get8-requires c =
     let r = open-room c.args.bytes.now (open-go c.args.bytes.now _ _ c.opening.ensures (found-by 0 _ _ (sym c.in_ok-at.was ∙ c.at.ensures))) in
     omega (arith, r.0)
 
@@ -24,12 +24,12 @@ get32-requires c =
 pub put_board-requires : goal.put_board-requires
 put_board-requires c =
     let r = open-room c.args.bytes.now (open-go c.args.bytes.now _ _ c.opening.ensures (found-by 0 _ _ (sym c.in_ok-at.was ∙ c.at.ensures))) in
-    (c.requires, omega (arith, r.1))
+    (c.requires, omega (arith, r.1, c.get8.ensures.0))
 
 pub walk-requires : goal.walk-requires
 walk-requires c =
     let b = c.args.bytes.now in
-    walk-starts b _ _ _ (open-go b _ _ c.opening.ensures (found-by 0 _ _ (sym c.in_ok-at.was ∙ c.at.ensures))) refl c.get32.ensures _ c.put_board.ensures
+    walk-starts b _ _ _ (open-go b _ _ c.opening.ensures (found-by 0 _ _ (sym c.in_ok-at.was ∙ c.at.ensures))) c.get8.ensures.0 c.get32.ensures _ c.put_board.ensures
 
 pub returns : goal.returns
 returns c = read_through c.walk.ensures c.put_board.ensures.long

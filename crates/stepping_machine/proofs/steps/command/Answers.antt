@@ -4,8 +4,8 @@ use Rattle.stepping_machine.specs.Words.{gave_words}
 use Rattle.stepping_machine.proofs.Chosen.{gave, got, ran, sent, stopped}
 use Rattle.stepping_machine.proofs.steps.command.Goals as goal
 
-pub returns-in-0 : goal.returns-in-0
-returns-in-0 c = stopped _ _ c.requires.0 _ c.word.ensures.0 _ c.word-x.ensures.0 c.in-0.is
+pub returns-then-kind-eq0 : goal.returns-then-kind-eq0
+returns-then-kind-eq0 c = stopped _ _ c.requires.0 _ c.word.ensures.0 _ c.word-x.ensures.0 c.if-kind-eq0.true
 
 pub returns-in-1 : goal.returns-in-1
 returns-in-1 c = ran _ _ c.requires.0 _ c.word.ensures.0 _ c.word-x.ensures.0 _ c.in-1.is c.run.ensures
@@ -18,4 +18,4 @@ returns-in-3 c = got _ _ c.requires.0 _ c.word.ensures.0 _ c.word-x.ensures.0 _ 
 
 pub returns-in_default : goal.returns-in_default
 unfolding gave_words
-returns-in_default c = gave _ _ c.requires.0 _ c.word.ensures.0 _ c.word-x.ensures.0 _ (omega arith) c.go_on.ensures
+returns-in_default c = gave _ _ c.requires.0 _ c.word.ensures.0 _ c.word-x.ensures.0 _ (omega (arith, c.if-kind-eq0.false)) c.go_on.ensures
