@@ -16,7 +16,7 @@ fn is_late(best: Option<Best>, work: usize) -> bool
     best.is_some_and(|b| b.claim < work)
 }
 
-// All that `left` more tasks can make of b: nothing, where its last programme takes too long already.
+// All that `left` more tasks can make of b.
 #[cycle(branch_joining_opening_walk)]
 pub fn walk(
     sheet: &[u8],
@@ -31,9 +31,6 @@ pub fn walk(
     requires { Ready sheet.now w.old buf.old other.old v × Begins sheet.now v b × (b.tasks + left ≡ v.tasks) × Right v best }
     ensures { FoldIs sheet.now v (λ s. looked_from s left (begun b)) best result }
 {
-    if is_late(best, b.work) {
-        return best;
-    }
     if left == 0 {
         return consider(sheet, w, buf, other, v, b.code, b.programmes, best);
     }
@@ -84,10 +81,12 @@ fn opening(
     ensures { FoldIs sheet.now v (λ s. opened_from s left (begun b) t) best result }
 {
     let a = opened(sheet, v, b, t);
-    if may_open(sheet, v, b, t, a) {
-        walk(sheet, w, buf, other, v, left, a, best)
-    } else {
+    if !may_open(sheet, v, b, t, a) {
         best
+    } else if is_late(best, a.work) {
+        best
+    } else {
+        walk(sheet, w, buf, other, v, left, a, best)
     }
 }
 
@@ -111,9 +110,11 @@ fn joining(
         return best;
     }
     let a = joined(sheet, v, b, t);
-    if may_join(sheet, v, b, t, a) {
-        walk(sheet, w, buf, other, v, left, a, best)
-    } else {
+    if !may_join(sheet, v, b, t, a) {
         best
+    } else if is_late(best, a.work) {
+        best
+    } else {
+        walk(sheet, w, buf, other, v, left, a, best)
     }
 }

@@ -38,8 +38,14 @@ joining-joined-a-requires t c =
 pub joining-may_join-requires : goal.joining-may_join-requires
 joining-may_join-requires t c = let p = c.requires in (p.0.small, p.1, c.joined-a.ensures, p.3, omega (arith, c.if-b-eq0.false))
 
-pub joining-returns-else-may_join : goal.joining-returns-else-may_join
-joining-returns-else-may_join t c = joining-skip _ _ _ _ _ _ c.requires.1 c.requires.4 c.may_join.ensures c.if-may_join.false
+pub joining-returns-then-not-may_join : goal.joining-returns-then-not-may_join
+joining-returns-then-not-may_join t c = joining-skip _ _ _ _ _ _ c.requires.1 c.requires.4 c.may_join.ensures c.if-not-may_join.true
+
+pub joining-returns-then-is_late : goal.joining-returns-then-is_late
+joining-returns-then-is_late t c =
+    let p = c.requires in
+    let j = c.joined-a.ensures in
+    joining-done _ _ _ _ _ _ p.1 _ _ (omega (arith, p.3, p.0.small.tasks)) c.may_join.ensures c.if-not-may_join.false j (late-done _ _ _ _ _ p.4 j.begins c.is_late.ensures c.if-is_late.true)
 
 pub joining-walk-requires : goal.joining-walk-requires
 joining-walk-requires t c =
@@ -47,10 +53,10 @@ joining-walk-requires t c =
     let j = c.joined-a.ensures in
     (omega (arith, c.decreases), (p.0, j.begins, omega (arith, j.more, p.2), p.4))
 
-pub joining-returns-then-may_join : goal.joining-returns-then-may_join
-joining-returns-then-may_join t c =
+pub joining-returns-else-is_late : goal.joining-returns-else-is_late
+joining-returns-else-is_late t c =
     let p = c.requires in
-    joining-done _ _ _ _ _ _ p.1 _ _ (omega (arith, p.3, p.0.small.tasks)) c.may_join.ensures c.if-may_join.true c.joined-a.ensures c.walk.ensures
+    joining-done _ _ _ _ _ _ p.1 _ _ (omega (arith, p.3, p.0.small.tasks)) c.may_join.ensures c.if-not-may_join.false c.joined-a.ensures c.walk.ensures
 
 pub opening-opened-a-requires : goal.opening-opened-a-requires
 opening-opened-a-requires t c = let p = c.requires in (p.0.seen, p.0.small, p.1, omega (arith, p.2, p.0.small.tasks), p.3)
@@ -58,8 +64,14 @@ opening-opened-a-requires t c = let p = c.requires in (p.0.seen, p.0.small, p.1,
 pub opening-may_open-requires : goal.opening-may_open-requires
 opening-may_open-requires t c = let p = c.requires in (p.0.small, p.1, c.opened-a.ensures, p.3)
 
-pub opening-returns-else-may_open : goal.opening-returns-else-may_open
-opening-returns-else-may_open t c = opening-skip _ _ _ _ _ _ c.requires.1 c.requires.4 c.may_open.ensures c.if-may_open.false
+pub opening-returns-then-not-may_open : goal.opening-returns-then-not-may_open
+opening-returns-then-not-may_open t c = opening-skip _ _ _ _ _ _ c.requires.1 c.requires.4 c.may_open.ensures c.if-not-may_open.true
+
+pub opening-returns-then-is_late : goal.opening-returns-then-is_late
+opening-returns-then-is_late t c =
+    let p = c.requires in
+    let j = c.opened-a.ensures in
+    opening-done _ _ _ _ _ _ p.1 _ _ (omega (arith, p.3, p.0.small.tasks)) c.may_open.ensures c.if-not-may_open.false j (late-done _ _ _ _ _ p.4 j.begins c.is_late.ensures c.if-is_late.true)
 
 pub opening-walk-requires : goal.opening-walk-requires
 opening-walk-requires t c =
@@ -67,13 +79,10 @@ opening-walk-requires t c =
     let j = c.opened-a.ensures in
     (omega (arith, c.decreases), (p.0, j.begins, omega (arith, j.more, p.2), p.4))
 
-pub opening-returns-then-may_open : goal.opening-returns-then-may_open
-opening-returns-then-may_open t c =
+pub opening-returns-else-is_late : goal.opening-returns-else-is_late
+opening-returns-else-is_late t c =
     let p = c.requires in
-    opening-done _ _ _ _ _ _ p.1 _ _ (omega (arith, p.3, p.0.small.tasks)) c.may_open.ensures c.if-may_open.true c.opened-a.ensures c.walk.ensures
-
-pub walk-returns-then-is_late : goal.walk-returns-then-is_late
-walk-returns-then-is_late t c = late-done _ _ c.args.b _ _ c.requires.3 c.requires.1 c.is_late.ensures c.if-is_late.true
+    opening-done _ _ _ _ _ _ p.1 _ _ (omega (arith, p.3, p.0.small.tasks)) c.may_open.ensures c.if-not-may_open.false c.opened-a.ensures c.walk.ensures
 
 pub walk-consider-requires : goal.walk-consider-requires
 walk-consider-requires t c =
